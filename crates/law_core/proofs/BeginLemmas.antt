@@ -2,7 +2,7 @@
 use Rattle.std.proofs.Common.{◌≡◌, ◌≤◌, ◌<◌, ℕ, zero, suc, ◌+◌, ◌-◌, false, List, [], ◌∷◌, ◌++◌, length, map, refl, sym, ◌∙◌, ap, subst, inl, inr, arith, append-nil}
 use Rattle.std.specs.Prelude.{flat_map, slice_index_or}
 use Rattle.std.proofs.lemmas.List.{length-map}
-use Rattle.std.proofs.lemmas.List.Elements.{All-weaker}
+use Rattle.std.proofs.lemmas.List.Elements.{All-nil, All-map, All-weaker}
 use Rattle.plan_core.proofs.ListFacts.{all_mapped}
 use Rattle.plan_core.specs.Drawing.{Drawing}
 use Rattle.plan_core.specs.Lawful.{Instance, NodeOnGrid, Lawful}
@@ -41,6 +41,7 @@ use Rattle.law_core.specs.Law.{instance_of}
 use Rattle.law_core.specs.Choices.{choices_size, selectors}
 use Rattle.law_core.specs.Known.{laws_of, formula_of, task_of, HasFormula, AreSelecting, IsReady, KnowsWhy}
 use Rattle.law_core.proofs.FormulaLemmas.{all_laws}
+use Rattle.law_core.specs.Query.{IsAboutLaws}
 use Rattle.law_core.specs.Why.{IsRightWhy, IsWhyCause, IsWhyLog, IsWhyLeft, FormulaPasses, formula_lines, HasLawPlaces, IsWhyOf}
 
 -- ---- the selecting variables
@@ -114,6 +115,7 @@ begun_knows y budget room laws f old new l0 l1 n0 n1 has blank_is t goes =
       learnt_are = omega (arith, l, z, none_learnt);
       spent = omega (arith, l, z);
       fits = subst (λ n. n ≤ room) belongs.words full;
+      asked = All-map (IsAboutLaws (task_of y budget room)) Formula cs (λ k d lt. tt);
     }
 
 -- ---- the answer
@@ -191,6 +193,7 @@ why_log y budget room k o w lines h tells is = record {
   begins = ([], sym h.told_are ∙ sym (append-nil (clause_lines lines)));
   fits = h.fits;
   within = subst (λ n. n ≤ budget) h.learnt_are h.spent;
+  asked = h.asked;
   cause = why_cause y budget room o w lines h.told_are tells is;
 }
 
@@ -226,6 +229,7 @@ nothing_told y budget room n log passes = (
     begins = (formula_lines y, refl);
     fits = omega arith;
     within = omega arith;
+    asked = All-nil (IsAboutLaws (task_of y budget room));
     cause = inl (refl, passes);
   },
 )

@@ -1,9 +1,11 @@
 -- What a question leaves of the solver and of the log.
 use Rattle.std.proofs.Common.{◌≡◌, ◌≤◌, ◌<◌, ℕ, ◌+◌, ◌-◌, ◌^◌, List, [], ◌++◌, length, sym, ◌∙◌, ap, subst, arith, append-nil}
-use Rattle.std.specs.Prelude.{flat_map}
+use Rattle.std.specs.Prelude.{flat_map, All, map}
+use Rattle.std.proofs.lemmas.List.Elements.{All-nil, All-cons, All-append, All-map}
 use Rattle.outside_io.specs.Counts.{rose_by}
 use Rattle.cnf_core.specs.Lit.{Literal}
 use Rattle.cnf_core.specs.Clause.{Clauses}
+use Rattle.refute_log.specs.declared.line.LogLine.TheVariants.{Learnt, Query, Refuted as RefutedLine, Model as ModelLine}
 use Rattle.refute_log.specs.Told.{Lines}
 use Rattle.refute_log.specs.Log.{learnt, Open, clause_lines}
 use Rattle.refute_log.specs.Steps.{GoesOn, Leaves}
@@ -22,7 +24,7 @@ use Rattle.search_why.specs.declared.oracle.Reply.TheVariants.{Found, Refuted, S
 use Rattle.search_why.specs.Task.{Task}
 use Rattle.search_why.specs.Asked.{TellsReply}
 use Rattle.law_core.specs.Known.{formula_of, task_of, IsReady, KnowsWhy, TellsAnswer}
-use Rattle.law_core.specs.Query.{IsReplyOf}
+use Rattle.law_core.specs.Query.{SelectsLaws, IsAboutLaws, IsReplyOf}
 
 -- ---- the lines
 
@@ -54,10 +56,22 @@ answered p old new Spent assume cs lines ending learnt_are spent is_room given b
 answered p old new Room assume cs lines ending learnt_are spent is_room given belongs ends has true_answer =
     subst (NextClausePasses (lines ++ search_lines assume cs ending)) is_room (has_no_room (lines ++ search_lines assume cs ending) new belongs true_answer)
 
-pub search_goes : (y : Layout) (selecting : List ℕ) (budget room : ℕ) (old new : Kept) (a : Answer) (assume : List Literal) (before now : Lines → Type 0) (n m : ℕ) → budget < 2 ^ 32 → IsReady y selecting budget room old →
+ending_asks_nothing : (p : Task) (a : Answer) (assume : List Literal) (ending : Lines) → EndsWith a assume ending → All (IsAboutLaws p) ending
+ending_asks_nothing p Model assume ending e = subst (All (IsAboutLaws p)) (sym e) (All-cons (IsAboutLaws p) ModelLine [] tt (All-nil (IsAboutLaws p)))
+ending_asks_nothing p RefutedAnswer assume ending e = subst (All (IsAboutLaws p)) (sym e.is) (All-cons (IsAboutLaws p) (RefutedLine e.clause) [] tt (All-nil (IsAboutLaws p)))
+ending_asks_nothing p Spent assume ending e = subst (All (IsAboutLaws p)) (sym e) (All-nil (IsAboutLaws p))
+ending_asks_nothing p Room assume ending e = subst (All (IsAboutLaws p)) (sym e) (All-nil (IsAboutLaws p))
+
+asks_about_laws : (p : Task) (a : Answer) (assume : List Literal) (cs : Clauses) (lines ending : Lines) → SelectsLaws p assume → EndsWith a assume ending → All (IsAboutLaws p) lines → All (IsAboutLaws p) (lines ++ search_lines assume cs ending)
+asks_about_laws p a assume cs lines ending selects ends before =
+    All-append (IsAboutLaws p) lines (search_lines assume cs ending) before
+    (All-cons (IsAboutLaws p) (Query assume) (map Learnt cs ++ ending) selects
+    (All-append (IsAboutLaws p) (map Learnt cs) ending (All-map (IsAboutLaws p) Learnt cs (λ k d lt. tt)) (ending_asks_nothing p a assume ending ends)))
+
+pub search_goes : (y : Layout) (selecting : List ℕ) (budget room : ℕ) (old new : Kept) (a : Answer) (assume : List Literal) (before now : Lines → Type 0) (n m : ℕ) → budget < 2 ^ 32 → IsReady y selecting budget room old → SelectsLaws (task_of y budget room) assume →
     HasSolved before now assume old new a (budget - old.learnt) n m → IsTrueAnswer a (formula_of y) assume new → new.words ≤ room →
     GoesOn (KnowsWhy (task_of y budget room) old) (KnowsWhy (task_of y budget room) new) before now n m (λ lines more. TellsAnswer (task_of y budget room) a (lines ++ more))
-search_goes y selecting budget room old new a assume before now n m top ready s true_answer fits = λ lines k.
+search_goes y selecting budget room old new a assume before now n m top ready selects s true_answer fits = λ lines k.
     let more = search_lines assume s.learnt s.ending in
     let belongs = s.belongs lines k.belongs in
     let few = within_spent a (budget - old.learnt) (length s.learnt) s.spent in
@@ -70,6 +84,7 @@ search_goes y selecting budget room old new a assume before now n m top ready s 
         learnt_are = (let c = k.learnt_are in let d = count_of_search a assume s.learnt lines s.ending s.ends in omega (arith, c, d, count));
         spent = (let spent = ready.spent in omega (arith, spent, few, count));
         fits = subst (λ n. n ≤ room) belongs.words fits;
+        asked = asks_about_laws (task_of y budget room) a assume s.learnt lines s.ending selects s.ends k.asked;
       };
       told = s.told;
       counted = s.counted ∙ ap (λ c. rose_by c n) (sym (ap length (learnt_of_search a assume s.learnt s.ending s.ends)));

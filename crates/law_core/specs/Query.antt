@@ -1,11 +1,17 @@
 -- A question as assumptions of the solver, which places a refutation needs, and which reply is of which answer.
-use Rattle.std.specs.Prelude.{⊤, ℕ, Bool, false, ◌||◌, ◌==◌, List, [], ◌∷◌, map, filter, slice_index_or}
+use Rattle.std.specs.Prelude.{◌≡◌, ⊤, ℕ, Bool, false, ◌||◌, ◌==◌, List, [], ◌∷◌, map, filter, slice_index_or}
 use Rattle.cnf_core.specs.Lit.{Literal, positive_of}
+use Rattle.refute_log.specs.declared.line.LogLine.{LogLine}
+use Rattle.refute_log.specs.declared.line.LogLine.TheVariants.{Query}
 use Rattle.refute_log.specs.declared.stop.Stop.TheVariants.{BudgetSpent, RoomFull}
+use Rattle.drawing_cnf.specs.Expected.{laws_first}
 use Rattle.cdcl_core.specs.declared.answer.Answer.{Answer}
 use Rattle.cdcl_core.specs.declared.answer.Answer.TheVariants.{Model, Refuted as RefutedAnswer, Spent, Room}
+use Rattle.search_why.specs.Task.{Task}
+use Rattle.search_why.specs.Asked.{AreLawPlaces}
 use Rattle.search_why.specs.declared.oracle.Reply.{Reply}
 use Rattle.search_why.specs.declared.oracle.Reply.TheVariants.{Found, Refuted, Stopped}
+use Rattle.law_core.specs.Choices.{selectors}
 
 -- the selecting variables of the laws at these places are true
 abbrev pub query_of : (selecting wanted : List ℕ) → List Literal
@@ -19,6 +25,16 @@ has_variable (l ∷ ls) x = (l.var == x) || has_variable ls x
 -- those of the places whose selecting variables these literals have
 abbrev pub places_in : List ℕ → List Literal → List ℕ → List ℕ
 places_in selecting literals wanted = filter (λ n. has_variable literals (slice_index_or selecting n 0)) wanted
+
+-- the query selects laws, each once
+abbrev pub SelectsLaws : Task → List Literal → Type 0
+SelectsLaws p query = (wanted : List ℕ) × AreLawPlaces p wanted
+    × (query ≡ query_of (selectors (laws_first p.graph p.grid) p.laws) wanted)
+
+-- the line, where it is a Query line
+abbrev pub IsAboutLaws : Task → LogLine → Type 0
+IsAboutLaws p (Query query) = SelectsLaws p query
+IsAboutLaws p line = ⊤
 
 -- the reply is one of this answer
 abbrev pub IsReplyOf : Answer → Reply → Type 0

@@ -13,6 +13,8 @@ use Rattle.drawing_cnf.specs.Layout.{Layout, problem_of}
 use Rattle.drawing_cnf.proofs.ListLemmas.{given_formulas}
 use Rattle.search_least.specs.Task.{greatest_of}
 use Rattle.search_least.specs.Outcome.{IsUnfoundEnd, first_lines}
+use Rattle.search_least.specs.Placed.{IsUnderBounds}
+use Rattle.search_least.proofs.BehindLemmas.{behind_none}
 use Rattle.refute_log.specs.declared.stop.Stop.TheVariants.{RoomFull}
 use Rattle.trade_off.specs.declared.outcome.FrontEnd.TheVariants.{Room}
 use Rattle.trade_off.specs.Outcome.{front_lines, IsFrontLog}
@@ -52,5 +54,6 @@ no_room_front y budget room a b full =
       begins = (front_lines p a b, refl);
       fits = s.fits;
       within = s.within;
+      placed = behind_none (IsUnderBounds p);
       cause = inl (front_passes y budget room a b full);
     }

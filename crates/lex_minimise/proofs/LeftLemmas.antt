@@ -198,3 +198,22 @@ front_left y budget room a b e f old mid l0 l1 l2 n0 n1 first is blank_is goes h
     let run : ToldBehind (λ ls. Belongs ls mid) l0 l1 n0 n1 [] (λ more. more ≡ map Formula (drop 0 f.clauses)) = goes [] (new_belongs old room blank_is) in
     let start = subst l1 (first_does y budget room e f run.more first is run.does) (run.told [] none) in
     subst (λ (z : Layout). IsFrontLeft (task_of z budget room) a b lines) first.layout (h start lines told)
+
+-- ---- the search for least values
+
+-- nothing was told
+pub values_unbegun : (log : Lines → Type 0) → ((x z : Lines) → log x → log z → x ≡ z) → log [] → (lines : Lines) → log lines → Derives lines
+values_unbegun log one none lines is = subst Derives (one [] lines none is) derives_none
+
+-- an error in the formula's clauses
+pub values_begun : (expected : Lines) (room : ℕ) (old : Kept) (l0 l1 : Lines → Type 0) → old ≡ blank room → Leaves expected (λ ls. Belongs ls old) l0 l1 → l0 [] → (lines : Lines) → l1 lines → Derives lines
+values_begun expected room old l0 l1 blank_is h none lines told = (h [] (new_belongs old room blank_is) none lines told).derives
+
+-- an error behind the formula's clauses
+pub values_left : (y : Layout) (budget room : ℕ) (e : Encoding) (f : Cnf) (known : Lines → Type 0) (old mid : Kept) (l0 l1 l2 : Lines → Type 0) (n0 n1 : ℕ) → IsFirst y room e → f ≡ e.formula → old ≡ blank room →
+    GoesOn (λ ls. Belongs ls old) (λ ls. Belongs ls mid) l0 l1 n0 n1 (λ lines more. more ≡ map Formula (drop 0 f.clauses)) → known (first_lines (task_of (layout_of e) budget room)) →
+    StillDerives known l1 l2 → l0 [] → (lines : Lines) → l2 lines → Derives lines
+values_left y budget room e f known old mid l0 l1 l2 n0 n1 first is blank_is goes knows h none lines told =
+    let run : ToldBehind (λ ls. Belongs ls mid) l0 l1 n0 n1 [] (λ more. more ≡ map Formula (drop 0 f.clauses)) = goes [] (new_belongs old room blank_is) in
+    let start = subst l1 (first_does y budget room e f run.more first is run.does) (run.told [] none) in
+    h (first_lines (task_of (layout_of e) budget room)) knows start lines told

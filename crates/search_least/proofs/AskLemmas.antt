@@ -12,20 +12,22 @@ use Rattle.cnf_core.proofs.QuantifierLemmas.{some_from_satisfies}
 use Rattle.refute_log.specs.declared.line.LogLine.{LogLine}
 use Rattle.refute_log.specs.declared.line.LogLine.TheVariants.{Learnt, Query, Refuted as RefutedLine, Model}
 use Rattle.refute_log.specs.Told.{Lines}
-use Rattle.refute_log.specs.Log.{Derives, asked, clause_line, clause_lines, facts_of}
+use Rattle.refute_log.specs.Log.{Derives, asked, clause_line, clause_lines}
 use Rattle.refute_log.proofs.CertifiedLemmas.{refuted_holds}
 use Rattle.refute_log.specs.declared.stop.Stop.{Stop}
 use Rattle.refute_log.specs.declared.stop.Stop.TheVariants.{BudgetSpent, RoomFull}
 use Rattle.refute_log.specs.Steps.{ToldBehind, Continues, KnowsSome}
 use Rattle.refute_log.proofs.StepLemmas.{stays, goes_on, becomes, learnt_no_clauses}
 use Rattle.search_least.proofs.QuestionLemmas.{no_clauses_both, none_in, not_model, not_nothing, query_stays}
+use Rattle.search_least.proofs.BehindLemmas.{behind_unended, behind_ended}
 use Rattle.search_least.specs.declared.questions.Answer.{Answer}
 use Rattle.search_least.specs.declared.questions.Answer.TheVariants.{Found, Refuted, Stopped}
 use Rattle.search_least.specs.declared.fewest.Fewest.{Fewest}
 use Rattle.search_least.specs.declared.fewest.Fewest.TheVariants.{Best}
 use Rattle.search_least.specs.CountTask.{CountTask, IsOne, TellsCount, CoversCounts}
 use Rattle.refute_log.specs.Cause.{IsCause}
-use Rattle.search_least.specs.CountAsked.{IsBelow, query_of, SaysReached, IsAsked, IsAnswer}
+use Rattle.search_least.specs.CountAsked.{IsBelow, query_of, SaysReached, IsAsked, IsAnswer, IsRightAnswer}
+use Rattle.search_least.specs.CountPlaced.{AsksFor, IsCountPlaced, AreCountsAsked}
 use Rattle.search_least.specs.Fewest.{IsStoppedSearch, IsEnd, stopped_with}
 use Rattle.search_least.specs.Run.{RefutesNothing, IsRunOfDrawings, IsRunToEnd}
 
@@ -90,6 +92,15 @@ no_refuted p limit ending lines more asked none before = λ clause there. elim (
   | inr h ↦ none clause (at_end p limit ending more (RefutedLine clause) (λ c e. cc) (λ c e. cc) asked h)
 ]
 
+-- each line of it stands where it may
+pub counts_asked : (p : CountTask) (limit : Option ℕ) (lines more : Lines) (r : Answer) → IsAnswer p lines limit r more → IsRightAnswer p limit r → AreCountsAsked p lines → AreCountsAsked p (lines ++ more)
+counts_asked p limit lines more (Found d) a right h =
+    let q = query_of p limit in
+    behind_ended (IsCountPlaced p) lines more q a.clauses Model a.is (λ before c. tt) (limit, refl)
+    (record { drawing = d; one = right.0; limit = limit; latest = fold-append asked None lines (Query q ∷ map Learnt a.clauses) ∙ query_stays (Some q) a.clauses; below = right.1 }) h
+counts_asked p limit lines more Refuted a right h = behind_ended (IsCountPlaced p) lines more (query_of p limit) (a.2).clauses (RefutedLine a.0) (a.2).is (λ before c. tt) (limit, refl) tt h
+counts_asked p limit lines more (Stopped stop) a right h = behind_unended (IsCountPlaced p) lines more (query_of p limit) (a.0).clauses (a.0).is (λ before c. tt) (limit, refl) h
+
 pub no_model : (p : CountTask) (limit : Option ℕ) (lines more : Lines) → IsAsked p limit [] more → (Contains lines Model → ⊥) → Contains (lines ++ more) Model → ⊥
 no_model p limit lines more asked before there = elim (Contains-append_cases lines more Model there) [
   | inl h ↦ before h
@@ -100,39 +111,66 @@ pub asks_no_clauses : (p : CountTask) (limit : Option ℕ) (ending more : Lines)
 asks_no_clauses p limit ending more asked none =
     ap clause_lines asked.is ∙ flat_map-cons clause_line (Query (query_of p limit)) (map Learnt asked.clauses ++ ending) ∙ no_clauses_both (map Learnt asked.clauses) ending (learnt_no_clauses asked.clauses) none
 
+pub answer_clauses : (p : CountTask) (limit : Option ℕ) (lines : Lines) (r : Answer) (more : Lines) → IsAnswer p lines limit r more → clause_lines more ≡ []
+answer_clauses p limit lines (Found d) more h = asks_no_clauses p limit (Model ∷ []) more h refl
+answer_clauses p limit lines Refuted more h = asks_no_clauses p limit (RefutedLine h.0 ∷ []) more h.2 refl
+answer_clauses p limit lines (Stopped stop) more h = asks_no_clauses p limit [] more h.0 refl
+
 -- ---- runs of questions
 
-pub run_none : {S : Type 0} (knows log : S → Lines → Type 0) (count : S → ℕ) (s : S) → Continues knows log count s s IsRunOfDrawings
-run_none knows log count s = stays knows log count s IsRunOfDrawings (λ lines k. (refl, λ h. subst RefutesNothing (sym (append-nil lines)) h))
+pub run_none : {S : Type 0} (knows log : S → Lines → Type 0) (count : S → ℕ) (s : S) (p : CountTask) → Continues knows log count s s (IsRunOfDrawings p)
+run_none knows log count s p =
+    stays knows log count s (IsRunOfDrawings p) (λ lines k. record { none = refl; nothing = subst RefutesNothing (sym (append-nil lines)); placed = subst (AreCountsAsked p) (sym (append-nil lines)) })
 
-found_runs : (p : CountTask) (limit : Option ℕ) (lines more : Lines) → IsAsked p limit (Model ∷ []) more → IsRunOfDrawings lines more
-found_runs p limit lines more asked = (asks_no_clauses p limit (Model ∷ []) more asked refl, no_refuted p limit (Model ∷ []) lines more asked not_model)
+found_runs : (p : CountTask) (limit : Option ℕ) (r : Answer) (d : Drawing) (lines more : Lines) → r ≡ Found d → IsRightAnswer p limit r → IsAnswer p lines limit r more → IsRunOfDrawings p lines more
+found_runs p limit r d lines more was right answer =
+    let got : IsAsked p limit (Model ∷ []) more = subst (λ (x : Answer). IsAnswer p lines limit x more) was answer in
+    record { none = asks_no_clauses p limit (Model ∷ []) more got refl; nothing = no_refuted p limit (Model ∷ []) lines more got not_model; placed = counts_asked p limit lines more r answer right }
 
-run_both : (lines xs ys : Lines) → IsRunOfDrawings lines xs → IsRunOfDrawings (lines ++ xs) ys → IsRunOfDrawings lines (xs ++ ys)
-run_both lines xs ys f g = (no_clauses_both xs ys f.0 g.0, λ h. subst RefutesNothing (append_assoc lines xs ys) (g.1 (f.1 h)))
+run_both : (p : CountTask) (lines xs ys : Lines) → IsRunOfDrawings p lines xs → IsRunOfDrawings p (lines ++ xs) ys → IsRunOfDrawings p lines (xs ++ ys)
+run_both p lines xs ys f g = record {
+  none = no_clauses_both xs ys f.none g.none;
+  nothing = λ h. subst RefutesNothing (append_assoc lines xs ys) (g.nothing (f.nothing h));
+  placed = λ h. subst (AreCountsAsked p) (append_assoc lines xs ys) (g.placed (f.placed h));
+}
 
-pub run_found : {S : Type 0} (knows log : S → Lines → Type 0) (count : S → ℕ) (a b e : S) (q : CountTask) (limit : Option ℕ) (r : Answer) (d : Drawing) → r ≡ Found d →
-    Continues knows log count a b IsRunOfDrawings → Continues knows log count b e (λ lines more. IsAnswer q lines limit r more) → Continues knows log count a e IsRunOfDrawings
-run_found knows log count a b e q limit r d was run asked =
-    goes_on knows log count a b e IsRunOfDrawings (λ lines more. IsAnswer q lines limit r more) IsRunOfDrawings run asked
-    (λ lines xs ys ka kb ke so_far answer. run_both lines xs ys so_far (found_runs q limit (lines ++ xs) ys (subst (λ (x : Answer). IsAnswer q (lines ++ xs) limit x ys) was answer)))
+-- a question of the same task, and its answer
+pub record IsOneAsked (q p : CountTask) (limit : Option ℕ) (r : Answer) : Type 0 where
+  pub same : q ≡ p
+  pub right : IsRightAnswer q limit r
 
-pub ends_refuted : {S : Type 0} (knows log : S → Lines → Type 0) (count : S → ℕ) (a b e : S) (q p : CountTask) (n : ℕ) (r : Answer) (d : Drawing) → q ≡ p → r ≡ Refuted → n ≡ p.count d →
-    Continues knows log count a b IsRunOfDrawings → Continues knows log count b e (λ lines more. IsAnswer q lines (Some n) r more) → Continues knows log count a e (IsRunToEnd p (Best d))
-ends_refuted knows log count a b e q p n r d same was is run asked =
-    goes_on knows log count a b e IsRunOfDrawings (λ lines more. IsAnswer q lines (Some n) r more) (IsRunToEnd p (Best d)) run asked
+-- the lines of one behind a run
+placed_behind : (p : CountTask) (limit : Option ℕ) (r : Answer) (lines xs ys : Lines) → IsRunOfDrawings p lines xs → IsRightAnswer p limit r → IsAnswer p (lines ++ xs) limit r ys → AreCountsAsked p lines → AreCountsAsked p (lines ++ (xs ++ ys))
+placed_behind p limit r lines xs ys so_far right answer h = subst (AreCountsAsked p) (append_assoc lines xs ys) (counts_asked p limit (lines ++ xs) ys r answer right (so_far.placed h))
+
+pub run_found : {S : Type 0} (knows log : S → Lines → Type 0) (count : S → ℕ) (a b e : S) (q p : CountTask) (limit : Option ℕ) (r : Answer) (d : Drawing) → IsOneAsked q p limit r → r ≡ Found d →
+    Continues knows log count a b (IsRunOfDrawings p) → Continues knows log count b e (λ lines more. IsAnswer q lines limit r more) → Continues knows log count a e (IsRunOfDrawings p)
+run_found knows log count a b e q p limit r d one was run asked =
+    let right : IsRightAnswer p limit r = subst (λ (x : CountTask). IsRightAnswer x limit r) one.same one.right in
+    goes_on knows log count a b e (IsRunOfDrawings p) (λ lines more. IsAnswer q lines limit r more) (IsRunOfDrawings p) run asked
+    (λ lines xs ys ka kb ke so_far answer. run_both p lines xs ys so_far (found_runs p limit r d (lines ++ xs) ys was right (subst (λ (x : CountTask). IsAnswer x (lines ++ xs) limit r ys) one.same answer)))
+
+pub ends_refuted : {S : Type 0} (knows log : S → Lines → Type 0) (count : S → ℕ) (a b e : S) (q p : CountTask) (n : ℕ) (r : Answer) (d : Drawing) → IsOneAsked q p (Some n) r → r ≡ Refuted → n ≡ p.count d →
+    Continues knows log count a b (IsRunOfDrawings p) → Continues knows log count b e (λ lines more. IsAnswer q lines (Some n) r more) → Continues knows log count a e (IsRunToEnd p (Best d))
+ends_refuted knows log count a b e q p n r d one was is run asked =
+    let right : IsRightAnswer p (Some n) r = subst (λ (x : CountTask). IsRightAnswer x (Some n) r) one.same one.right in
+    goes_on knows log count a b e (IsRunOfDrawings p) (λ lines more. IsAnswer q lines (Some n) r more) (IsRunToEnd p (Best d)) run asked
     (λ lines xs ys ka kb ke so_far answer.
-    let got : IsAnswer p (lines ++ xs) (Some n) Refuted ys = subst (λ (x : CountTask). IsAnswer x (lines ++ xs) (Some n) Refuted ys) same (subst (λ (x : Answer). IsAnswer q (lines ++ xs) (Some n) x ys) was answer) in (
-      no_clauses_both xs ys so_far.0 (asks_no_clauses p (Some n) (RefutedLine got.0 ∷ []) ys got.2 refl),
-      λ nothing positive. record {
+    let here : IsAnswer p (lines ++ xs) (Some n) r ys = subst (λ (x : CountTask). IsAnswer x (lines ++ xs) (Some n) r ys) one.same answer in
+    let got : IsAnswer p (lines ++ xs) (Some n) Refuted ys = subst (λ (x : Answer). IsAnswer p (lines ++ xs) (Some n) x ys) was here in
+    record {
+      none = no_clauses_both xs ys so_far.none (asks_no_clauses p (Some n) (RefutedLine got.0 ∷ []) ys got.2 refl);
+      end = λ nothing positive. record {
         clause = got.0;
         among = subst (λ (ls : Lines). Contains ls (RefutedLine got.0)) (append_assoc lines xs ys) (ends_in p (Some n) (lines ++ xs) ys (RefutedLine got.0) got.2);
         each = subst (λ m. All (λ l. l ≡ p.at_least m) got.0) is got.1;
-      },
-    ))
+      };
+      placed = placed_behind p (Some n) r lines xs ys so_far right here;
+    })
 
-pub ends_zero : {S : Type 0} (knows log : S → Lines → Type 0) (count : S → ℕ) (a b : S) (p : CountTask) (d : Drawing) → p.count d ≡ 0 → Continues knows log count a b IsRunOfDrawings → Continues knows log count a b (IsRunToEnd p (Best d))
-ends_zero knows log count a b p d nil run = becomes knows log count a b IsRunOfDrawings (IsRunToEnd p (Best d)) run (λ lines xs ka kb so_far. (so_far.0, λ nothing positive. absurd (omega (arith, nil, positive))))
+pub ends_zero : {S : Type 0} (knows log : S → Lines → Type 0) (count : S → ℕ) (a b : S) (p : CountTask) (d : Drawing) → p.count d ≡ 0 → Continues knows log count a b (IsRunOfDrawings p) → Continues knows log count a b (IsRunToEnd p (Best d))
+ends_zero knows log count a b p d nil run =
+    becomes knows log count a b (IsRunOfDrawings p) (IsRunToEnd p (Best d)) run (λ lines xs ka kb so_far. record { none = so_far.none; end = λ nothing positive. absurd (omega (arith, nil, positive)); placed = so_far.placed })
 
 pub stopped_end : (p : CountTask) (stop : Stop) (best : Option Drawing) (outcome : Fewest) (lines : Lines) → outcome ≡ stopped_with stop best → IsStoppedSearch p stop best lines → IsEnd p outcome lines
 stopped_end p stop best outcome lines is h = subst (λ (x : Fewest). IsEnd p x lines) (sym is) (by stop h)
@@ -141,21 +179,25 @@ stopped_end p stop best outcome lines is h = subst (λ (x : Fewest). IsEnd p x l
     by BudgetSpent h = h
     by RoomFull h = h
 
-latest_query : (p : CountTask) (limit : Option ℕ) (lines more : Lines) → IsAsked p limit [] more → (facts_of (lines ++ more)).query ≡ Some (query_of p limit)
+pub latest_query : (p : CountTask) (limit : Option ℕ) (lines more : Lines) → IsAsked p limit [] more → AsksFor p limit (lines ++ more)
 latest_query p limit lines more a =
     fold-append asked None lines more ∙ ap (fold asked (fold asked None lines)) (a.is ∙ ap (λ (ls : Lines). Query (query_of p limit) ∷ ls) (append-nil (map Learnt a.clauses)))
     ∙ query_stays (Some (query_of p limit)) a.clauses
 
-pub ends_stopped : {S : Type 0} (knows log : S → Lines → Type 0) (count : S → ℕ) (a b e : S) (q p : CountTask) (limit : Option ℕ) (r : Answer) (d : Drawing) (stop : Stop) (outcome : Fewest) → q ≡ p → r ≡ Stopped stop → outcome ≡ stopped_with stop (Some d) → (1 ≤ p.count d) × (limit ≡ Some (p.count d)) →
-    Continues knows log count a b IsRunOfDrawings → Continues knows log count b e (λ lines more. IsAnswer q lines limit r more) → Continues knows log count a e (IsRunToEnd p outcome)
-ends_stopped knows log count a b e q p limit r d stop outcome same was is positive run asked =
-    goes_on knows log count a b e IsRunOfDrawings (λ lines more. IsAnswer q lines limit r more) (IsRunToEnd p outcome) run asked
+pub ends_stopped : {S : Type 0} (knows log : S → Lines → Type 0) (count : S → ℕ) (a b e : S) (q p : CountTask) (limit : Option ℕ) (r : Answer) (d : Drawing) (stop : Stop) (outcome : Fewest) → IsOneAsked q p limit r → r ≡ Stopped stop → outcome ≡ stopped_with stop (Some d) → (1 ≤ p.count d) × (limit ≡ Some (p.count d)) →
+    Continues knows log count a b (IsRunOfDrawings p) → Continues knows log count b e (λ lines more. IsAnswer q lines limit r more) → Continues knows log count a e (IsRunToEnd p outcome)
+ends_stopped knows log count a b e q p limit r d stop outcome one was is positive run asked =
+    let right : IsRightAnswer p limit r = subst (λ (x : CountTask). IsRightAnswer x limit r) one.same one.right in
+    goes_on knows log count a b e (IsRunOfDrawings p) (λ lines more. IsAnswer q lines limit r more) (IsRunToEnd p outcome) run asked
     (λ lines xs ys ka kb ke so_far answer.
-    let got : IsAnswer p (lines ++ xs) limit (Stopped stop) ys = subst (λ (x : CountTask). IsAnswer x (lines ++ xs) limit (Stopped stop) ys) same (subst (λ (x : Answer). IsAnswer q (lines ++ xs) limit x ys) was answer) in (
-      no_clauses_both xs ys so_far.0 (asks_no_clauses p limit [] ys got.0 refl),
-      λ nothing. stopped_end p stop (Some d) outcome (lines ++ (xs ++ ys)) is (
+    let here : IsAnswer p (lines ++ xs) limit r ys = subst (λ (x : CountTask). IsAnswer x (lines ++ xs) limit r ys) one.same answer in
+    let got : IsAnswer p (lines ++ xs) limit (Stopped stop) ys = subst (λ (x : Answer). IsAnswer p (lines ++ xs) limit x ys) was here in
+    record {
+      none = no_clauses_both xs ys so_far.none (asks_no_clauses p limit [] ys got.0 refl);
+      end = λ nothing. stopped_end p stop (Some d) outcome (lines ++ (xs ++ ys)) is (
         subst (IsCause p.budget p.room stop) (append_assoc lines xs ys) got.1,
-        subst RefutesNothing (append_assoc lines xs ys) (no_refuted p limit [] (lines ++ xs) ys got.0 not_nothing (so_far.1 nothing)),
-        (positive.0, subst (λ (ls : Lines). (facts_of ls).query ≡ Some (query_of p (Some (p.count d)))) (append_assoc lines xs ys) (latest_query p limit (lines ++ xs) ys got.0 ∙ ap (λ (l : Option ℕ). Some (query_of p l)) positive.1)),
-      ),
-    ))
+        subst RefutesNothing (append_assoc lines xs ys) (no_refuted p limit [] (lines ++ xs) ys got.0 not_nothing (so_far.nothing nothing)),
+        (positive.0, subst (AsksFor p (Some (p.count d))) (append_assoc lines xs ys) (latest_query p limit (lines ++ xs) ys got.0 ∙ ap (λ (l : Option ℕ). Some (query_of p l)) positive.1)),
+      );
+      placed = placed_behind p limit r lines xs ys so_far right here;
+    })

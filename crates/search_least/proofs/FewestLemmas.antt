@@ -24,8 +24,10 @@ use Rattle.search_least.specs.declared.fewest.Fewest.TheVariants.{NoDrawing}
 use Rattle.search_least.specs.CountTask.{CountTask, IsOne}
 use Rattle.search_least.specs.CountAsked.{IsBelow, SaysReached, IsAsked, IsAnswer, IsRightAnswer}
 use Rattle.search_least.specs.Fewest.{IsRightFewest, IsEnd, IsFewestLog, stopped_with}
+use Rattle.search_least.specs.CountPlaced.{IsCountPlaced, AreCountsAsked}
 use Rattle.search_least.specs.Run.{RefutesNothing, IsRunToEnd}
-use Rattle.search_least.proofs.AskLemmas.{asks_no_clauses, no_refuted, no_model, ends_in, stopped_end}
+use Rattle.search_least.proofs.BehindLemmas.{behind_none, behind_mapped}
+use Rattle.search_least.proofs.AskLemmas.{asks_no_clauses, no_refuted, no_model, ends_in, stopped_end, counts_asked, latest_query}
 
 -- ---- of drawings
 
@@ -62,44 +64,58 @@ no_literal p [] h = refl
 no_literal p (l ∷ ls) h = absurd (h 0 l (omega arith))
 
 -- what is so behind the formula
-abbrev pub EndsBehind : CountTask → Fewest → Lines → Lines → Type 0
-EndsBehind p outcome lines more = lines ≡ map Formula p.clauses → (clause_lines more ≡ []) × IsEnd p outcome (lines ++ more)
+pub record IsWholeSearch (p : CountTask) (outcome : Fewest) (lines more : Lines) : Type 0 where
+  pub none : clause_lines more ≡ []
+  pub end : IsEnd p outcome (lines ++ more)
+  pub placed : AreCountsAsked p (lines ++ more)
 
-pub first_found : {S : Type 0} (knows log : S → Lines → Type 0) (count : S → ℕ) (a b e : S) (q p : CountTask) (r : Answer) (d : Drawing) (outcome : Fewest) → q ≡ p → r ≡ Found d →
+abbrev pub EndsBehind : CountTask → Fewest → Lines → Lines → Type 0
+EndsBehind p outcome lines more = lines ≡ map Formula p.clauses → IsWholeSearch p outcome lines more
+
+formulas_placed : (p : CountTask) (lines : Lines) → lines ≡ map Formula p.clauses → AreCountsAsked p lines
+formulas_placed p lines is = subst (AreCountsAsked p) (sym is) (behind_mapped (IsCountPlaced p) Formula [] p.clauses (λ before c. tt) (behind_none (IsCountPlaced p)))
+
+pub first_found : {S : Type 0} (knows log : S → Lines → Type 0) (count : S → ℕ) (a b e : S) (q p : CountTask) (r : Answer) (d : Drawing) (outcome : Fewest) → q ≡ p → r ≡ Found d → IsRightAnswer p None r →
     Continues knows log count a b (λ lines more. IsAnswer p lines None r more) → Continues knows log count b e (IsRunToEnd q outcome) → Continues knows log count a e (EndsBehind p outcome)
-first_found knows log count a b e q p r d outcome same was asked run =
+first_found knows log count a b e q p r d outcome same was right asked run =
     goes_on knows log count a b e (λ lines more. IsAnswer p lines None r more) (IsRunToEnd p outcome) (EndsBehind p outcome) asked (subst (λ (x : CountTask). Continues knows log count b e (IsRunToEnd x outcome)) same run)
     (λ lines xs ys ka kb ke answer end is.
     let got : IsAsked p None (Model ∷ []) xs = subst (λ (x : Answer). IsAnswer p lines None x xs) was answer in
-    let nothing : RefutesNothing lines = subst RefutesNothing (sym is) (formulas_refute_nothing p.clauses) in (
-      both xs ys (asks_no_clauses p None (Model ∷ []) xs got refl) end.0,
-      subst (IsEnd p outcome) (append_assoc lines xs ys) (end.1 (no_refuted p None (Model ∷ []) lines xs got not_model nothing)),
-    ))
+    let nothing : RefutesNothing lines = subst RefutesNothing (sym is) (formulas_refute_nothing p.clauses) in
+    record {
+      none = both xs ys (asks_no_clauses p None (Model ∷ []) xs got refl) end.none;
+      end = subst (IsEnd p outcome) (append_assoc lines xs ys) (end.end (no_refuted p None (Model ∷ []) lines xs got not_model nothing));
+      placed = subst (AreCountsAsked p) (append_assoc lines xs ys) (end.placed (counts_asked p None lines xs r answer right (formulas_placed p lines is)));
+    })
   where
     both : (xs ys : Lines) → clause_lines xs ≡ [] → clause_lines ys ≡ [] → clause_lines (xs ++ ys) ≡ []
     both xs ys f g = clause_lines_append xs ys ∙ ap (λ (ls : Lines). ls ++ clause_lines ys) f ∙ g
 
-pub first_refuted : {S : Type 0} (knows log : S → Lines → Type 0) (count : S → ℕ) (a b : S) (p : CountTask) (r : Answer) → r ≡ Refuted →
+pub first_refuted : {S : Type 0} (knows log : S → Lines → Type 0) (count : S → ℕ) (a b : S) (p : CountTask) (r : Answer) → r ≡ Refuted → IsRightAnswer p None r →
     Continues knows log count a b (λ lines more. IsAnswer p lines None r more) → Continues knows log count a b (EndsBehind p NoDrawing)
-first_refuted knows log count a b p r was asked = becomes knows log count a b (λ lines more. IsAnswer p lines None r more) (EndsBehind p NoDrawing) asked
+first_refuted knows log count a b p r was right asked = becomes knows log count a b (λ lines more. IsAnswer p lines None r more) (EndsBehind p NoDrawing) asked
     (λ lines xs ka kb answer is.
-    let got : IsAnswer p lines None Refuted xs = subst (λ (x : Answer). IsAnswer p lines None x xs) was answer in (
-      asks_no_clauses p None (RefutedLine got.0 ∷ []) xs got.2 refl,
-      subst (λ (c : List Literal). Contains (lines ++ xs) (RefutedLine c)) (no_literal p got.0 got.1) (ends_in p None lines xs (RefutedLine got.0) got.2),
-    ))
+    let got : IsAnswer p lines None Refuted xs = subst (λ (x : Answer). IsAnswer p lines None x xs) was answer in
+    record {
+      none = asks_no_clauses p None (RefutedLine got.0 ∷ []) xs got.2 refl;
+      end = subst (λ (c : List Literal). Contains (lines ++ xs) (RefutedLine c)) (no_literal p got.0 got.1) (ends_in p None lines xs (RefutedLine got.0) got.2);
+      placed = counts_asked p None lines xs r answer right (formulas_placed p lines is);
+    })
 
-pub first_stopped : {S : Type 0} (knows log : S → Lines → Type 0) (count : S → ℕ) (a b : S) (p : CountTask) (r : Answer) (stop : Stop) (outcome : Fewest) → r ≡ Stopped stop → outcome ≡ stopped_with stop None →
+pub first_stopped : {S : Type 0} (knows log : S → Lines → Type 0) (count : S → ℕ) (a b : S) (p : CountTask) (r : Answer) (stop : Stop) (outcome : Fewest) → r ≡ Stopped stop → outcome ≡ stopped_with stop None → IsRightAnswer p None r →
     Continues knows log count a b (λ lines more. IsAnswer p lines None r more) → Continues knows log count a b (EndsBehind p outcome)
-first_stopped knows log count a b p r stop outcome was ended asked = becomes knows log count a b (λ lines more. IsAnswer p lines None r more) (EndsBehind p outcome) asked
+first_stopped knows log count a b p r stop outcome was ended right asked = becomes knows log count a b (λ lines more. IsAnswer p lines None r more) (EndsBehind p outcome) asked
     (λ lines xs ka kb answer is.
-    let got : IsAnswer p lines None (Stopped stop) xs = subst (λ (x : Answer). IsAnswer p lines None x xs) was answer in (
-      asks_no_clauses p None [] xs got.0 refl,
-      stopped_end p stop None outcome (lines ++ xs) ended (
+    let got : IsAnswer p lines None (Stopped stop) xs = subst (λ (x : Answer). IsAnswer p lines None x xs) was answer in
+    record {
+      none = asks_no_clauses p None [] xs got.0 refl;
+      end = stopped_end p stop None outcome (lines ++ xs) ended (
         got.1,
         no_refuted p None [] lines xs got.0 not_nothing (subst RefutesNothing (sym is) (formulas_refute_nothing p.clauses)),
-        no_model p None lines xs got.0 (subst (λ (ls : Lines). Contains ls Model → ⊥) (sym is) (only_formulas p.clauses Model (λ c e. cc))),
-      ),
-    ))
+        (no_model p None lines xs got.0 (subst (λ (ls : Lines). Contains ls Model → ⊥) (sym is) (only_formulas p.clauses Model (λ c e. cc))), latest_query p None lines xs got.0),
+      );
+      placed = counts_asked p None lines xs r answer right (formulas_placed p lines is);
+    })
 
 -- ---- the whole search
 
@@ -129,9 +145,10 @@ tells knows log count a e p outcome laws start goes =
         formed = laws.formed lines t.knows;
         derives = laws.derives lines t.knows;
         due = laws.due lines t.knows;
-        told = clause_lines_append from t.more ∙ ap (λ (ls : Lines). ls ++ clause_lines t.more) (formulas_are_clauses p.clauses) ∙ ap (λ (ls : Lines). from ++ ls) end.0 ∙ append-nil from;
+        told = clause_lines_append from t.more ∙ ap (λ (ls : Lines). ls ++ clause_lines t.more) (formulas_are_clauses p.clauses) ∙ ap (λ (ls : Lines). from ++ ls) end.none ∙ append-nil from;
         fits = laws.fits lines t.knows;
         within = laws.within lines t.knows;
-        end = end.1;
+        placed = end.placed;
+        end = end.end;
       };
     }

@@ -1,5 +1,7 @@
 pub mod QuestionLemmas
+pub mod BehindLemmas
 pub mod PlacedLemmas
+pub mod StillLemmas
 pub mod LowerLemmas
 pub mod RunLemmas
 pub mod BuildLemmas

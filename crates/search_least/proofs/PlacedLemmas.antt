@@ -1,8 +1,6 @@
--- Where lines stand: one more line, those of a question, and those of a criterion's bounds.
-use Rattle.std.proofs.Common.{◌≡◌, ℕ, zero, suc, ◌+◌, List, [], ◌∷◌, ◌++◌, map, refl, sym, ◌∙◌, ap, subst, inl, inr, arith, append-nil, append_assoc, None}
+-- Where lines stand: those of a question, and those of a criterion's bounds.
+use Rattle.std.proofs.Common.{◌≡◌, ℕ, zero, suc, ◌+◌, List, [], ◌∷◌, ◌++◌, map, refl, sym, ◌∙◌, ap, subst, append-nil, append_assoc, None}
 use Rattle.std.proofs.lemmas.Grind.{fold-append}
-use Rattle.std.proofs.lemmas.List.{take_at, take-append-le, get_or_push}
-use Rattle.std.proofs.lemmas.Option.{slice_get_within, get_or_from_slice_get}
 use Rattle.plan_core.specs.declared.criterion.Criterion.{Criterion}
 use Rattle.plan_core.specs.Values.{values_of}
 use Rattle.plan_core.specs.Drawing.{Drawing}
@@ -12,71 +10,71 @@ use Rattle.cnf_core.specs.Clause.{Clauses}
 use Rattle.refute_log.specs.declared.line.LogLine.{LogLine}
 use Rattle.refute_log.specs.declared.line.LogLine.TheVariants.{Formula, Learnt, Bound, Query, Refuted, Model}
 use Rattle.refute_log.specs.Told.{Lines}
-use Rattle.refute_log.proofs.LogLemmas.{at_left, low_or_last}
 use Rattle.refute_log.specs.Expected.{Problem, bound_lines, sum_lines}
 use Rattle.refute_log.proofs.CertifiedLemmas.{certifies_more}
 use Rattle.search_least.specs.declared.oracle.Below.{Below}
+use Rattle.search_least.specs.declared.oracle.Reply.{Reply}
+use Rattle.search_least.specs.declared.oracle.Reply.TheVariants as reply
 use Rattle.search_least.specs.Task.{Task, IsLawful, greatest_of}
-use Rattle.search_least.specs.Asked.{AreOnce, AreMet, IsAsked, IsMet, Queries, after_line, queries}
-use Rattle.search_least.specs.Placed.{IsQuestion, HasAnswer, IsReached, IsPlaced, AreInTurn}
+use Rattle.search_least.specs.Asked.{AreOnce, AreMet, IsAsked, IsReply, IsRightReply, IsMet, Queries, after_line, queries}
+use Rattle.search_least.specs.Placed.{IsQuestion, HasAnswer, IsReached, EachBehind, IsUnderBounds, AreUnderBounds, IsPlaced, AreInTurn}
 use Rattle.search_least.proofs.QuestionLemmas.{met_later, met_found}
+use Rattle.search_least.proofs.BehindLemmas.{behind_none, behind_more, behind_mapped, behind_unended, ended_with, behind_ended}
 
--- ---- one more line
-
-pub placed_none : (p : Task) (order : List Criterion) → AreInTurn p order []
-placed_none p order = λ i line e. absurd (let lt = slice_get_within [] i line e in omega (arith, lt))
-
-placed_more : (p : Task) (order : List Criterion) (lines : Lines) (line : LogLine) → AreInTurn p order lines → IsPlaced p order lines line → AreInTurn p order (lines ++ line ∷ [])
-placed_more p order lines line each last = λ i l e. elim (low_or_last lines line l i e) [
-  | inl low ↦ subst (λ (ls : Lines). IsPlaced p order ls l) (sym (take-append-le i lines (line ∷ []) (omega arith))) (each i l (at_left lines line l i low e))
-  | inr end ↦
-      let is : line ≡ l = sym (get_or_push lines line l i (sym end)) ∙ get_or_from_slice_get (lines ++ line ∷ []) i l l e in
-      subst (λ (ls : Lines). IsPlaced p order ls l) (sym (take_at lines (line ∷ []) i (sym end))) (subst (λ (k : LogLine). IsPlaced p order lines k) is last)
-]
-
-formulas_placed : (p : Task) (order : List Criterion) (now : Lines) (cs : Clauses) → AreInTurn p order now → AreInTurn p order (now ++ map Formula cs)
-formulas_placed p order now [] h = subst (AreInTurn p order) (sym (append-nil now)) h
-formulas_placed p order now (c ∷ cs) h =
-    subst (AreInTurn p order) (append_assoc now (Formula c ∷ []) (map Formula cs)) (formulas_placed p order (now ++ Formula c ∷ []) cs (placed_more p order now (Formula c) h tt))
+-- ---- the first lines
 
 pub first_placed : (p : Task) (order : List Criterion) → AreInTurn p order (map Formula p.encoding.clauses)
-first_placed p order = formulas_placed p order [] p.encoding.clauses (placed_none p order)
+first_placed p order = behind_mapped (IsPlaced p order) Formula [] p.encoding.clauses (λ before c. tt) (behind_none (IsPlaced p order))
 
 -- ---- a question
 
-learnt_placed : (p : Task) (order : List Criterion) (now : Lines) (cs : Clauses) → AreInTurn p order now → AreInTurn p order (now ++ map Learnt cs)
-learnt_placed p order now [] h = subst (AreInTurn p order) (sym (append-nil now)) h
-learnt_placed p order now (c ∷ cs) h =
-    subst (AreInTurn p order) (append_assoc now (Learnt c ∷ []) (map Learnt cs)) (learnt_placed p order (now ++ Learnt c ∷ []) cs (placed_more p order now (Learnt c) h tt))
+-- a search in which questions under bounds and their answers may stand
+pub record TakesQuestions (p : Task) (IsSo : Lines → LogLine → Type 0) : Type 0 where
+  pub question : (before : Lines) (query : List Literal) → IsQuestion before query → IsSo before (Query query)
+  pub answer : (before : Lines) → HasAnswer p before → IsSo before Model
+  pub learnt : (before : Lines) (c : List Literal) → IsSo before (Learnt c)
+  pub refuted : (before : Lines) (c : List Literal) → IsSo before (Refuted c)
 
--- up to its end
-question_placed : (p : Task) (order : List Criterion) (now : Lines) (bounds : List Below) (ending more : Lines) (a : IsAsked now bounds ending more) → AreOnce bounds → AreInTurn p order now →
-    AreInTurn p order (now ++ Query a.query ∷ map Learnt a.clauses)
-question_placed p order now bounds ending more a once h =
-    let query : IsQuestion now a.query = record { bounds = bounds; once = once; negated = a.negated } in
-    subst (AreInTurn p order) (append_assoc now (Query a.query ∷ []) (map Learnt a.clauses)) (learnt_placed p order (now ++ Query a.query ∷ []) a.clauses (placed_more p order now (Query a.query) h query))
+in_turn : (p : Task) (order : List Criterion) → TakesQuestions p (IsPlaced p order)
+in_turn p order = record { question = λ before query h. h; answer = λ before h. h; learnt = λ before c. tt; refuted = λ before c. tt }
 
+under_bounds : (p : Task) → TakesQuestions p (IsUnderBounds p)
+under_bounds p = record { question = λ before query h. h; answer = λ before h. h; learnt = λ before c. tt; refuted = λ before c. tt }
+
+stopped_behind : (p : Task) (IsSo : Lines → LogLine → Type 0) (now : Lines) (bounds : List Below) (more : Lines) → TakesQuestions p IsSo → AreOnce bounds → IsAsked now bounds [] more → EachBehind IsSo now → EachBehind IsSo (now ++ more)
+stopped_behind p IsSo now bounds more takes once a h =
+    behind_unended IsSo now more a.query a.clauses a.is takes.learnt (takes.question now a.query (record { bounds = bounds; once = once; negated = a.negated })) h
+
+refuted_behind : (p : Task) (IsSo : Lines → LogLine → Type 0) (now : Lines) (bounds : List Below) (more : Lines) (clause : List Literal) → TakesQuestions p IsSo → AreOnce bounds → IsAsked now bounds (Refuted clause ∷ []) more → EachBehind IsSo now →
+    EachBehind IsSo (now ++ more)
+refuted_behind p IsSo now bounds more clause takes once a h =
+    behind_ended IsSo now more a.query a.clauses (Refuted clause) a.is takes.learnt (takes.question now a.query (record { bounds = bounds; once = once; negated = a.negated }))
+    (takes.refuted (now ++ Query a.query ∷ map Learnt a.clauses) clause) h
+
+found_behind : (p : Task) (IsSo : Lines → LogLine → Type 0) (now : Lines) (bounds : List Below) (more : Lines) (d : Drawing) → TakesQuestions p IsSo → AreOnce bounds → IsLawful p d → AreMet (values_of d) bounds → IsAsked now bounds (Model ∷ []) more →
+    EachBehind IsSo now → EachBehind IsSo (now ++ more)
+found_behind p IsSo now bounds more d takes once lawful met a h =
+    let front : Lines = now ++ Query a.query ∷ map Learnt a.clauses in
+    let same : front ++ Model ∷ [] ≡ now ++ more = ended_with now more a.query a.clauses Model a.is in
+    let answer : HasAnswer p front = record { drawing = d; lawful = lawful; met = subst (λ (ls : Lines). IsMet ls (values_of d)) (sym same) (met_found now bounds more (values_of d) a met) } in
+    behind_ended IsSo now more a.query a.clauses Model a.is takes.learnt (takes.question now a.query (record { bounds = bounds; once = once; negated = a.negated })) (takes.answer front answer) h
+
+-- in a search for least values
 pub placed_stopped : (p : Task) (order : List Criterion) (now : Lines) (bounds : List Below) (more : Lines) → AreOnce bounds → IsAsked now bounds [] more → AreInTurn p order now → AreInTurn p order (now ++ more)
-placed_stopped p order now bounds more once a h =
-    subst (λ (ls : Lines). AreInTurn p order (now ++ ls)) (sym a.is)
-    (subst (λ (ls : Lines). AreInTurn p order (now ++ Query a.query ∷ ls)) (sym (append-nil (map Learnt a.clauses))) (question_placed p order now bounds [] more a once h))
-
--- what stands at its end
-ended_with : (now : Lines) (bounds : List Below) (line : LogLine) (more : Lines) (a : IsAsked now bounds (line ∷ []) more) → (now ++ Query a.query ∷ map Learnt a.clauses) ++ line ∷ [] ≡ now ++ more
-ended_with now bounds line more a = append_assoc now (Query a.query ∷ map Learnt a.clauses) (line ∷ []) ∙ ap (λ (ls : Lines). now ++ ls) (sym a.is)
+placed_stopped p order now bounds more once a h = stopped_behind p (IsPlaced p order) now bounds more (in_turn p order) once a h
 
 pub placed_refuted : (p : Task) (order : List Criterion) (now : Lines) (bounds : List Below) (more : Lines) (clause : List Literal) → AreOnce bounds → IsAsked now bounds (Refuted clause ∷ []) more → AreInTurn p order now → AreInTurn p order (now ++ more)
-placed_refuted p order now bounds more clause once a h =
-    subst (AreInTurn p order) (ended_with now bounds (Refuted clause) more a)
-    (placed_more p order (now ++ Query a.query ∷ map Learnt a.clauses) (Refuted clause) (question_placed p order now bounds (Refuted clause ∷ []) more a once h) tt)
+placed_refuted p order now bounds more clause once a h = refuted_behind p (IsPlaced p order) now bounds more clause (in_turn p order) once a h
 
 pub placed_found : (p : Task) (order : List Criterion) (now : Lines) (bounds : List Below) (more : Lines) (d : Drawing) → AreOnce bounds → IsLawful p d → AreMet (values_of d) bounds → IsAsked now bounds (Model ∷ []) more → AreInTurn p order now →
     AreInTurn p order (now ++ more)
-placed_found p order now bounds more d once lawful met a h =
-    let front : Lines = now ++ Query a.query ∷ map Learnt a.clauses in
-    let same : front ++ Model ∷ [] ≡ now ++ more = ended_with now bounds Model more a in
-    let answer : HasAnswer p front = record { drawing = d; lawful = lawful; met = subst (λ (ls : Lines). IsMet ls (values_of d)) (sym same) (met_found now bounds more (values_of d) a met) } in
-    subst (AreInTurn p order) same (placed_more p order front Model (question_placed p order now bounds (Model ∷ []) more a once h) answer)
+placed_found p order now bounds more d once lawful met a h = found_behind p (IsPlaced p order) now bounds more d (in_turn p order) once lawful met a h
+
+-- in any search under bounds
+pub asked_under_bounds : (p : Task) (now : Lines) (bounds : List Below) (reply : Reply) (more : Lines) → AreOnce bounds → IsRightReply p bounds reply → IsReply p now bounds reply more → AreUnderBounds p now → AreUnderBounds p (now ++ more)
+asked_under_bounds p now bounds (reply.Found d) more once right a h = found_behind p (IsUnderBounds p) now bounds more d (under_bounds p) once right.0 right.1 a h
+asked_under_bounds p now bounds reply.Refuted more once right a h = refuted_behind p (IsUnderBounds p) now bounds more a.0 (under_bounds p) once a.2 h
+asked_under_bounds p now bounds (reply.Stopped stop) more once right a h = stopped_behind p (IsUnderBounds p) now bounds more (under_bounds p) once a.0 h
 
 -- ---- the bounds of a criterion
 
@@ -101,11 +99,27 @@ bounds_placed : (p : Task) (order : List Criterion) (now : Lines) (c : Criterion
 bounds_placed p order now c k [] r h = subst (AreInTurn p order) (sym (append-nil now)) h
 bounds_placed p order now c k (x ∷ xs) r h =
     subst (AreInTurn p order) (append_assoc now (Bound c k x ∷ []) (bound_lines c (k + 1) xs))
-    (bounds_placed p order (now ++ Bound c k x ∷ []) c (k + 1) xs (reached_more p order now c (Bound c k x) (λ q. refl) r) (placed_more p order now (Bound c k x) h r))
+    (bounds_placed p order (now ++ Bound c k x ∷ []) c (k + 1) xs (reached_more p order now c (Bound c k x) (λ q. refl) r) (behind_more (IsPlaced p order) now (Bound c k x) h r))
 
 pub placed_built : (p : Task) (order : List Criterion) (now : Lines) (e : Problem) (first : ℕ) (c : Criterion) (n : ℕ) → IsReached p order now c → AreInTurn p order now → AreInTurn p order (now ++ sum_lines e first c n)
 placed_built p order now e first c zero r h = subst (AreInTurn p order) (sym (append-nil now)) h
 placed_built p order now e first c (suc n) r h =
     let clauses : Lines = map Formula (e.sum first c (suc n)) in
     subst (AreInTurn p order) (append_assoc now clauses (bound_lines c 1 (e.bounds first c (suc n))))
-    (bounds_placed p order (now ++ clauses) c 1 (e.bounds first c (suc n)) (reached_formulas p order now c (e.sum first c (suc n)) r) (formulas_placed p order now (e.sum first c (suc n)) h))
+    (bounds_placed p order (now ++ clauses) c 1 (e.bounds first c (suc n)) (reached_formulas p order now c (e.sum first c (suc n)) r) (behind_mapped (IsPlaced p order) Formula now (e.sum first c (suc n)) (λ before f. tt) h))
+
+-- in a search under bounds they may stand anywhere
+bounds_anywhere : (p : Task) (now : Lines) (c : Criterion) (k : ℕ) (xs : List Var) → AreUnderBounds p now → AreUnderBounds p (now ++ bound_lines c k xs)
+bounds_anywhere p now c k [] h = subst (AreUnderBounds p) (sym (append-nil now)) h
+bounds_anywhere p now c k (x ∷ xs) h =
+    subst (AreUnderBounds p) (append_assoc now (Bound c k x ∷ []) (bound_lines c (k + 1) xs)) (bounds_anywhere p (now ++ Bound c k x ∷ []) c (k + 1) xs (behind_more (IsUnderBounds p) now (Bound c k x) h tt))
+
+pub sums_under_bounds : (p : Task) (now : Lines) (e : Problem) (first : ℕ) (c : Criterion) (n : ℕ) → AreUnderBounds p now → AreUnderBounds p (now ++ sum_lines e first c n)
+sums_under_bounds p now e first c zero h = subst (AreUnderBounds p) (sym (append-nil now)) h
+sums_under_bounds p now e first c (suc n) h =
+    let clauses : Lines = map Formula (e.sum first c (suc n)) in
+    subst (AreUnderBounds p) (append_assoc now clauses (bound_lines c 1 (e.bounds first c (suc n))))
+    (bounds_anywhere p (now ++ clauses) c 1 (e.bounds first c (suc n)) (behind_mapped (IsUnderBounds p) Formula now (e.sum first c (suc n)) (λ before f. tt) h))
+
+pub first_under_bounds : (p : Task) → AreUnderBounds p (map Formula p.encoding.clauses)
+first_under_bounds p = behind_mapped (IsUnderBounds p) Formula [] p.encoding.clauses (λ before c. tt) (behind_none (IsUnderBounds p))

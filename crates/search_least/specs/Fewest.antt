@@ -1,19 +1,19 @@
 -- What the outcome of a search for the least count says.
 use Rattle.std.specs.Prelude.{◌≡◌, ◌≤◌, ⊤, ℕ, List, [], All, Contains, map, flat_map, length}
-use Rattle.std.specs.Prelude.{MatchOption, Option, Some}
+use Rattle.std.specs.Prelude.{MatchOption, Option, None, Some}
 use Rattle.plan_core.specs.Drawing.{Drawing}
 use Rattle.cnf_core.specs.Lit.{Literal}
 use Rattle.cnf_core.specs.Clause.{words_of}
 use Rattle.refute_log.specs.declared.line.LogLine.TheVariants.{Formula, Refuted, Model}
 use Rattle.refute_log.specs.Lines.{MayAllBeTold}
 use Rattle.refute_log.specs.Told.{Lines}
-use Rattle.refute_log.specs.Log.{added, learnt, facts_of, Derives, Due, clause_lines}
+use Rattle.refute_log.specs.Log.{added, learnt, Derives, Due, clause_lines}
 use Rattle.refute_log.specs.declared.stop.Stop.{Stop}
 use Rattle.refute_log.specs.declared.stop.Stop.TheVariants.{BudgetSpent, RoomFull}
 use Rattle.search_least.specs.declared.fewest.Fewest.{Fewest}
 use Rattle.search_least.specs.declared.fewest.Fewest.TheVariants.{Best, NoDrawing, Spent, Room}
 use Rattle.search_least.specs.CountTask.{CountTask, IsOne}
-use Rattle.search_least.specs.CountAsked.{query_of}
+use Rattle.search_least.specs.CountPlaced.{AsksFor, AreCountsAsked}
 use Rattle.refute_log.specs.Cause.{IsCause}
 
 -- what it says of drawings
@@ -29,16 +29,13 @@ pub record RefutesFewer (p : CountTask) (lines : Lines) (n : ℕ) : Type 0 where
   pub among : Contains lines (Refuted clause)
   pub each : All (λ l. l ≡ p.at_least n) clause
 
--- the latest query asks for less than the drawing's count
-abbrev pub AsksBelow : CountTask → Drawing → Lines → Type 0
-AsksBelow p d lines = (facts_of lines).query ≡ Some (query_of p (Some (p.count d)))
-
 -- where a search stopped: nothing was refuted; with a drawing its count is positive and the latest query asks for less,
--- so that no drawing found before it counts less; without one no model was found
+-- so that no drawing found before it counts less; without one no model was found and the latest query asks for any
 abbrev pub IsStoppedSearch : CountTask → Stop → Option Drawing → Lines → Type 0
 IsStoppedSearch p stop best lines = IsCause p.budget p.room stop lines
     × ((clause : List Literal) → Contains lines (Refuted clause) → ⊥)
-    × MatchOption best (Contains lines Model → ⊥) (λ d. (1 ≤ p.count d) × AsksBelow p d lines)
+    × MatchOption best ((Contains lines Model → ⊥) × AsksFor p None lines)
+    (λ d. (1 ≤ p.count d) × AsksFor p (Some (p.count d)) lines)
 
 -- the end of the lines: a Refuted line that leaves no count smaller than the drawing's, if that is
 -- positive; one without literals, where there is no drawing; or the search stopped for its cause, with
@@ -61,6 +58,7 @@ pub record IsFewestLog (p : CountTask) (outcome : Fewest) (lines : Lines) : Type
   pub told : clause_lines lines ≡ formula_lines p
   pub fits : words_of (flat_map added lines) ≤ p.room
   pub within : length (flat_map learnt lines) ≤ p.budget
+  pub placed : AreCountsAsked p lines
   pub end : IsEnd p outcome lines
 
 abbrev pub stopped_with : Stop → Option Drawing → Fewest

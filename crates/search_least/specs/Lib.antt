@@ -8,5 +8,6 @@ pub mod State
 pub mod Outcome
 pub mod CountTask
 pub mod CountAsked
+pub mod CountPlaced
 pub mod Fewest
 pub mod Run

@@ -34,15 +34,25 @@ pub record IsReached (p : Task) (order : List Criterion) (before : Lines) (c : C
   pub met : IsMet before (values_of drawing)
   pub certified : Certifies (greatest_of p) before order (values_of drawing) place
 
--- the line may stand behind these: a Query line is a question, a Model line an answer, and a criterion's bounds are
--- told once it is reached
+-- each line is so behind those before it
+abbrev pub EachBehind : (Lines → LogLine → Type 0) → Lines → Type 0
+EachBehind IsSo lines = (i : ℕ) (line : LogLine) → slice_get lines i ≡ Some line → IsSo (take i lines) line
+
+-- the line may stand behind these in a search under bounds: a Query line is a question, a Model line an answer
+abbrev pub IsUnderBounds : Task → Lines → LogLine → Type 0
+IsUnderBounds p before (Query query) = IsQuestion before query
+IsUnderBounds p before Model = HasAnswer p before
+IsUnderBounds p before line = ⊤
+
+-- each line is so behind those before it, as a search under bounds tells it
+abbrev pub AreUnderBounds : Task → Lines → Type 0
+AreUnderBounds p lines = EachBehind (IsUnderBounds p) lines
+
+-- the same in a search for least values, and a criterion's bounds are told once it is reached
 abbrev pub IsPlaced : Task → List Criterion → Lines → LogLine → Type 0
-IsPlaced p order before (Query query) = IsQuestion before query
-IsPlaced p order before Model = HasAnswer p before
 IsPlaced p order before (Bound c k x) = IsReached p order before c
-IsPlaced p order before line = ⊤
+IsPlaced p order before line = IsUnderBounds p before line
 
 -- each line stands so behind those before it
 abbrev pub AreInTurn : Task → List Criterion → Lines → Type 0
-AreInTurn p order lines = (i : ℕ) (line : LogLine) → slice_get lines i ≡ Some line →
-    IsPlaced p order (take i lines) line
+AreInTurn p order lines = EachBehind (IsPlaced p order) lines

@@ -1,7 +1,7 @@
 // The search for the least count.
-ghost use Rattle.std.specs.Prelude.{◌≡◌, ◌≤◌, ◌++◌, IfOk, IsErrOf};
+ghost use Rattle.std.specs.Prelude.{◌≡◌, ◌≤◌, ◌++◌, [], IfOk, OnErr, IsErrOf};
 ghost use Rattle.outside_io.specs.Counts.{Rose};
-ghost use Rattle.refute_log.specs.Steps.{ToldBehind, Continues, KnowsSome};
+ghost use Rattle.refute_log.specs.Steps.{ToldBehind, Continues, KnowsSome, Leaves};
 ghost use Rattle.search_least.specs.Fewest.{IsRightFewest, IsFewestLog, formula_lines};
 ghost use Rattle.search_least.specs.CountTask.{IsOne};
 ghost use Rattle.search_least.specs.Run.{IsRunOfDrawings, IsRunToEnd};
@@ -19,6 +19,7 @@ fn lower<Q: CountOracle>(questions: &mut Q, first: Drawing) -> Result<Fewest, Mi
     ensures right { IfOk result (IsRightFewest (Q.task questions.old)) }
     ensures lines { IfOk result (λ r. Continues Q.knows Q.log Q.learnt questions.old questions.new
         (IsRunToEnd (Q.task questions.old) r)) }
+    ensures leaves { OnErr result (Leaves [] (Q.knows questions.old) (Q.log questions.old) (Q.log questions.new)) }
     ensures later { Q.is_later questions.old questions.new }
     ensures faults { Q.faults questions.old ≤ Q.faults questions.new }
     ensures cause { IsErrOf result MinFault.Log → Rose (Q.faults questions.old) (Q.faults questions.new) }
@@ -44,7 +45,8 @@ fn lower<Q: CountOracle>(questions: &mut Q, first: Drawing) -> Result<Fewest, Mi
 
 /// A drawing with the least count, or as far as the search comes: it asks for any drawing, and then for a smaller count
 /// until there is none. What the outcome says of drawings holds with every log; and so many lines were told behind the
-/// formula that they and these are those of a search with this outcome.
+/// formula that they and these are those of a search with this outcome. After an error a log that told what is known
+/// derives, and has no further Formula line.
 pub fn least_count<Q: CountOracle>(questions: &mut Q) -> Result<Fewest, MinFault>
     requires ready { Q.ready questions.old }
     requires start { Q.knows questions.old (formula_lines (Q.task questions.old)) }
@@ -52,6 +54,7 @@ pub fn least_count<Q: CountOracle>(questions: &mut Q) -> Result<Fewest, MinFault
     ensures lines { IfOk result (λ r. let s = questions.old in let n = questions.new in let p = Q.task s in
         ToldBehind (Q.knows n) (Q.log s) (Q.log n) (Q.learnt s) (Q.learnt n) (formula_lines p)
         (λ more. IsFewestLog p r (formula_lines p ++ more))) }
+    ensures leaves { OnErr result (Leaves [] (Q.knows questions.old) (Q.log questions.old) (Q.log questions.new)) }
     ensures task { Q.task questions.new ≡ Q.task questions.old }
     ensures later { Q.is_later questions.old questions.new }
     ensures faults { Q.faults questions.old ≤ Q.faults questions.new }

@@ -1,12 +1,12 @@
 // What is asked: a formula's clauses, a solver and a log, as one thing.
-ghost use Rattle.std.specs.Prelude.{◌≡◌, ◌≤◌, ⊤, ℕ, OnOk, IfOk, IsErrOf, MatchOption, flat_map, length};
+ghost use Rattle.std.specs.Prelude.{◌≡◌, ◌≤◌, ⊤, ℕ, [], OnOk, OnErr, IfOk, IsErrOf, MatchOption, flat_map, length};
 ghost use Rattle.outside_io.specs.Counts.{Rose};
 ghost use Rattle.plan_core.specs.Drawing.{Drawing as PlainDrawing};
 ghost use Rattle.cnf_core.specs.Clause.{words_of};
 ghost use Rattle.refute_log.specs.Lines.{MayAllBeTold};
 ghost use Rattle.refute_log.specs.Told.{Lines};
 ghost use Rattle.refute_log.specs.Log.{added, learnt as learnt_of, Derives, Due};
-ghost use Rattle.refute_log.specs.Steps.{Continues};
+ghost use Rattle.refute_log.specs.Steps.{Continues, Leaves};
 ghost use Rattle.search_least.specs.CountTask.{CountTask, IsOne, CoversCounts};
 ghost use Rattle.search_least.specs.CountAsked.{IsAnswer, IsRightAnswer};
 
@@ -62,6 +62,7 @@ pub trait CountOracle {
         ensures right { IfOk result (IsRightAnswer (task self.old) limit) }
         ensures lines { IfOk result (λ r. Continues knows log learnt self.old self.new (λ lines more.
             IsAnswer (task self.old) lines limit r more)) }
+        ensures leaves { OnErr result (Leaves [] (knows self.old) (log self.old) (log self.new)) }
         ensures ready { OnOk result (ready self.new) }
         ensures task { task self.new ≡ task self.old }
         ensures later { is_later self.old self.new }

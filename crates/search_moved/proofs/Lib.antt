@@ -1,4 +1,5 @@
 pub mod TellLemmas
 pub mod MovedLemmas
 pub mod StartLemmas
+pub mod LeftLemmas
 pub mod MovedDrawingLemmas

@@ -171,7 +171,7 @@ facts e former station size whole same =
       named = λ j from to. moved_is_named g (is_above o) (is_overlap o) e.grid former j from to;
     }
 
-both_are : (e : Encoding) (former : Former) (room : ℕ) (a f : Cnf) → IsWhole e → e.bounds ≡ [] → a ≡ e.formula → IsCounting (layout_of e) former room f → a.clauses ++ f.clauses ≡ formula_of (layout_of e) former
+pub both_are : (e : Encoding) (former : Former) (room : ℕ) (a f : Cnf) → IsWhole e → e.bounds ≡ [] → a ≡ e.formula → IsCounting (layout_of e) former room f → a.clauses ++ f.clauses ≡ formula_of (layout_of e) former
 both_are e former room a f whole none is counting =
     ap (λ (cs : Clauses). cs ++ f.clauses) (ap (λ (x : Cnf). x.clauses) is ∙ drawings_are e whole none) ∙ ap (λ (cs : Clauses). drawing_clauses e ++ cs) counting.clauses
 

@@ -1,10 +1,12 @@
 -- How the search for the fewest moved nodes ends.
-use Rattle.std.specs.Prelude.{◌≡◌, ◌<◌, ◌≤◌, ◌⊎◌, ℕ, List, [], None}
+use Rattle.std.specs.Prelude.{◌≡◌, ◌<◌, ◌≤◌, ◌⊎◌, ℕ, List, [], map, None}
 use Rattle.cnf_core.specs.declared.limits.TheConstants.{VARS}
 use Rattle.cnf_core.specs.Clause.{Clauses, words_of}
 use Rattle.cnf_core.specs.Formula.{Cnf}
 use Rattle.track_order.specs.Order.{is_above, is_overlap}
+use Rattle.refute_log.specs.declared.line.LogLine.TheVariants.{Formula}
 use Rattle.refute_log.specs.Told.{Lines}
+use Rattle.refute_log.specs.Log.{Derives, BeginsLines, clause_lines}
 use Rattle.edge_shape.specs.declared.edge_vars.NodeVars.{NodeVars}
 use Rattle.drawing_cnf.specs.Encoding.{Encoding, encoded_vars}
 use Rattle.drawing_cnf.specs.Expected.{drawing_vars, formula_size}
@@ -30,6 +32,11 @@ abbrev pub IsMovedEnd : Layout → Former → (budget room : ℕ) → Fewest →
 IsMovedEnd y former budget room o lines =
     IsFewestLog (moved_task y former budget room) o lines
     ⊎ ((o ≡ Room None) × (lines ≡ []) × FormulaPasses y former room)
+
+-- the lines of a search that ended with an error
+pub record IsMovedLeft (y : Layout) (former : Former) (lines : Lines) : Type 0 where
+  pub derives : Derives lines
+  pub begins : BeginsLines (clause_lines lines) (map Formula (formula_of y former))
 
 -- the list has each node's integers
 abbrev pub AreNodes : Encoding → List NodeVars → ℕ → Type 0

@@ -1,11 +1,11 @@
 // One question about moved nodes.
-ghost use Rattle.std.specs.Prelude.{◌≡◌, ◌≤◌, ◌+◌, ⊤, IfOk, OnOk, IsErrOf, MatchOption};
+ghost use Rattle.std.specs.Prelude.{◌≡◌, ◌≤◌, ◌+◌, ⊤, [], IfOk, OnOk, OnErr, IsErrOf, MatchOption};
 ghost use Rattle.outside_io.specs.Counts.{Rose};
 ghost use Rattle.cnf_core.specs.declared.limits.TheConstants.{VARS};
 ghost use Rattle.cdcl_core.specs.Kept.{IsTrueAnswer};
 ghost use Rattle.drawing_cnf.specs.Moved.{matched};
 ghost use Rattle.search_least.specs.CountAsked.{query_of, IsAnswer, IsRightAnswer};
-ghost use Rattle.refute_log.specs.Steps.{GoesOn};
+ghost use Rattle.refute_log.specs.Steps.{GoesOn, Leaves};
 ghost use Rattle.search_moved.specs.Known.{TellsAnswer};
 ghost use Rattle.search_moved.specs.Query.{query_at, IsAnswerOf};
 ghost use Rattle.search_moved.specs.Search.{task_with, formula_with, IsReadyWith, KnowsWith};
@@ -61,6 +61,7 @@ fn query<L: LogSink>(
     ensures lines { IfOk result
         (λ a. GoesOn (KnowsWith known.now solver.old) (KnowsWith known.now solver.new) (L.tells log.old) (L.tells
         log.new) (L.learnt log.old) (L.learnt log.new) (λ ls m. TellsAnswer (task_with known.now) ls limit a m)) }
+    ensures leaves { OnErr result (Leaves [] (KnowsWith known.now solver.old) (L.tells log.old) (L.tells log.new)) }
     ensures later { L.is_later log.old log.new }
     ensures faults { L.faults log.old ≤ L.faults log.new }
     ensures cause { IsErrOf result MinFault.Log → Rose (L.faults log.old) (L.faults log.new) }
@@ -119,6 +120,7 @@ pub(crate) fn ask<L: LogSink>(
     ensures lines { IfOk result
         (λ r. GoesOn (KnowsWith known.now solver.old) (KnowsWith known.now solver.new) (L.tells log.old)
         (L.tells log.new) (L.learnt log.old) (L.learnt log.new) (λ ls m. IsAnswer (task_with known.now) ls limit r m)) }
+    ensures leaves { OnErr result (Leaves [] (KnowsWith known.now solver.old) (L.tells log.old) (L.tells log.new)) }
     ensures later { L.is_later log.old log.new }
     ensures faults { L.faults log.old ≤ L.faults log.new }
     ensures cause { IsErrOf result MinFault.Log → Rose (L.faults log.old) (L.faults log.new) }

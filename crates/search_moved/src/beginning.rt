@@ -1,17 +1,18 @@
 // The whole search for the fewest moved nodes.
-ghost use Rattle.std.specs.Prelude.{◌≡◌, ◌≤◌, ◌++◌, [], length, IfOk, IsErrOf};
+ghost use Rattle.std.specs.Prelude.{◌≡◌, ◌≤◌, ◌++◌, [], length, IfOk, OnErr, IsErrOf};
 ghost use Rattle.outside_io.specs.Counts.{Rose};
 ghost use Rattle.cnf_core.specs.declared.limits.TheConstants.{ROOM};
-ghost use Rattle.track_order.specs.Order.{IsOrderOf};
+ghost use Rattle.track_order.specs.Order.{is_above, is_overlap, IsOrderOf};
 ghost use Rattle.refute_log.specs.Told.{Lines};
 ghost use Rattle.refute_log.specs.ToldTo.{told_to};
 ghost use Rattle.cdcl_core.specs.Kept.{blank};
-ghost use Rattle.refute_log.specs.Steps.{ToldBehind};
+ghost use Rattle.refute_log.specs.Steps.{ToldBehind, Leaves};
 ghost use Rattle.drawing_cnf.specs.Layout.{layout};
 ghost use Rattle.search_least.specs.Fewest.{IsRightFewest, IsFewestLog, formula_lines};
 ghost use Rattle.search_moved.specs.Known.{moved_task};
 ghost use Rattle.lex_minimise.specs.Told.{IsLogOfSolver};
-ghost use Rattle.search_moved.specs.Told.{IsMovedEnd};
+ghost use Rattle.search_moved.specs.MovedFormula.{SoundMoved, CoversMoved};
+ghost use Rattle.search_moved.specs.Told.{IsMovedEnd, IsMovedLeft};
 ghost use Rattle.search_moved.specs.Search.{task_with, IsReadyWith, KnowsWith};
 
 use crate::asking::MovedKnown;
@@ -42,6 +43,7 @@ fn search_from<L: LogSink>(
     ensures lines { let p = task_with known.now in IfOk result (λ o. ToldBehind (IsLogOfSolver solver.new)
         (L.tells log.old) (L.tells log.new) (L.learnt log.old) (L.learnt log.new) (formula_lines p)
         (λ more. IsFewestLog p o (formula_lines p ++ more))) }
+    ensures leaves { OnErr result (Leaves [] (KnowsWith known.now solver.old) (L.tells log.old) (L.tells log.new)) }
     ensures later { L.is_later log.old log.new }
     ensures faults { L.faults log.old ≤ L.faults log.new }
     ensures cause { IsErrOf result MinFault.Log → Rose (L.faults log.old) (L.faults log.new) }
@@ -70,6 +72,8 @@ fn fewest_with<L: LogSink>(
         (IsRightFewest (moved_task (layout g.now t.now grid.now) former.now limits.now.budget limits.now.room)) }
     ensures lines { IfOk result (λ o. (lines : Lines) × told_to L.tells L.learnt log.old log.new lines
         × IsMovedEnd (layout g.now t.now grid.now) former.now limits.now.budget limits.now.room o lines) }
+    ensures left { OnErr result (L.tells log.old [] → (lines : Lines) → L.tells log.new lines →
+        IsMovedLeft (layout g.now t.now grid.now) former.now lines) }
     ensures later { L.is_later log.old log.new }
     ensures faults { L.faults log.old ≤ L.faults log.new }
     ensures cause { IsErrOf result MinFault.Log → Rose (L.faults log.old) (L.faults log.new) }
@@ -103,6 +107,10 @@ fn fewest_with<L: LogSink>(
 /// nothing is told. Else its clauses are told, the questions, what is learnt, and the answers. `Spent` comes where as
 /// many clauses were learnt as the budget allows, `Room` where what comes next has no room: too many words or
 /// variables.
+///
+/// The formula is what it is to be, both ways: each assignment that satisfies it stands for a lawful drawing and tells
+/// how many of its nodes moved, and each lawful drawing has such an assignment. After an error a log that had no line
+/// derives, and its Formula lines are the first of the formula's.
 pub fn fewest_moved<L: LogSink>(
     alloc: Global,
     g: &PortGraph,
@@ -119,10 +127,16 @@ pub fn fewest_moved<L: LogSink>(
         (IsRightFewest (moved_task (layout g.now t.now grid.now) former.now limits.now.budget limits.now.room)) }
     ensures lines { IfOk result (λ o. (lines : Lines) × told_to L.tells L.learnt log.old log.new lines
         × IsMovedEnd (layout g.now t.now grid.now) former.now limits.now.budget limits.now.room o lines) }
+    ensures sound { SoundMoved g.now (is_above t.now) (is_overlap t.now) grid.now former.now }
+    ensures covers { CoversMoved g.now (is_above t.now) (is_overlap t.now) grid.now former.now }
+    ensures left { OnErr result (L.tells log.old [] → (lines : Lines) → L.tells log.new lines →
+        IsMovedLeft (layout g.now t.now grid.now) former.now lines) }
     ensures later { L.is_later log.old log.new }
     ensures faults { L.faults log.old ≤ L.faults log.new }
     ensures cause { IsErrOf result MinFault.Log → Rose (L.faults log.old) (L.faults log.new) }
 {
+    // what the types keep
+    let _ = (g.nodes(), grid.width());
     let mut solver = Solver::new(alloc, limits.room)?;
     fewest_with(alloc, g, t, grid, former, limits, &mut solver, log)
 }

@@ -1,24 +1,15 @@
 // Laws of the formula with moved nodes. The function does nothing: its contract is the law.
-ghost use Rattle.std.specs.Prelude.{◌≡◌, ◌≤◌, ◌+◌, ◌*◌, ℕ, Bool, length};
-ghost use Rattle.plan_core.specs.Grid.{GridSize, IsGrid};
+ghost use Rattle.std.specs.Prelude.{◌≤◌, ◌+◌, ◌*◌, ℕ, Bool, length};
+ghost use Rattle.plan_core.specs.Grid.{GridSize};
 ghost use Rattle.plan_core.specs.Graph.{Graph};
-ghost use Rattle.port_graph.specs.StationGraph.{IsStationGraph};
 ghost use Rattle.cnf_core.specs.Clause.{IsNamed, words_of};
-ghost use Rattle.track_order.specs.Order.{EdgeOrder, is_above, is_overlap, IsOrderOf};
+ghost use Rattle.track_order.specs.Order.{EdgeOrder, is_above, is_overlap};
 ghost use Rattle.drawing_cnf.specs.Expected.{formula_clauses, formula_size};
 ghost use Rattle.drawing_cnf.specs.Moved.{Former, matched};
-ghost use Rattle.search_moved.specs.MovedFormula.{moved_formula, moved_size, moved_variable, SoundMoved, CoversMoved};
+ghost use Rattle.search_moved.specs.MovedFormula.{moved_formula, moved_size, moved_variable};
 
-/// Each assignment that satisfies the clauses stands for a lawful drawing and tells how many nodes moved, and each
-/// lawful drawing has such an assignment. Each variable "at least j moved" stands in a clause. Counting adds few words
-/// and few variables.
-pub fn moved_formula_stands_for_drawings()
-    ensures sound { (g : Graph) (o : EdgeOrder) (grid : GridSize) (former : Former) →
-        IsStationGraph g → IsOrderOf g o → IsGrid grid → length former ≡ length g.nodes →
-        SoundMoved g (is_above o) (is_overlap o) grid former }
-    ensures covers { (g : Graph) (o : EdgeOrder) (grid : GridSize) (former : Former) →
-        IsStationGraph g → IsOrderOf g o → IsGrid grid → length former ≡ length g.nodes →
-        CoversMoved g (is_above o) (is_overlap o) grid former }
+/// Each variable "at least j moved" stands in a clause. Counting adds few words and few variables.
+pub fn moved_formula_is_small()
     ensures named { (g : Graph) (o : EdgeOrder) (grid : GridSize) (former : Former) (j : ℕ) →
         1 ≤ j → j ≤ matched former →
         IsNamed (moved_formula g (is_above o) (is_overlap o) grid former)

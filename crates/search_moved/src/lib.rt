@@ -8,8 +8,8 @@
 //! `specs/Told` how the search ends.
 //!
 //! `specs/MovedFormula` has the whole clause list: each assignment that satisfies it is a lawful drawing, each lawful
-//! drawing has one, and in both "at least j moved" is true exactly where at least j nodes did; `laws` says that it is
-//! so. The command `redraw` uses this crate.
+//! drawing has one, and in both "at least j moved" is true exactly where at least j nodes did; `fewest_moved` promises
+//! it, and `laws` says how large it is. The command `redraw` uses this crate.
 #![tactic(auto)]
 
 mod asking;
@@ -23,5 +23,5 @@ mod telling;
 
 pub use beginning::fewest_moved;
 pub use counted::count_moved;
-pub use laws::moved_formula_stands_for_drawings;
+pub use laws::moved_formula_is_small;
 pub use search_least::Fewest;

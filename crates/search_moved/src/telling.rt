@@ -1,9 +1,9 @@
 // The clauses of two formulas, told one after another.
-ghost use Rattle.std.specs.Prelude.{◌≡◌, ◌≤◌, ◌+◌, ◌-◌, ◌++◌, false, OnOk, IsErrOf, map};
+ghost use Rattle.std.specs.Prelude.{◌≡◌, ◌≤◌, ◌+◌, ◌-◌, ◌++◌, false, OnOk, OnErr, IsErrOf, map};
 ghost use Rattle.outside_io.specs.Counts.{Rose};
 ghost use Rattle.cnf_core.specs.Clause.{words_of};
 ghost use Rattle.refute_log.specs.declared.line.LogLine.TheVariants.{Formula as FormulaLine};
-ghost use Rattle.refute_log.specs.Steps.{GoesOn};
+ghost use Rattle.refute_log.specs.Steps.{GoesOn, Leaves};
 ghost use Rattle.cdcl_core.specs.Kept.{with_more_vars};
 ghost use Rattle.cdcl_core.specs.Belongs.{Belongs};
 ghost use Rattle.lex_minimise.specs.Told.{HasTaken};
@@ -31,6 +31,8 @@ pub(crate) fn tell_both<L: LogSink>(
     ensures lines { OnOk result
         (GoesOn (λ ls. Belongs ls solver.old) (λ ls. Belongs ls solver.new) (L.tells log.old) (L.tells log.new)
         (L.learnt log.old) (L.learnt log.new) (λ ls m. m ≡ map FormulaLine (first.now.clauses ++ second.now.clauses))) }
+    ensures leaves { OnErr result (Leaves (map FormulaLine (first.now.clauses ++ second.now.clauses))
+        (λ ls. Belongs ls solver.old) (L.tells log.old) (L.tells log.new)) }
     ensures later { L.is_later log.old log.new }
     ensures faults { L.faults log.old ≤ L.faults log.new }
     ensures cause { IsErrOf result MinFault.Log → Rose (L.faults log.old) (L.faults log.new) }

@@ -1,6 +1,6 @@
 -- What answers to questions say, and what questions tell.
-use Rattle.std.proofs.Common.{◌≡◌, ◌≢◌, ℕ, ◌<◌, ◌≤◌, ◌⊎◌, List, [], ◌∷◌, ◌++◌, refl, sym, subst, inl, inr, arith, append_assoc}
-use Rattle.std.specs.Prelude.{Any, Contains, Some, None, Option}
+use Rattle.std.proofs.Common.{◌≡◌, ◌≢◌, ℕ, ◌<◌, ◌≤◌, ◌⊎◌, List, [], ◌∷◌, ◌++◌, refl, sym, subst, inl, inr, arith, append-nil, append_assoc}
+use Rattle.std.specs.Prelude.{Any, Contains, Some, None, Option, MatchOption, ⊤}
 use Rattle.std.proofs.lemmas.List.Elements.{All-push, All-contains, Contains-append_left, All-contains_itself, All-weaker}
 use Rattle.std.proofs.lemmas.List.Quantifiers.{all_pairs_push}
 use Rattle.plan_core.specs.declared.criterion.Criterion.{Criterion}
@@ -8,9 +8,10 @@ use Rattle.plan_core.specs.Values.{values_of, value_of}
 use Rattle.plan_core.specs.Drawing.{Drawing}
 use Rattle.cnf_core.specs.Lit.{Literal}
 use Rattle.cnf_core.proofs.QuantifierLemmas.{some_from_satisfies}
-use Rattle.refute_log.specs.declared.line.LogLine.TheVariants.{Bound, Refuted as RefutedLine, Model}
+use Rattle.refute_log.specs.declared.line.LogLine.TheVariants.{Refuted as RefutedLine, Model}
 use Rattle.refute_log.specs.Told.{Lines}
-use Rattle.refute_log.specs.Log.{Derives}
+use Rattle.refute_log.specs.Cause.{IsCause}
+use Rattle.refute_log.specs.Log.{Derives, clause_lines}
 use Rattle.refute_log.specs.Bounds.{SaysAtLeast, MeetsLog, CoversDrawings}
 use Rattle.refute_log.proofs.CertifiedLemmas.{refuted_holds, reached, says_more}
 use Rattle.search_least.specs.declared.oracle.Below.{Below}
@@ -19,11 +20,12 @@ use Rattle.search_least.specs.declared.oracle.Reply.TheVariants.{Found, Refuted,
 use Rattle.refute_log.specs.declared.stop.Stop.{Stop}
 use Rattle.search_least.specs.Task.{Task, IsLawful, greatest_of}
 use Rattle.refute_log.specs.Steps.{ToldBehind, Continues, KnowsSome}
-use Rattle.refute_log.specs.Cause.{IsCause}
 use Rattle.search_least.specs.Asked.{below_limit, AreMet, AreOnce, AreAgainst, IsReply, IsRightReply}
 use Rattle.refute_log.proofs.StepLemmas.{stays, goes_on, becomes}
 use Rattle.search_least.proofs.QuestionLemmas.{ends_in, no_clauses_both, asks_no_clauses}
 use Rattle.search_least.proofs.RunLemmas.{Laws}
+use Rattle.search_least.specs.Placed.{AreUnderBounds}
+use Rattle.search_least.proofs.PlacedLemmas.{asked_under_bounds}
 use Rattle.trade_off.specs.Least.{IsLeastUnder, NoneMeets, AreBeside, AreAsked}
 
 pub less_or_more : (i j : ℕ) → (i ≤ j) ⊎ (j < i)
@@ -81,11 +83,12 @@ once_with held bounds c u is h = subst AreOnce (sym is) (all_pairs_push (λ (x y
 -- ---- what a run of questions tells
 
 pub asked_none : {S : Type 0} (knows log : S → Lines → Type 0) (count : S → ℕ) (s : S) (p : Task) → Continues knows log count s s (AreAsked p None)
-asked_none knows log count s p = stays knows log count s (AreAsked p None) (λ lines k. refl)
+asked_none knows log count s p = stays knows log count s (AreAsked p None) (λ lines k. record { none = refl; placed = subst (AreUnderBounds p) (sym (append-nil lines)); cause = tt })
 
 asked_both : (p : Task) (stop : Option Stop) (lines xs ys : Lines) → AreAsked p None lines xs → AreAsked p stop (lines ++ xs) ys → AreAsked p stop lines (xs ++ ys)
-asked_both p None lines xs ys f g = no_clauses_both xs ys f g
-asked_both p (Some stop) lines xs ys f g = (no_clauses_both xs ys f g.0, subst (IsCause p.budget p.room stop) (append_assoc lines xs ys) g.1)
+asked_both p stop lines xs ys f g =
+    let same : (lines ++ xs) ++ ys ≡ lines ++ (xs ++ ys) = append_assoc lines xs ys in
+    record { none = no_clauses_both xs ys f.none g.none; placed = λ h. subst (AreUnderBounds p) same (g.placed (f.placed h)); cause = subst (λ (ls : Lines). MatchOption stop ⊤ (λ s. IsCause p.budget p.room s ls)) same g.cause }
 
 pub asked_then : {S : Type 0} (knows log : S → Lines → Type 0) (count : S → ℕ) (a b e : S) (q p : Task) (stop : Option Stop) → q ≡ p →
     Continues knows log count a b (AreAsked p None) → Continues knows log count b e (AreAsked q stop) → Continues knows log count a e (AreAsked p stop)
@@ -93,31 +96,44 @@ asked_then knows log count a b e q p stop same f g =
     goes_on knows log count a b e (AreAsked p None) (AreAsked p stop) (AreAsked p stop) f (subst (λ (x : Task). Continues knows log count b e (AreAsked x stop)) same g)
     (λ lines xs ys ka kb ke h k. asked_both p stop lines xs ys h k)
 
--- one question
+-- ---- one question
+
+pub reply_clauses : (p : Task) (lines : Lines) (bounds : List Below) (reply : Reply) (more : Lines) → IsReply p lines bounds reply more → clause_lines more ≡ []
+reply_clauses p lines bounds (Found d) more h = asks_no_clauses lines bounds (Model ∷ []) more h refl
+reply_clauses p lines bounds Refuted more h = asks_no_clauses lines bounds (RefutedLine h.0 ∷ []) more h.2 refl
+reply_clauses p lines bounds (Stopped stop) more h = asks_no_clauses lines bounds [] more h.0 refl
+
 abbrev pub reply_stop : Reply → Option Stop
 reply_stop (Found d) = None
 reply_stop Refuted = None
 reply_stop (Stopped stop) = Some stop
 
-pub reply_asked : (p : Task) (lines : Lines) (bounds : List Below) (reply : Reply) (more : Lines) → IsReply p lines bounds reply more → AreAsked p (reply_stop reply) lines more
-reply_asked p lines bounds (Found d) more h = asks_no_clauses lines bounds (Model ∷ []) more h refl
-reply_asked p lines bounds Refuted more h = asks_no_clauses lines bounds (RefutedLine h.0 ∷ []) more h.2 refl
-reply_asked p lines bounds (Stopped stop) more h = (asks_no_clauses lines bounds [] more h.0 refl, h.1)
+reply_cause : (p : Task) (lines : Lines) (bounds : List Below) (reply : Reply) (more : Lines) → IsReply p lines bounds reply more → MatchOption (reply_stop reply) ⊤ (λ s. IsCause p.budget p.room s (lines ++ more))
+reply_cause p lines bounds (Found d) more h = tt
+reply_cause p lines bounds Refuted more h = tt
+reply_cause p lines bounds (Stopped stop) more h = h.1
 
-pub asks : {S : Type 0} (knows log : S → Lines → Type 0) (count : S → ℕ) (a e : S) (q p : Task) (bounds : List Below) (reply : Reply) → q ≡ p →
+-- its bounds are of different criteria, and its answer is right, of the task that has another name
+pub record IsOneAsked (q p : Task) (bounds : List Below) (reply : Reply) : Type 0 where
+  pub same : q ≡ p
+  pub once : AreOnce bounds
+  pub right : IsRightReply q bounds reply
+
+asks : {S : Type 0} (knows log : S → Lines → Type 0) (count : S → ℕ) (a e : S) (q p : Task) (bounds : List Below) (reply : Reply) → IsOneAsked q p bounds reply →
     Continues knows log count a e (λ lines more. IsReply q lines bounds reply more) → Continues knows log count a e (AreAsked p (reply_stop reply))
-asks knows log count a e q p bounds reply same asked =
-    subst (λ (x : Task). Continues knows log count a e (AreAsked x (reply_stop reply))) same
-    (becomes knows log count a e (λ lines more. IsReply q lines bounds reply more) (AreAsked q (reply_stop reply)) asked (λ lines xs ka ke h. reply_asked q lines bounds reply xs h))
+asks knows log count a e q p bounds reply one asked =
+    subst (λ (x : Task). Continues knows log count a e (AreAsked x (reply_stop reply))) one.same
+    (becomes knows log count a e (λ lines more. IsReply q lines bounds reply more) (AreAsked q (reply_stop reply)) asked
+    (λ lines xs ka ke h. record { none = reply_clauses q lines bounds reply xs h; placed = asked_under_bounds q lines bounds reply xs one.once one.right h; cause = reply_cause q lines bounds reply xs h }))
 
-pub asks_found : {S : Type 0} (knows log : S → Lines → Type 0) (count : S → ℕ) (a e : S) (q p : Task) (bounds : List Below) (reply : Reply) (d : Drawing) → q ≡ p → reply ≡ Found d →
+pub asks_found : {S : Type 0} (knows log : S → Lines → Type 0) (count : S → ℕ) (a e : S) (q p : Task) (bounds : List Below) (reply : Reply) (d : Drawing) → IsOneAsked q p bounds reply → reply ≡ Found d →
     Continues knows log count a e (λ lines more. IsReply q lines bounds reply more) → Continues knows log count a e (AreAsked p None)
-asks_found knows log count a e q p bounds reply d same was asked = subst (λ (r : Reply). Continues knows log count a e (AreAsked p (reply_stop r))) was (asks knows log count a e q p bounds reply same asked)
+asks_found knows log count a e q p bounds reply d one was asked = subst (λ (r : Reply). Continues knows log count a e (AreAsked p (reply_stop r))) was (asks knows log count a e q p bounds reply one asked)
 
-pub asks_refuted : {S : Type 0} (knows log : S → Lines → Type 0) (count : S → ℕ) (a e : S) (q p : Task) (bounds : List Below) (reply : Reply) → q ≡ p → reply ≡ Refuted →
+pub asks_refuted : {S : Type 0} (knows log : S → Lines → Type 0) (count : S → ℕ) (a e : S) (q p : Task) (bounds : List Below) (reply : Reply) → IsOneAsked q p bounds reply → reply ≡ Refuted →
     Continues knows log count a e (λ lines more. IsReply q lines bounds reply more) → Continues knows log count a e (AreAsked p None)
-asks_refuted knows log count a e q p bounds reply same was asked = subst (λ (r : Reply). Continues knows log count a e (AreAsked p (reply_stop r))) was (asks knows log count a e q p bounds reply same asked)
+asks_refuted knows log count a e q p bounds reply one was asked = subst (λ (r : Reply). Continues knows log count a e (AreAsked p (reply_stop r))) was (asks knows log count a e q p bounds reply one asked)
 
-pub asks_stopped : {S : Type 0} (knows log : S → Lines → Type 0) (count : S → ℕ) (a e : S) (q p : Task) (bounds : List Below) (reply : Reply) (stop : Stop) → q ≡ p → reply ≡ Stopped stop →
+pub asks_stopped : {S : Type 0} (knows log : S → Lines → Type 0) (count : S → ℕ) (a e : S) (q p : Task) (bounds : List Below) (reply : Reply) (stop : Stop) → IsOneAsked q p bounds reply → reply ≡ Stopped stop →
     Continues knows log count a e (λ lines more. IsReply q lines bounds reply more) → Continues knows log count a e (AreAsked p (Some stop))
-asks_stopped knows log count a e q p bounds reply stop same was asked = subst (λ (r : Reply). Continues knows log count a e (AreAsked p (reply_stop r))) was (asks knows log count a e q p bounds reply same asked)
+asks_stopped knows log count a e q p bounds reply stop one was asked = subst (λ (r : Reply). Continues knows log count a e (AreAsked p (reply_stop r))) was (asks knows log count a e q p bounds reply one asked)

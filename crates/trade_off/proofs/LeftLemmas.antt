@@ -1,6 +1,6 @@
 -- What a log tells after an error in a search for the front.
 use Rattle.std.proofs.Common.{◌≡◌, ℕ, ◌+◌, List, [], ◌∷◌, ◌++◌, refl, sym, ◌∙◌, ap, subst, append-nil, append_assoc}
-use Rattle.std.specs.Prelude.{Some, None, Option}
+use Rattle.std.specs.Prelude.{Option}
 use Rattle.plan_core.specs.declared.criterion.Criterion.{Criterion}
 use Rattle.refute_log.specs.Told.{Lines}
 use Rattle.refute_log.specs.Log.{Derives, clause_lines}
@@ -19,28 +19,23 @@ use Rattle.search_least.specs.Outcome.{first_lines}
 use Rattle.search_least.proofs.BuildLemmas.{formulas_are_clauses, sum_is_clauses}
 use Rattle.trade_off.specs.Least.{AreAsked}
 use Rattle.trade_off.specs.Outcome.{front_lines, IsFrontLeft, IsBuiltFront}
-use Rattle.trade_off.proofs.AskLemmas.{reply_stop, reply_asked}
+use Rattle.trade_off.proofs.AskLemmas.{reply_clauses}
 
 -- ---- questions tell no clauses
-
-pub asked_clauses : (p : Task) (stop : Option Stop) (lines more : Lines) → AreAsked p stop lines more → clause_lines more ≡ []
-asked_clauses p None lines more h = h
-asked_clauses p (Some stop) lines more h = h.0
 
 -- an error behind questions: in a later call, or in one that tells nothing
 pub asked_later : {S : Type 0} (knows log : S → Lines → Type 0) (count : S → ℕ) (a b e : S) (p : Task) (stop : Option Stop) →
     Continues knows log count a b (AreAsked p stop) → Leaves [] (knows b) (log b) (log e) → Leaves [] (knows a) (log a) (log e)
-asked_later knows log count a b e p stop run after = leaves_later knows log count a b e (AreAsked p stop) [] [] run (asked_clauses p stop) after
+asked_later knows log count a b e p stop run after = leaves_later knows log count a b e (AreAsked p stop) [] [] run (λ lines more h. h.none) after
 
 pub asked_here : {S : Type 0} (knows log : S → Lines → Type 0) (count : S → ℕ) (a b : S) (p : Task) (stop : Option Stop) →
     Continues knows log count a b (AreAsked p stop) → ((lines : Lines) → knows b lines → Derives lines) → ((x y : Lines) → log b x → log b y → x ≡ y) → Leaves [] (knows a) (log a) (log b)
-asked_here knows log count a b p stop run derives one = leaves_here knows log count a b (AreAsked p stop) run (asked_clauses p stop) derives one
+asked_here knows log count a b p stop run derives one = leaves_here knows log count a b (AreAsked p stop) run (λ lines more h. h.none) derives one
 
 pub replied_later : {S : Type 0} (knows log : S → Lines → Type 0) (count : S → ℕ) (a b e : S) (p : Task) (bounds : List Below) (reply : Reply) →
     Continues knows log count a b (λ lines more. IsReply p lines bounds reply more) → Leaves [] (knows b) (log b) (log e) → Leaves [] (knows a) (log a) (log e)
 replied_later knows log count a b e p bounds reply run after =
-    leaves_later knows log count a b e (λ lines more. IsReply p lines bounds reply more) [] [] run
-    (λ lines more h. asked_clauses p (reply_stop reply) lines more (reply_asked p lines bounds reply more h)) after
+    leaves_later knows log count a b e (λ lines more. IsReply p lines bounds reply more) [] [] run (λ lines more h. reply_clauses p lines bounds reply more h) after
 
 -- ---- the bounds of both criteria
 
@@ -83,7 +78,8 @@ pub collect_left : {S : Type 0} (knows log : S → Lines → Type 0) (count : S 
 collect_left knows log count s t e p a b r was known run h = λ told lines is.
     let first : ToldBehind (knows t) (log s) (log t) (count s) (count t) (first_lines p) (λ more. first_lines p ≡ first_lines p → IsBuiltFront p a b r (first_lines p ++ more)) = run (first_lines p) known in
     let now = first_lines p ++ first.more in
-    let whole : clause_lines now ≡ front_lines p a b = subst (λ (x : Built). IsBuiltFront p a b x now) was (first.does refl) in
+    let built : IsBuiltFront p a b AllOfThem now = subst (λ (x : Built). IsBuiltFront p a b x now) was (first.does refl) in
+    let whole : clause_lines now ≡ front_lines p a b = built.1 in
     let left = h now first.knows (first.told (first_lines p) told) lines is in
     let rest = left.begins.0 in
     record {

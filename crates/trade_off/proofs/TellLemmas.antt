@@ -24,6 +24,8 @@ use Rattle.refute_log.proofs.StepLemmas.{stays, goes_on, becomes, clause_lines_a
 use Rattle.search_least.proofs.BuildLemmas.{formulas_are_clauses, sum_is_clauses}
 use Rattle.trade_off.specs.declared.outcome.FrontEnd.{FrontEnd}
 use Rattle.trade_off.specs.declared.outcome.FrontEnd.TheVariants.{Whole, Empty, Conflicts, Room}
+use Rattle.search_least.specs.Placed.{AreUnderBounds}
+use Rattle.search_least.proofs.PlacedLemmas.{sums_under_bounds, first_under_bounds}
 use Rattle.trade_off.specs.Least.{AreAsked}
 use Rattle.trade_off.specs.Outcome.{front_lines, IsFrontCause, IsFrontLog, IsBuiltFront, stop_behind}
 
@@ -85,6 +87,13 @@ second_passes p a b lines is (inr h) =
     let one : clause_lines lines ++ second_sum p a b ≡ front_lines p a b = ap (λ (ls : Lines). ls ++ second_sum p a b) told ∙ append_assoc (first_lines p) (first_sum p a) (second_sum p a b) ∙ sym (front_is p a b) in
     inr (subst (λ (ls : Lines). p.room < words_of (flat_map given ls) + words_of (flat_map learnt lines)) one h)
 
+-- they may stand in a search under bounds
+first_placed : (p : Task) (a : Criterion) → AreUnderBounds p (first_lines p ++ first_sum p a)
+first_placed p a = sums_under_bounds p (first_lines p) p.encoding p.encoding.vars a (greatest_of p a) (first_under_bounds p)
+
+second_placed : (p : Task) (a b : Criterion) → AreUnderBounds p ((first_lines p ++ first_sum p a) ++ second_sum p a b)
+second_placed p a b = sums_under_bounds p (first_lines p ++ first_sum p a) p.encoding (second_vars p a) b (greatest_of p b) (first_placed p a)
+
 -- ---- both are told, or a front of them
 
 begins_first : (p : Task) (a b : Criterion) (lines : Lines) → lines ≡ first_lines p → BeginsLines (clause_lines lines) (front_lines p a b)
@@ -108,15 +117,17 @@ no_room_for_first knows log count s e p a b vars r was start goes =
     let got : (xs ≡ []) × SumPasses p p.encoding.vars a (greatest_of p a) lines = subst (λ v. IsBuild p v a (greatest_of p a) NoRoom lines xs) start (subst (λ (x : Built). IsBuild p vars a (greatest_of p a) x lines xs) was h) in
     let same : lines ++ xs ≡ lines = ap (λ (ls : Lines). lines ++ ls) got.0 ∙ append-nil lines in
     let whole : lines ++ xs ≡ first_lines p = same ∙ is in
-    (begins_first p a b (lines ++ xs) whole, first_passes p a b (lines ++ xs) whole (subst (SumPasses p p.encoding.vars a (greatest_of p a)) (sym same) got.1)))
+    (subst (AreUnderBounds p) (sym whole) (first_under_bounds p), begins_first p a b (lines ++ xs) whole, first_passes p a b (lines ++ xs) whole (subst (SumPasses p p.encoding.vars a (greatest_of p a)) (sym same) got.1)))
 
 second_built : (p : Task) (a b : Criterion) (r : Built) (lines xs ys : Lines) → lines ≡ first_lines p → xs ≡ first_sum p a → IsBuild p (second_vars p a) b (greatest_of p b) r (lines ++ xs) ys → IsBuiltFront p a b r (lines ++ (xs ++ ys))
 second_built p a b AllOfThem lines xs ys is one two =
-    ap clause_lines (ap (λ (ls : Lines). ls ++ (xs ++ ys)) is ∙ ap (λ (ls : Lines). first_lines p ++ (ls ++ ys)) one ∙ ap (λ (ls : Lines). first_lines p ++ (first_sum p a ++ ls)) two) ∙ told_both p a b
+    let whole : lines ++ (xs ++ ys) ≡ first_lines p ++ (first_sum p a ++ second_sum p a b) =
+    ap (λ (ls : Lines). ls ++ (xs ++ ys)) is ∙ ap (λ (ls : Lines). first_lines p ++ (ls ++ ys)) one ∙ ap (λ (ls : Lines). first_lines p ++ (first_sum p a ++ ls)) two in
+    (subst (AreUnderBounds p) (append_assoc (first_lines p) (first_sum p a) (second_sum p a b) ∙ sym whole) (second_placed p a b), ap clause_lines whole ∙ told_both p a b)
 second_built p a b NoRoom lines xs ys is one two =
     let same : lines ++ (xs ++ ys) ≡ lines ++ xs = ap (λ (ls : Lines). lines ++ (xs ++ ls)) two.0 ∙ ap (λ (ls : Lines). lines ++ ls) (append-nil xs) in
     let whole : lines ++ (xs ++ ys) ≡ first_lines p ++ first_sum p a = same ∙ ap (λ (ls : Lines). ls ++ xs) is ∙ ap (λ (ls : Lines). first_lines p ++ ls) one in
-    (begins_second p a b (lines ++ (xs ++ ys)) whole, second_passes p a b (lines ++ (xs ++ ys)) whole (subst (SumPasses p (second_vars p a) b (greatest_of p b)) (sym same) two.1))
+    (subst (AreUnderBounds p) (sym whole) (first_placed p a), begins_second p a b (lines ++ (xs ++ ys)) whole, second_passes p a b (lines ++ (xs ++ ys)) whole (subst (SumPasses p (second_vars p a) b (greatest_of p b)) (sym same) two.1))
 
 pub both_built : {S : Type 0} (knows log : S → Lines → Type 0) (count : S → ℕ) (s t e : S) (q p : Task) (a b : Criterion) (vars many : ℕ) (first r : Built) → q ≡ p → first ≡ AllOfThem → vars ≡ p.encoding.vars →
     many ≡ vars + sum_vars_of p.encoding vars a (greatest_of p a) →
@@ -148,8 +159,8 @@ pub laws_at : {S : Type 0} (knows : S → Lines → Type 0) (s : S) (q p : Task)
 laws_at knows s q p same laws = subst (FrontLaws knows s) same laws
 
 front_log : {S : Type 0} (knows : S → Lines → Type 0) (s : S) (p : Task) (a b : Criterion) (ending : FrontEnd) (lines : Lines) → FrontLaws knows s p → knows s lines → BeginsLines (clause_lines lines) (front_lines p a b) →
-    IsFrontCause p a b ending lines → IsFrontLog p a b ending lines
-front_log knows s p a b ending lines laws k begins cause = record {
+    AreUnderBounds p lines → IsFrontCause p a b ending lines → IsFrontLog p a b ending lines
+front_log knows s p a b ending lines laws k begins placed cause = record {
   formed = laws.formed lines k;
   derives = laws.derives lines k;
   due = laws.due lines k;
@@ -157,6 +168,7 @@ front_log knows s p a b ending lines laws k begins cause = record {
   begins = begins;
   fits = laws.fits lines k;
   within = laws.within lines k;
+  placed = placed;
   cause = cause;
 }
 
@@ -166,20 +178,16 @@ pub tells_no_room : {S : Type 0} (knows log : S → Lines → Type 0) (count : S
 tells_no_room knows log count s e p a b r was laws start goes =
     let t : ToldBehind (knows e) (log s) (log e) (count s) (count e) (first_lines p) (λ more. first_lines p ≡ first_lines p → IsBuiltFront p a b r (first_lines p ++ more)) = goes (first_lines p) start in
     let got : IsBuiltFront p a b NoRoom (first_lines p ++ t.more) = subst (λ (x : Built). IsBuiltFront p a b x (first_lines p ++ t.more)) was (t.does refl) in
-    record { more = t.more; knows = t.knows; told = t.told; counted = t.counted; does = front_log knows e p a b Room (first_lines p ++ t.more) laws t.knows got.0 (inl got.1) }
+    record { more = t.more; knows = t.knows; told = t.told; counted = t.counted; does = front_log knows e p a b Room (first_lines p ++ t.more) laws t.knows got.1 got.0 (inl got.2) }
 
 told_still : (p : Task) (stop : Option Stop) (lines xs ys : Lines) → AreAsked p stop (lines ++ xs) ys → clause_lines (lines ++ (xs ++ ys)) ≡ clause_lines (lines ++ xs)
-told_still p stop lines xs ys h = ap clause_lines (sym (append_assoc lines xs ys)) ∙ clause_lines_append (lines ++ xs) ys ∙ ap (λ (ls : Lines). clause_lines (lines ++ xs) ++ ls) (none stop h) ∙ append-nil (clause_lines (lines ++ xs))
-  where
-    none : (stop : Option Stop) → AreAsked p stop (lines ++ xs) ys → clause_lines ys ≡ []
-    none None h = h
-    none (Some stop) h = h.0
+told_still p stop lines xs ys h = ap clause_lines (sym (append_assoc lines xs ys)) ∙ clause_lines_append (lines ++ xs) ys ∙ ap (λ (ls : Lines). clause_lines (lines ++ xs) ++ ls) h.none ∙ append-nil (clause_lines (lines ++ xs))
 
 cause_of : (p : Task) (a b : Criterion) (ending : FrontEnd) (lines xs ys : Lines) → clause_lines (lines ++ xs) ≡ front_lines p a b → AreAsked p (stop_behind ending) (lines ++ xs) ys → IsFrontCause p a b ending (lines ++ (xs ++ ys))
 cause_of p a b Whole lines xs ys told h = told_still p None lines xs ys h ∙ told
 cause_of p a b Empty lines xs ys told h = told_still p None lines xs ys h ∙ told
-cause_of p a b Conflicts lines xs ys told h = subst (IsCause p.budget p.room BudgetSpent) (append_assoc lines xs ys) h.1
-cause_of p a b Room lines xs ys told h = inr (told_still p (Some RoomFull) lines xs ys h ∙ told, subst (IsCause p.budget p.room RoomFull) (append_assoc lines xs ys) h.1)
+cause_of p a b Conflicts lines xs ys told h = subst (IsCause p.budget p.room BudgetSpent) (append_assoc lines xs ys) h.cause
+cause_of p a b Room lines xs ys told h = inr (told_still p (Some RoomFull) lines xs ys h ∙ told, subst (IsCause p.budget p.room RoomFull) (append_assoc lines xs ys) h.cause)
 
 pub tells_front : {S : Type 0} (knows log : S → Lines → Type 0) (count : S → ℕ) (s t e : S) (q p : Task) (a b : Criterion) (r : Built) (ending : FrontEnd) → q ≡ p → r ≡ AllOfThem → FrontLaws knows e p → knows s (first_lines p) →
     Continues knows log count s t (λ lines more. lines ≡ first_lines p → IsBuiltFront p a b r (lines ++ more)) →
@@ -191,10 +199,11 @@ tells_front knows log count s t e q p a b r ending same was laws start f g =
     let both : Continues knows log count s e (λ lines more. lines ≡ from → IsFrontLog p a b ending (lines ++ more)) =
     goes_on knows log count s t e (λ lines more. lines ≡ from → IsBuiltFront p a b r (lines ++ more)) (AreAsked p (stop_behind ending)) (λ lines more. lines ≡ from → IsFrontLog p a b ending (lines ++ more)) f h
     (λ lines xs ys ks kt ke one two is.
-    let told : clause_lines (lines ++ xs) ≡ front_lines p a b = subst (λ (x : Built). IsBuiltFront p a b x (lines ++ xs)) was (one is) in
+    let built : IsBuiltFront p a b AllOfThem (lines ++ xs) = subst (λ (x : Built). IsBuiltFront p a b x (lines ++ xs)) was (one is) in
+    let told : clause_lines (lines ++ xs) ≡ front_lines p a b = built.1 in
     let whole : clause_lines (lines ++ (xs ++ ys)) ≡ front_lines p a b = told_still p (stop_behind ending) lines xs ys two ∙ told in
     front_log knows e p a b ending (lines ++ (xs ++ ys)) laws (subst (knows e) (append_assoc lines xs ys) ke)
-    ([], sym whole ∙ sym (append-nil (clause_lines (lines ++ (xs ++ ys)))))
+    ([], sym whole ∙ sym (append-nil (clause_lines (lines ++ (xs ++ ys))))) (subst (AreUnderBounds p) (append_assoc lines xs ys) (two.placed built.0))
     (cause_of p a b ending lines xs ys told two)) in
     let all : ToldBehind (knows e) (log s) (log e) (count s) (count e) from (λ more. from ≡ from → IsFrontLog p a b ending (from ++ more)) = both from start in
     record { more = all.more; knows = all.knows; told = all.told; counted = all.counted; does = all.does refl }

@@ -1,5 +1,5 @@
 -- The least value of one criterion among the drawings that meet some bounds.
-use Rattle.std.specs.Prelude.{◌≡◌, ◌≢◌, ◌≤◌, List, [], ◌++◌, All, Option, None, Some}
+use Rattle.std.specs.Prelude.{◌≡◌, ◌≢◌, ◌≤◌, ⊤, List, [], ◌++◌, All, Option, MatchOption}
 use Rattle.plan_core.specs.declared.criterion.Criterion.{Criterion}
 use Rattle.plan_core.specs.Drawing.{Drawing}
 use Rattle.plan_core.specs.Values.{values_of, value_of}
@@ -10,6 +10,7 @@ use Rattle.refute_log.specs.declared.stop.Stop.{Stop}
 use Rattle.search_least.specs.Task.{Task, IsLawful}
 use Rattle.refute_log.specs.Cause.{IsCause}
 use Rattle.search_least.specs.Asked.{AreMet, AreOnce}
+use Rattle.search_least.specs.Placed.{AreUnderBounds}
 
 -- no lawful drawing that meets the bounds has less of the criterion
 abbrev pub IsLeastUnder : Task → List Below → Criterion → Drawing → Type 0
@@ -25,7 +26,9 @@ pub record AreBeside (c : Criterion) (bounds : List Below) : Type 0 where
   pub once : AreOnce bounds
   pub other : All (λ b. b.criterion ≢ c) bounds
 
--- questions tell no clauses of the formula; where the search stopped, it is for this cause
-abbrev pub AreAsked : Task → Option Stop → Lines → Lines → Type 0
-AreAsked p None lines more = clause_lines more ≡ []
-AreAsked p (Some stop) lines more = (clause_lines more ≡ []) × IsCause p.budget p.room stop (lines ++ more)
+-- questions under bounds, and their answers: they tell no clauses of the formula; and where the search stopped, its
+-- lines have the cause
+pub record AreAsked (p : Task) (stop : Option Stop) (lines more : Lines) : Type 0 where
+  pub none : clause_lines more ≡ []
+  pub placed : AreUnderBounds p lines → AreUnderBounds p (lines ++ more)
+  pub cause : MatchOption stop ⊤ (λ s. IsCause p.budget p.room s (lines ++ more))

@@ -15,6 +15,7 @@ use Rattle.search_least.specs.declared.oracle.Built.TheVariants.{Whole as AllOfT
 use Rattle.refute_log.specs.declared.stop.Stop.{Stop}
 use Rattle.refute_log.specs.declared.stop.Stop.TheVariants.{BudgetSpent, RoomFull}
 use Rattle.search_least.specs.Task.{Task, greatest_of}
+use Rattle.search_least.specs.Placed.{AreUnderBounds}
 use Rattle.trade_off.specs.declared.outcome.FrontEnd.{FrontEnd}
 use Rattle.trade_off.specs.declared.outcome.FrontEnd.TheVariants.{Whole, Empty, Conflicts, Room}
 use Rattle.trade_off.specs.Front.{Pairs, IsWholeFront, IsFrontUpTo}
@@ -49,6 +50,7 @@ pub record IsFrontLog (p : Task) (a b : Criterion) (ending : FrontEnd) (lines : 
   pub begins : BeginsLines (clause_lines lines) (front_lines p a b)
   pub fits : words_of (flat_map added lines) ≤ p.room
   pub within : length (flat_map learnt lines) ≤ p.budget
+  pub placed : AreUnderBounds p lines
   pub cause : IsFrontCause p a b ending lines
 
 -- the lines of a search for the front that ended with an error
@@ -68,8 +70,9 @@ stop_behind Empty = None
 stop_behind Conflicts = Some BudgetSpent
 stop_behind Room = Some RoomFull
 
--- all of the lines were told, or the first of them, and all have no room
+-- all of the lines were told, or the first of them, and all have no room; there is no question yet but under bounds
 abbrev pub IsBuiltFront : Task → Criterion → Criterion → Built → Lines → Type 0
-IsBuiltFront p a b AllOfThem lines = clause_lines lines ≡ front_lines p a b
+IsBuiltFront p a b AllOfThem lines = AreUnderBounds p lines × (clause_lines lines ≡ front_lines p a b)
 IsBuiltFront p a b NoRoom lines =
-    BeginsLines (clause_lines lines) (front_lines p a b) × CapsPass p.encoding (a ∷ b ∷ []) lines p.room (greatest_of p)
+    AreUnderBounds p lines × BeginsLines (clause_lines lines) (front_lines p a b)
+    × CapsPass p.encoding (a ∷ b ∷ []) lines p.room (greatest_of p)

@@ -1,4 +1,4 @@
-use Rattle.std.proofs.Common.{◌-◌, [], List, length, sym, subst, arith}
+use Rattle.std.proofs.Common.{◌-◌, [], List, ℕ, length, sym, ◌∙◌, ap, subst, arith}
 use Rattle.std.specs.Prelude.{All}
 use Rattle.cnf_core.specs.Lit.{Literal}
 use Rattle.cnf_core.specs.Clause.{AreDistinct, IsNamed}
@@ -6,6 +6,7 @@ use Rattle.cdcl_core.specs.Belongs.{HasSpent, HasSolved, Belongs}
 use Rattle.refute_log.proofs.StepLemmas.{leaves_known}
 use Rattle.lex_minimise.proofs.LeftLemmas.{search_left}
 use Rattle.law_core.specs.Known.{formula_of, task_of, KnowsWhy}
+use Rattle.law_core.specs.Query.{query_of}
 use Rattle.law_core.specs.Search.{layout_with}
 use Rattle.law_core.proofs.AskLemmas.{distinct, named}
 use Rattle.law_core.proofs.QueryLemmas.{ready_after, search_goes}
@@ -47,7 +48,7 @@ returns-in-Ok-clause-lines g c =
     let same = s.kept.room in
     let is = c.requires.ready.room_is in
     search_goes y k.selecting.items k.budget k.room old new c.in-Ok.answer c.args.assume.now (l.tells c.args.log.now) (l.tells c.solve.new.log) (l.learnt c.args.log.now) (l.learnt c.solve.new.log)
-    (omega arith) c.requires.ready s (c.in-Ok.ensures.answer (formula_of y) c.requires.ready.given) (omega (arith, limit, same, is))
+    (omega arith) c.requires.ready (c.args.wanted.now, c.requires.places, c.requires.assumed ∙ ap (λ (xs : List ℕ). query_of xs c.args.wanted.now) c.requires.ready.selecting_are) s (c.in-Ok.ensures.answer (formula_of y) c.requires.ready.given) (omega (arith, limit, same, is))
 
 pub returns-in-Err-Log-clause-leaves : goal.returns-in-Err-Log-clause-leaves
 returns-in-Err-Log-clause-leaves g c =

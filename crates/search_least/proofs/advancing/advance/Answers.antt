@@ -11,6 +11,8 @@ use Rattle.search_least.specs.State.{AreBefore, IsCapOf, SearchState, BoundedTo}
 use Rattle.search_least.proofs.RunLemmas.{no_more}
 use Rattle.search_least.proofs.BeforeLemmas.{before_next, before_later}
 use Rattle.search_least.proofs.AdvanceLemmas.{go_zeros, go_only_zero, go_bounded, all_held}
+use Rattle.outside_io.proofs.Results.{on_err_anyway}
+use Rattle.search_least.proofs.StillLemmas.{still_here}
 use Rattle.search_least.proofs.advancing.advance.Goals as goal
 
 pub returns-then-most-eq0-clause-lines : goal.returns-then-most-eq0-clause-lines
@@ -57,3 +59,12 @@ returns-in-None-clause-before g c = before_later c.args.order.now c.args.i c.get
 
 pub bounded-requires-clause-before : goal.bounded-requires-clause-before
 bounded-requires-clause-before g c = subst (λ (bs : List Below). AreBefore c.args.order.now c.args.i bs) (sym c.deref.ensures.value) c.requires.before
+
+pub returns-in_err-advanced-in-Some-clause-still : goal.returns-in_err-advanced-in-Some-clause-still
+returns-in_err-advanced-in-Some-clause-still g c = let o = g.O.Oracle in
+    on_err_anyway _ _ c.in_err-advanced-in-Some.ensures.still
+
+pub returns-in_err-hold-in-Some-clause-still : goal.returns-in_err-hold-in-Some-clause-still
+returns-in_err-hold-in-Some-clause-still g c = let o = g.O.Oracle in
+    let b = c.bounded.new.oracle in
+    on_err_anyway _ _ (still_here o.knows o.log o.learnt c.args.oracle.now b _ (g.met.O.Oracle.derives b) (g.met.O.Oracle.one_reading b) c.in_ok-advanced-in-Some.ensures.lines)

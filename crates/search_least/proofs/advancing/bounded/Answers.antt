@@ -10,6 +10,8 @@ use Rattle.search_least.specs.Built.{AreBuiltTo, IsBuild}
 use Rattle.search_least.specs.State.{IsCapOf, Counted}
 use Rattle.search_least.proofs.BuildLemmas.{counted_built, vars_same}
 use Rattle.search_least.proofs.AdvanceLemmas.{bounded_whole, bounded_no_room, value_bounded}
+use Rattle.outside_io.proofs.Results.{on_err_anyway}
+use Rattle.search_least.proofs.StillLemmas.{still_left, still_later}
 use Rattle.search_least.proofs.advancing.bounded.Goals as goal
 
 pub build-requires-clause-positive : goal.build-requires-clause-positive
@@ -76,3 +78,12 @@ returns-in_ok-lowered-in-Whole-clause-vars g c = let o = g.O.Oracle in
     let built = counted_built p c.args.order.now c.args.i c.get-c.result c.args.cap (o.caps a) (o.vars a) c.requires.order c.get-c.ensures c.requires.counted in
     vars_same p c.args.order.now (with_cap (o.caps a) c.get-c.result c.args.cap) (o.caps l) (o.vars a + sum_vars_of p.encoding (o.vars a) c.get-c.result c.args.cap) (o.vars l)
     (c.in_ok-lowered-in-Whole.ensures.caps ∙ state.0) (c.in_ok-lowered-in-Whole.ensures.vars ∙ state.1) built.vars_are
+
+pub returns-in_err-build-clause-still : goal.returns-in_err-build-clause-still
+returns-in_err-build-clause-still g c = let o = g.O.Oracle in
+    let a = c.args.oracle.now in
+    on_err_anyway _ _ (still_left _ (o.knows a) (o.log a) (o.log c.build.new.self) c.in_err-build.ensures.leaves)
+
+pub returns-in_err-lowered-in-Whole-clause-still : goal.returns-in_err-lowered-in-Whole-clause-still
+returns-in_err-lowered-in-Whole-clause-still g c = let o = g.O.Oracle in
+    on_err_anyway _ _ (still_later o.knows o.log o.learnt c.args.oracle.now c.build.new.self c.lower.new.oracle _ c.in_ok-build.ensures.lines c.in_err-lowered-in-Whole.ensures.still)

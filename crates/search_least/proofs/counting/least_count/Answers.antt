@@ -1,4 +1,4 @@
-use Rattle.std.proofs.Common.{◌++◌, refl, sym, ◌∙◌, subst, map}
+use Rattle.std.proofs.Common.{[], ◌++◌, refl, sym, ◌∙◌, subst, map}
 use Rattle.std.specs.Prelude.{None, IfOk}
 use Rattle.std.proofs.lemmas.Result.{IfOk-weaker}
 use Rattle.refute_log.specs.declared.line.LogLine.TheVariants.{Formula}
@@ -7,8 +7,9 @@ use Rattle.search_least.specs.CountTask.{CountTask, IsOne}
 use Rattle.search_least.specs.CountAsked.{IsAnswer}
 use Rattle.search_least.specs.Fewest.{IsRightFewest, IsFewestLog}
 use Rattle.search_least.specs.Run.{IsRunToEnd}
-use Rattle.refute_log.proofs.StepLemmas.{known_after}
-use Rattle.search_least.proofs.AskLemmas.{laws_back, refuted_none}
+use Rattle.outside_io.proofs.Results.{on_err_anyway}
+use Rattle.refute_log.proofs.StepLemmas.{known_after, leaves_later, on_err_weaker}
+use Rattle.search_least.proofs.AskLemmas.{laws_back, refuted_none, answer_clauses}
 use Rattle.search_least.proofs.FewestLemmas.{found_fact, right_stopped, first_found, first_refuted, first_stopped, log_laws_at, tells}
 use Rattle.search_least.proofs.counting.least_count.Goals as goal
 
@@ -36,7 +37,7 @@ returns-in-Found-clause-lines g c = let q = g.Q.CountOracle in
     (log_laws_at q.knows e (q.task e) p (c.lower.ensures.task ∙ c.in_ok-first.ensures.task)
     (record { formed = g.met.Q.CountOracle.formed e; derives = g.met.Q.CountOracle.derives e; due = g.met.Q.CountOracle.due e; fits = g.met.Q.CountOracle.fits e; within = g.met.Q.CountOracle.spent e }))
     c.requires.start
-    (first_found q.knows q.log q.learnt a b e (q.task b) p c.in_ok-first.field-0 c.in-Found.first r c.in_ok-first.ensures.task c.in-Found.is c.in_ok-first.ensures.lines h))
+    (first_found q.knows q.log q.learnt a b e (q.task b) p c.in_ok-first.field-0 c.in-Found.first r c.in_ok-first.ensures.task c.in-Found.is c.in_ok-first.ensures.right c.in_ok-first.ensures.lines h))
     c.lower.ensures.lines
 
 pub returns-in-Refuted-clause-right : goal.returns-in-Refuted-clause-right
@@ -54,7 +55,7 @@ returns-in-Refuted-clause-lines g c = let q = g.Q.CountOracle in
     tells q.knows q.log q.learnt a e p _
     (log_laws_at q.knows e (q.task e) p c.in_ok-first.ensures.task
     (record { formed = g.met.Q.CountOracle.formed e; derives = g.met.Q.CountOracle.derives e; due = g.met.Q.CountOracle.due e; fits = g.met.Q.CountOracle.fits e; within = g.met.Q.CountOracle.spent e }))
-    c.requires.start (first_refuted q.knows q.log q.learnt a e p c.in_ok-first.field-0 c.in-Refuted.is c.in_ok-first.ensures.lines)
+    c.requires.start (first_refuted q.knows q.log q.learnt a e p c.in_ok-first.field-0 c.in-Refuted.is c.in_ok-first.ensures.right c.in_ok-first.ensures.lines)
 
 pub returns-in-Stopped-clause-right : goal.returns-in-Stopped-clause-right
 returns-in-Stopped-clause-right g c = let q = g.Q.CountOracle in
@@ -68,4 +69,15 @@ returns-in-Stopped-clause-lines g c = let q = g.Q.CountOracle in
     tells q.knows q.log q.learnt a e p c.stopped_with.result
     (log_laws_at q.knows e (q.task e) p c.in_ok-first.ensures.task
     (record { formed = g.met.Q.CountOracle.formed e; derives = g.met.Q.CountOracle.derives e; due = g.met.Q.CountOracle.due e; fits = g.met.Q.CountOracle.fits e; within = g.met.Q.CountOracle.spent e }))
-    c.requires.start (first_stopped q.knows q.log q.learnt a e p c.in_ok-first.field-0 c.in-Stopped.stop c.stopped_with.result c.in-Stopped.is c.stopped_with.ensures c.in_ok-first.ensures.lines)
+    c.requires.start (first_stopped q.knows q.log q.learnt a e p c.in_ok-first.field-0 c.in-Stopped.stop c.stopped_with.result c.in-Stopped.is c.stopped_with.ensures c.in_ok-first.ensures.right c.in_ok-first.ensures.lines)
+
+pub returns-in_err-first-clause-leaves : goal.returns-in_err-first-clause-leaves
+returns-in_err-first-clause-leaves g c = on_err_anyway _ _ c.in_err-first.ensures.leaves
+
+pub returns-in-Found-clause-leaves : goal.returns-in-Found-clause-leaves
+returns-in-Found-clause-leaves g c = let q = g.Q.CountOracle in
+    let a = c.args.questions.now in
+    let p = q.task a in
+    let r = c.in_ok-first.field-0 in
+    on_err_weaker c.lower.result _ _
+    (leaves_later q.knows q.log q.learnt a c.ask.new.self c.lower.new.questions (λ lines more. IsAnswer p lines None r more) [] [] c.in_ok-first.ensures.lines (λ lines more h. answer_clauses p None lines r more h)) c.lower.ensures.leaves

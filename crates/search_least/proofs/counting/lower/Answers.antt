@@ -1,8 +1,10 @@
-use Rattle.std.proofs.Common.{◌≡◌, ◌≤◌, refl, sym, ◌∙◌, ap, subst, arith}
+use Rattle.std.proofs.Common.{◌≡◌, ◌≤◌, [], refl, sym, ◌∙◌, ap, subst, arith}
 use Rattle.std.specs.Prelude.{Some}
 use Rattle.search_least.specs.CountTask.{CountTask, IsOne}
 use Rattle.search_least.specs.CountAsked.{IsAnswer}
-use Rattle.refute_log.proofs.StepLemmas.{known_after}
+use Rattle.search_least.specs.Run.{IsRunOfDrawings}
+use Rattle.outside_io.proofs.Results.{on_err_anyway}
+use Rattle.refute_log.proofs.StepLemmas.{known_after, leaves_later}
 use Rattle.search_least.proofs.AskLemmas.{laws_back, refuted_none, run_none, run_found, ends_refuted, ends_zero, ends_stopped}
 use Rattle.search_least.proofs.FewestLemmas.{found_fact, fewest_from, fewest_zero, right_stopped}
 use Rattle.search_least.proofs.counting.lower.Goals as goal
@@ -19,7 +21,7 @@ loop-count-init g c = let q = g.Q.CountOracle in
       one = c.requires.one;
       later = g.met.Q.CountOracle.later_same a;
       faults = omega arith;
-      lines = run_none q.knows q.log q.learnt a;
+      lines = run_none q.knows q.log q.learnt a (q.task a);
     }
 
 pub ask-requires-clause-limit : goal.ask-requires-clause-limit
@@ -57,7 +59,7 @@ loop-count-preserved g c = let q = g.Q.CountOracle in
       one = one;
       later = g.met.Q.CountOracle.later_more a b e c.loop-count.invariant.later c.in_ok-d.ensures.later;
       faults = (let m = c.loop-count.invariant.faults in let n = c.in_ok-d.ensures.faults in omega arith);
-      lines = run_found q.knows q.log q.learnt a b e (q.task b) (Some c.loop-count.count) c.in_ok-d.field-0 c.in-Found.d c.in-Found.is c.loop-count.invariant.lines c.in_ok-d.ensures.lines;
+      lines = run_found q.knows q.log q.learnt a b e (q.task b) (q.task a) (Some c.loop-count.count) c.in_ok-d.field-0 c.in-Found.d (record { same = c.loop-count.invariant.task; right = c.in_ok-d.ensures.right }) c.in-Found.is c.loop-count.invariant.lines c.in_ok-d.ensures.lines;
     }
 
 pub returns-in-Refuted-clause-right : goal.returns-in-Refuted-clause-right
@@ -75,7 +77,7 @@ pub returns-in-Refuted-clause-lines : goal.returns-in-Refuted-clause-lines
 returns-in-Refuted-clause-lines g c = let q = g.Q.CountOracle in
     let a = c.args.questions.now in
     let b = c.loop-count.questions in
-    ends_refuted q.knows q.log q.learnt a b c.ask.new.self (q.task b) (q.task a) c.loop-count.count c.in_ok-d.field-0 c.loop-count.best c.loop-count.invariant.task c.in-Refuted.is c.loop-count.invariant.count c.loop-count.invariant.lines c.in_ok-d.ensures.lines
+    ends_refuted q.knows q.log q.learnt a b c.ask.new.self (q.task b) (q.task a) c.loop-count.count c.in_ok-d.field-0 c.loop-count.best (record { same = c.loop-count.invariant.task; right = c.in_ok-d.ensures.right }) c.in-Refuted.is c.loop-count.invariant.count c.loop-count.invariant.lines c.in_ok-d.ensures.lines
 
 pub returns-in-Stopped-clause-right : goal.returns-in-Stopped-clause-right
 returns-in-Stopped-clause-right g c = let q = g.Q.CountOracle in
@@ -85,7 +87,7 @@ pub returns-in-Stopped-clause-lines : goal.returns-in-Stopped-clause-lines
 returns-in-Stopped-clause-lines g c = let q = g.Q.CountOracle in
     let a = c.args.questions.now in
     let b = c.loop-count.questions in
-    ends_stopped q.knows q.log q.learnt a b c.ask.new.self (q.task b) (q.task a) (Some c.loop-count.count) c.in_ok-d.field-0 c.loop-count.best c.in-Stopped.stop c.stopped_with.result c.loop-count.invariant.task c.in-Stopped.is c.stopped_with.ensures
+    ends_stopped q.knows q.log q.learnt a b c.ask.new.self (q.task b) (q.task a) (Some c.loop-count.count) c.in_ok-d.field-0 c.loop-count.best c.in-Stopped.stop c.stopped_with.result (record { same = c.loop-count.invariant.task; right = c.in_ok-d.ensures.right }) c.in-Stopped.is c.stopped_with.ensures
     (let is = c.loop-count.invariant.count in (omega (arith, is), ap Some is)) c.loop-count.invariant.lines c.in_ok-d.ensures.lines
 
 pub returns-clause-right : goal.returns-clause-right
@@ -95,3 +97,8 @@ returns-clause-right g c = let q = g.Q.CountOracle in
 pub returns-clause-lines : goal.returns-clause-lines
 returns-clause-lines g c = let q = g.Q.CountOracle in
     ends_zero q.knows q.log q.learnt c.args.questions.now c.loop-count.questions (q.task c.args.questions.now) c.loop-count.best (let is = c.loop-count.invariant.count in omega (arith, is)) c.loop-count.invariant.lines
+
+pub returns-in_err-d-clause-leaves : goal.returns-in_err-d-clause-leaves
+returns-in_err-d-clause-leaves g c = let q = g.Q.CountOracle in
+    let a = c.args.questions.now in
+    on_err_anyway _ _ (leaves_later q.knows q.log q.learnt a c.loop-count.questions c.ask.new.self (IsRunOfDrawings (q.task a)) [] [] c.loop-count.invariant.lines (λ lines more h. h.none) c.in_err-d.ensures.leaves)

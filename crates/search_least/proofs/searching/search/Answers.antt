@@ -6,6 +6,9 @@ use Rattle.refute_log.specs.Steps.{Continues}
 use Rattle.search_least.specs.State.{Counted, SearchState}
 use Rattle.search_least.specs.Outcome.{IsOutcome, first_lines}
 use Rattle.search_least.proofs.OutcomeLemmas.{zero_counted, fresh_still, first_found, first_refuted, first_stopped, laws_at}
+use Rattle.outside_io.proofs.Results.{on_err_anyway}
+use Rattle.refute_log.proofs.StepLemmas.{on_err_weaker}
+use Rattle.search_least.proofs.StillLemmas.{still_left, still_later}
 use Rattle.search_least.proofs.searching.search.Goals as goal
 
 pub improve-requires-clause-counted : goal.improve-requires-clause-counted
@@ -48,3 +51,12 @@ returns-in-Found-clause-lines g c = let o = g.O.Oracle in
     (λ x run. first_found o.knows o.log o.learnt a b e (o.task b) (o.task a) c.args.wanted.now c.in-Found.first c.in_ok-first.field-0 [] x (o.caps b) c.in_ok-first.ensures.task
     (λ m. ap (λ (f : Criterion → ℕ). f m) c.in_ok-first.ensures.caps ∙ c.requires.fresh.none m) refl c.in-Found.is c.in_ok-first.ensures.right c.in_ok-first.ensures.lines run)
     c.improve.ensures.lines
+
+pub returns-in_err-first-clause-still : goal.returns-in_err-first-clause-still
+returns-in_err-first-clause-still g c = let o = g.O.Oracle in
+    let a = c.args.oracle.now in
+    on_err_anyway _ _ (still_left [] (o.knows a) (o.log a) (o.log c.ask.new.self) c.in_err-first.ensures.leaves)
+
+pub returns-in-Found-clause-still : goal.returns-in-Found-clause-still
+returns-in-Found-clause-still g c = let o = g.O.Oracle in
+    on_err_weaker c.improve.result _ _ (still_later o.knows o.log o.learnt c.args.oracle.now c.ask.new.self c.improve.new.oracle _ c.in_ok-first.ensures.lines) c.improve.ensures.still

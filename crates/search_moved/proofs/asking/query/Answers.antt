@@ -1,11 +1,13 @@
-use Rattle.std.proofs.Common.{◌-◌, List, length, sym, subst, arith}
+use Rattle.std.proofs.Common.{◌-◌, [], List, length, sym, subst, arith}
 use Rattle.std.specs.Prelude.{All}
 use Rattle.cnf_core.specs.Lit.{Literal}
 use Rattle.cnf_core.specs.Clause.{AreDistinct, IsNamed}
 use Rattle.cdcl_core.specs.Kept.{IsTrueAnswer}
-use Rattle.cdcl_core.specs.Belongs.{HasSpent, HasSolved}
+use Rattle.cdcl_core.specs.Belongs.{HasSpent, HasSolved, Belongs}
+use Rattle.refute_log.proofs.StepLemmas.{leaves_known}
+use Rattle.lex_minimise.proofs.LeftLemmas.{search_left}
 use Rattle.drawing_cnf.specs.Layout.{layout_of}
-use Rattle.search_moved.specs.Known.{formula_of, moved_task}
+use Rattle.search_moved.specs.Known.{formula_of, moved_task, KnowsMoved}
 use Rattle.search_least.specs.CountAsked.{query_of}
 use Rattle.search_moved.proofs.MovedLemmas.{distinct, named, ready_after, search_goes}
 use Rattle.search_moved.proofs.asking.query.Goals as goal
@@ -47,3 +49,19 @@ returns-in-Ok-clause-lines g c =
     let is = c.requires.ready.room_is in
     search_goes k.encoded k.former.now k.budget k.room old new c.args.limit c.in-Ok.answer (l.tells c.args.log.now) (l.tells c.solve.new.log) (l.learnt c.args.log.now) (l.learnt c.solve.new.log)
     (omega arith) c.requires.ready solved true_answer (omega (arith, limit, same, is))
+
+pub returns-in-Err-Log-clause-leaves : goal.returns-in-Err-Log-clause-leaves
+returns-in-Err-Log-clause-leaves g c =
+    let l = g.L.LogSink in
+    let k = c.args.known.now in
+    let old = c.args.solver.now in
+    leaves_known [] (KnowsMoved (layout_of k.encoded) k.former.now k.budget k.room old) (λ ls. Belongs ls old) (l.tells c.args.log.now) (l.tells c.solve.new.log) (λ lines b. b.belongs)
+    (search_left (λ ls. Belongs ls old) (l.tells c.args.log.now) (l.tells c.solve.new.log) c.in-Err-Log.ensures.derives c.in-Err-Log.ensures.gives)
+
+pub returns-in-Err-Memory-clause-leaves : goal.returns-in-Err-Memory-clause-leaves
+returns-in-Err-Memory-clause-leaves g c =
+    let l = g.L.LogSink in
+    let k = c.args.known.now in
+    let old = c.args.solver.now in
+    leaves_known [] (KnowsMoved (layout_of k.encoded) k.former.now k.budget k.room old) (λ ls. Belongs ls old) (l.tells c.args.log.now) (l.tells c.solve.new.log) (λ lines b. b.belongs)
+    (search_left (λ ls. Belongs ls old) (l.tells c.args.log.now) (l.tells c.solve.new.log) c.in-Err-Memory.ensures.derives c.in-Err-Memory.ensures.gives)

@@ -1,13 +1,17 @@
-use Rattle.std.proofs.Common.{◌≡◌, Err, length, sym, ◌∙◌, ap, subst, IfOk}
+use Rattle.std.proofs.Common.{◌≡◌, [], Err, length, sym, ◌∙◌, ap, subst, IfOk}
 use Rattle.std.specs.Prelude.{Option, MatchOption}
 use Rattle.plan_core.specs.Graph.{Graph}
+use Rattle.refute_log.specs.Told.{Lines}
 use Rattle.cnf_core.specs.Formula.{Cnf}
 use Rattle.plan_core.specs.Grid.{IsGrid}
 use Rattle.port_graph.specs.StationGraph.{IsStationGraph}
 use Rattle.drawing_cnf.specs.Layout.{Layout, layout, layout_of}
 use Rattle.search_least.specs.Fewest.{IsRightFewest}
 use Rattle.search_moved.specs.Known.{moved_task}
-use Rattle.search_moved.specs.Told.{FormulaPasses, IsCounting}
+use Rattle.search_moved.specs.Told.{FormulaPasses, IsCounting, IsMovedLeft}
+use Rattle.outside_io.proofs.Results.{on_err_anyway}
+use Rattle.refute_log.proofs.StepLemmas.{on_err_weaker}
+use Rattle.search_moved.proofs.LeftLemmas.{left_none, left_begun, left_later}
 use Rattle.lex_minimise.proofs.StartLemmas.{layout_is, if_ok_from}
 use Rattle.search_moved.proofs.StartLemmas.{passes_first, nothing_told, nothing_told_of, both_fit, both_rise, begun_ready, begun_knows, whole_told}
 use Rattle.search_moved.proofs.beginning.fewest_with.Goals as goal
@@ -94,3 +98,49 @@ returns-clause-lines g c =
     (λ o second. whole_told n (layout c.args.g.now c.args.t.now c.args.grid.now) former budget room c.formula.result.now c.in-Some.counted o c.args.solver.now c.tell_both.new.solver c.search_from.new.solver
     (k.tells c.args.log.now) (k.tells c.tell_both.new.log) (k.tells c.search_from.new.log) (k.learnt c.args.log.now) (k.learnt c.tell_both.new.log) (k.learnt c.search_from.new.log)
     e.whole e.bounds y_is c.formula.ensures some c.requires.new c.in_ok-tell_both.ensures.lines second)
+
+pub returns-in-Err-Memory-clause-left : goal.returns-in-Err-Memory-clause-left
+returns-in-Err-Memory-clause-left g c =
+    let k = g.L.LogSink in
+    left_none (layout c.args.g.now c.args.t.now c.args.grid.now) c.args.former.now (k.tells c.args.log.now) (g.met.L.LogSink.one_reading c.args.log.now)
+
+pub returns-in_err-counted-clause-left : goal.returns-in_err-counted-clause-left
+returns-in_err-counted-clause-left g c =
+    let k = g.L.LogSink in
+    on_err_anyway _ _ (left_none (layout c.args.g.now c.args.t.now c.args.grid.now) c.args.former.now (k.tells c.args.log.now) (g.met.L.LogSink.one_reading c.args.log.now))
+
+pub returns-in_err-tell_both-clause-left : goal.returns-in_err-tell_both-clause-left
+returns-in_err-tell_both-clause-left g c =
+    let k = g.L.LogSink in
+    let e = c.in-Ok.ensures in
+    let y_is = layout_is c.in-Ok.encoded c.args.g.now c.args.t.now c.args.grid.now e.graph e.order e.grid in
+    let n = c.in-Ok.encoded in
+    let former = c.args.former.now in
+    let budget = c.args.limits.now.budget in
+    let room = c.args.limits.now.room in
+    let some : IsCounting (layout_of n) former room c.in-Some.counted = subst (λ (o : Option Cnf). MatchOption o (FormulaPasses (layout_of n) former room) (IsCounting (layout_of n) former room)) c.in-Some.is c.in_ok-counted.ensures.formula in
+    let left : k.tells c.args.log.now [] → (lines : Lines) → k.tells c.tell_both.new.log lines → IsMovedLeft (layout c.args.g.now c.args.t.now c.args.grid.now) former lines =
+    λ nil lines told. subst (λ (z : Layout). IsMovedLeft z former lines) y_is
+    (left_begun n former room c.formula.result.now c.in-Some.counted c.args.solver.now (k.tells c.args.log.now) (k.tells c.tell_both.new.log) e.whole e.bounds c.formula.ensures some c.requires.new c.in_err-tell_both.ensures.leaves nil lines told) in
+    on_err_anyway _ _ left
+
+pub returns-clause-left : goal.returns-clause-left
+returns-clause-left g c =
+    let k = g.L.LogSink in
+    let e = c.in-Ok.ensures in
+    let y_is = layout_is c.in-Ok.encoded c.args.g.now c.args.t.now c.args.grid.now e.graph e.order e.grid in
+    let n = c.in-Ok.encoded in
+    let former = c.args.former.now in
+    let budget = c.args.limits.now.budget in
+    let room = c.args.limits.now.room in
+    let some : IsCounting (layout_of n) former room c.in-Some.counted = subst (λ (o : Option Cnf). MatchOption o (FormulaPasses (layout_of n) former room) (IsCounting (layout_of n) former room)) c.in-Some.is c.in_ok-counted.ensures.formula in
+    let station = subst IsStationGraph (sym e.graph) c.nodes.ensures.station in
+    let size = subst IsGrid (sym e.grid) c.width.ensures.is_grid in
+    let same : length former ≡ length n.graph.nodes = c.requires.same ∙ ap (λ (x : Graph). length x.nodes) (sym e.graph) in
+    let knows = begun_knows n former budget room c.formula.result.now c.in-Some.counted c.args.solver.now c.tell_both.new.solver (k.tells c.args.log.now) (k.tells c.tell_both.new.log) (k.learnt c.args.log.now) (k.learnt c.tell_both.new.log)
+    station size e.whole e.bounds same c.formula.ensures some c.requires.new c.in_ok-tell_both.ensures.taken c.in_ok-tell_both.ensures.lines in
+    on_err_weaker c.search_from.result _ _
+    (λ h nil lines told. subst (λ (z : Layout). IsMovedLeft z former lines) y_is
+    (left_later n former budget room c.formula.result.now c.in-Some.counted c.args.solver.now c.tell_both.new.solver (k.tells c.args.log.now) (k.tells c.tell_both.new.log) (k.tells c.search_from.new.log) (k.learnt c.args.log.now) (k.learnt c.tell_both.new.log)
+    e.whole e.bounds c.formula.ensures some c.requires.new c.in_ok-tell_both.ensures.lines knows h nil lines told))
+    c.search_from.ensures.leaves

@@ -71,12 +71,14 @@ returns-in-Refuted-clause-next g c = let o = g.O.Oracle in
 pub returns-in-Refuted-clause-lines : goal.returns-in-Refuted-clause-lines
 returns-in-Refuted-clause-lines g c = let o = g.O.Oracle in
     let a = c.args.oracle.now in
-    asks_refuted o.knows o.log o.learnt a c.ask.new.self (o.task a) (o.task a) c.deref.result.now c.in_ok-first.field-0 refl c.in-Refuted.is c.in_ok-first.ensures.lines
+    asks_refuted o.knows o.log o.learnt a c.ask.new.self (o.task a) (o.task a) c.deref.result.now c.in_ok-first.field-0
+    (record { same = refl; once = under_once c.args.b c.args.limit c.deref.result.now (c.deref.ensures.value ∙ c.in_ok-bounds.ensures); right = c.in_ok-first.ensures.right }) c.in-Refuted.is c.in_ok-first.ensures.lines
 
 pub returns-clause-lines : goal.returns-clause-lines
 returns-clause-lines g c = let o = g.O.Oracle in
     let a = c.args.oracle.now in
-    asks_stopped o.knows o.log o.learnt a c.ask.new.self (o.task a) (o.task a) c.deref.result.now c.in_ok-first.field-0 c.in-Stopped.stop refl c.in-Stopped.is c.in_ok-first.ensures.lines
+    asks_stopped o.knows o.log o.learnt a c.ask.new.self (o.task a) (o.task a) c.deref.result.now c.in_ok-first.field-0 c.in-Stopped.stop
+    (record { same = refl; once = under_once c.args.b c.args.limit c.deref.result.now (c.deref.ensures.value ∙ c.in_ok-bounds.ensures); right = c.in_ok-first.ensures.right }) c.in-Stopped.is c.in_ok-first.ensures.lines
 
 pub returns-in-Found-clause-next : goal.returns-in-Found-clause-next
 returns-in-Found-clause-next g c = let o = g.O.Oracle in
@@ -90,7 +92,8 @@ returns-in-Found-clause-lines g c = let o = g.O.Oracle in
     let e = c.pair_from.new.oracle in
     IfOk-weaker c.pair_from.result (λ r. Continues o.knows o.log o.learnt b e (AreAsked (o.task b) (stop_of r))) (λ r. Continues o.knows o.log o.learnt a e (AreAsked (o.task a) (stop_of r)))
     (λ r h. asked_then o.knows o.log o.learnt a b e (o.task b) (o.task a) (stop_of r) c.in_ok-first.ensures.task
-    (asks_found o.knows o.log o.learnt a b (o.task a) (o.task a) c.deref.result.now c.in_ok-first.field-0 c.in-Found.first refl c.in-Found.is c.in_ok-first.ensures.lines) h)
+    (asks_found o.knows o.log o.learnt a b (o.task a) (o.task a) c.deref.result.now c.in_ok-first.field-0 c.in-Found.first
+    (record { same = refl; once = under_once c.args.b c.args.limit c.deref.result.now (c.deref.ensures.value ∙ c.in_ok-bounds.ensures); right = c.in_ok-first.ensures.right }) c.in-Found.is c.in_ok-first.ensures.lines) h)
     c.pair_from.ensures.lines
 
 pub returns-in_err-bounds-clause-leaves : goal.returns-in_err-bounds-clause-leaves

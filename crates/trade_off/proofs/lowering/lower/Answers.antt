@@ -67,7 +67,7 @@ loop-value-preserved g c = let o = g.O.Oracle in
       later = g.met.O.Oracle.later_more a b e c.loop-value.invariant.later c.in_ok-d.ensures.later;
       faults = (let m = c.loop-value.invariant.faults in let n = c.in_ok-d.ensures.faults in omega arith);
       lines = asked_then o.knows o.log o.learnt a b e (o.task a) (o.task a) None refl c.loop-value.invariant.lines
-          (asks_found o.knows o.log o.learnt b e (o.task b) (o.task a) c.deref.result.now c.in_ok-d.field-0 c.in-Found.d c.loop-value.invariant.task c.in-Found.is c.in_ok-d.ensures.lines);
+          (asks_found o.knows o.log o.learnt b e (o.task b) (o.task a) c.deref.result.now c.in_ok-d.field-0 c.in-Found.d (record { same = c.loop-value.invariant.task; once = once_with c.args.held.now c.deref.result.now c.args.c c.loop-value.value bounds c.requires.beside; right = c.in_ok-d.ensures.right }) c.in-Found.is c.in_ok-d.ensures.lines);
     }
 
 pub returns-in-Refuted-clause-known : goal.returns-in-Refuted-clause-known
@@ -110,14 +110,16 @@ returns-in-Refuted-clause-lines g c = let o = g.O.Oracle in
     let a = c.args.oracle.now in
     let b = c.loop-value.oracle in
     asked_then o.knows o.log o.learnt a b c.ask.new.self (o.task a) (o.task a) None refl c.loop-value.invariant.lines
-    (asks_refuted o.knows o.log o.learnt b c.ask.new.self (o.task b) (o.task a) c.deref.result.now c.in_ok-d.field-0 c.loop-value.invariant.task c.in-Refuted.is c.in_ok-d.ensures.lines)
+    (asks_refuted o.knows o.log o.learnt b c.ask.new.self (o.task b) (o.task a) c.deref.result.now c.in_ok-d.field-0
+    (record { same = c.loop-value.invariant.task; once = once_with c.args.held.now c.deref.result.now c.args.c c.loop-value.value (c.deref.ensures.value ∙ c.in_ok-bounds.ensures) c.requires.beside; right = c.in_ok-d.ensures.right }) c.in-Refuted.is c.in_ok-d.ensures.lines)
 
 pub returns-in-Stopped-clause-lines : goal.returns-in-Stopped-clause-lines
 returns-in-Stopped-clause-lines g c = let o = g.O.Oracle in
     let a = c.args.oracle.now in
     let b = c.loop-value.oracle in
     asked_then o.knows o.log o.learnt a b c.ask.new.self (o.task a) (o.task a) (Some c.in-Stopped.stop) refl c.loop-value.invariant.lines
-    (asks_stopped o.knows o.log o.learnt b c.ask.new.self (o.task b) (o.task a) c.deref.result.now c.in_ok-d.field-0 c.in-Stopped.stop c.loop-value.invariant.task c.in-Stopped.is c.in_ok-d.ensures.lines)
+    (asks_stopped o.knows o.log o.learnt b c.ask.new.self (o.task b) (o.task a) c.deref.result.now c.in_ok-d.field-0 c.in-Stopped.stop
+    (record { same = c.loop-value.invariant.task; once = once_with c.args.held.now c.deref.result.now c.args.c c.loop-value.value (c.deref.ensures.value ∙ c.in_ok-bounds.ensures) c.requires.beside; right = c.in_ok-d.ensures.right }) c.in-Stopped.is c.in_ok-d.ensures.lines)
 
 pub returns-clause-lines : goal.returns-clause-lines
 returns-clause-lines g c = c.loop-value.invariant.lines

@@ -1,0 +1,32 @@
+-- Where the lines of a search for the least count stand.
+use Rattle.std.specs.Prelude.{◌≡◌, ⊤, ℕ, Option, Some}
+use Rattle.plan_core.specs.Drawing.{Drawing}
+use Rattle.refute_log.specs.declared.line.LogLine.{LogLine}
+use Rattle.refute_log.specs.declared.line.LogLine.TheVariants.{Query, Model}
+use Rattle.refute_log.specs.Told.{Lines}
+use Rattle.refute_log.specs.Log.{facts_of}
+use Rattle.search_least.specs.CountTask.{CountTask, IsOne}
+use Rattle.search_least.specs.CountAsked.{IsBelow, query_of}
+use Rattle.search_least.specs.Placed.{EachBehind}
+
+-- the latest query asks for a count below the limit, or for any where there is none
+abbrev pub AsksFor : CountTask → Option ℕ → Lines → Type 0
+AsksFor p limit lines = (facts_of lines).query ≡ Some (query_of p limit)
+
+-- a Model line answers the latest query: the count of one of the drawings is below its limit
+pub record HasCount (p : CountTask) (before : Lines) : Type 0 where
+  pub drawing : Drawing
+  pub one : IsOne p drawing
+  pub limit : Option ℕ
+  pub latest : AsksFor p limit before
+  pub below : IsBelow limit (p.count drawing)
+
+-- the line may stand behind these: a Query line asks for a count below some limit or for any, a Model line is an answer
+abbrev pub IsCountPlaced : CountTask → Lines → LogLine → Type 0
+IsCountPlaced p before (Query query) = (limit : Option ℕ) × (query ≡ query_of p limit)
+IsCountPlaced p before Model = HasCount p before
+IsCountPlaced p before line = ⊤
+
+-- each line stands so behind those before it
+abbrev pub AreCountsAsked : CountTask → Lines → Type 0
+AreCountsAsked p lines = EachBehind (IsCountPlaced p) lines
