@@ -97,7 +97,7 @@ class Program:
     """the launcher, which is started with copies of the inputs in the place of their names; its environment has the names"""
 
     def __init__(self, launcher: str, asked: Asked, inputs: list[Input]) -> None:
-        self.command = [sys.executable, launcher] + (["--unproved"] if asked.is_unproved else [])
+        self.command = [sys.executable, "-S", launcher] + (["--unproved"] if asked.is_unproved else [])
         names = {it.copy: it.facts.name for it in inputs if it.copy}
         self.environment = {**os.environ, "RAILPLAN_NAMES": json.dumps(names)}
         self.job: Optional[subprocess.Popen[bytes]] = None
@@ -304,6 +304,8 @@ def start(given: list[str]) -> int:
         say(str(why))
         return why.status
     except Stopped:
+        names = [it.name for it in outputs.values()]
+        say(f"stopped; {' and '.join(names)} {'are' if len(names) > 1 else 'is'}n't written" if names else "stopped")
         return 130
     except OSError as error:
         say(f"couldn't make the page: {error.strerror or error}")

@@ -7,7 +7,9 @@ from pathlib import Path
 sys.dont_write_bytecode = True
 sys.path[0] = str(Path(__file__).resolve().parent.parent)
 
-from pages.command import start  # noqa: E402
-
 if __name__ == "__main__":
+    try:
+        from pages.command import start
+    except KeyboardInterrupt:
+        sys.exit(130)
     sys.exit(start(sys.argv[1:]))

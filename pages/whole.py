@@ -35,7 +35,7 @@ def policy(styles: list[str], script: str) -> str:
 
 def styles_of(paper: str) -> list[str]:
     """the style of the page, and that of drawings, which goes with them when they are saved"""
-    return [(read_part("page.css") + read_part("alive.css")).replace("PAPER", paper), read_part("drawing.css")]
+    return [(read_part("page.css") + read_part("alive.css")).replace("PAPER", "{}mm {}mm".format(*PAPERS[paper])), read_part("drawing.css")]
 
 
 # ---- the list

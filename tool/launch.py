@@ -108,7 +108,7 @@ def page(clone: built.Clone, line: words.Line) -> NoReturn:
         refuse_page_words(given)
     os.environ["RAILPLAN_CALLED"] = called()
     os.environ["RAILPLAN_BUILD"] = "unproved -" if line.is_unproved else built.in_words(clone, fresh(clone, line))
-    running.become(sys.executable, [sys.executable, f"{clone.top}/pages/run.py", f"{clone.top}/railplan", *given])
+    running.become(sys.executable, [sys.executable, "-S", f"{clone.top}/pages/run.py", f"{clone.top}/railplan", *given])
 
 
 def run(clone: built.Clone, given: list[str]) -> int:
@@ -169,4 +169,5 @@ def main(given: list[str], top: str) -> int:
         say(f"this is a fault of the launcher itself, so nothing more is known: {type(error).__name__}: {error}")
         return 10
     except KeyboardInterrupt:
+        say("stopped")
         return 130

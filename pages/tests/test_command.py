@@ -236,7 +236,7 @@ class Ends(Case):
             began = time.time()
             job.send_signal(number)
             output, said = job.communicate(timeout=30)
-            self.assertEqual((job.returncode, output, said), (130, b"", b""))
+            self.assertEqual((job.returncode, output, said), (130, b"", b"railplan: stopped; p.html isn't written\n"))
             self.assertLess(time.time() - began, 8)
             self.assertEqual(self.left(), [])
 

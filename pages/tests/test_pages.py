@@ -271,7 +271,7 @@ class Whole(unittest.TestCase):
             self.assertEqual(len(ids), len(set(ids)), name)
 
     def test_paper_and_date(self) -> None:
-        self.assertIn("size: A1 landscape", page_text(make(example()), "A1"))
+        self.assertIn("size: 841mm 594mm;", page_text(make(example()), "A1"))
         self.assertRaises(ValueError, page_text, make(example()), "A9")
         self.assertEqual(make(example()).provenance.date, DATE)
 
