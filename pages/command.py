@@ -256,7 +256,8 @@ def run_asked(launcher: str, asked: Asked, folder: Path, outputs: dict[str, Outp
     ended = give_all(output, is_open)
     run = Run(asked.words, line.names, line.options, output.decode("utf-8", "replace"), status, inputs, log=None,
               settings=asked.settings, build=Build.of(os.environ, asked.is_unproved), version=VERSION, date=date_of(),
-              page=asked.files.get("--html", ""), front_words=shown_front(asked), copied=words)
+              page=asked.files.get("--html", ""), sheet_beside=os.environ.get("RAILPLAN_SHEET", ""),
+              hints_beside=os.environ.get("RAILPLAN_HINTS", ""), front_words=shown_front(asked), copied=words)
     complete(run, program, line)
     try:
         write(run, outputs)

@@ -49,6 +49,8 @@ class Run:
     version: str = ""
     date: Optional[float] = None
     page: str = ""
+    sheet_beside: str = ""
+    hints_beside: str = ""
     front_words: list[str] = field(default_factory=list)
     copied: list[str] = field(default_factory=list)
 
@@ -139,8 +141,11 @@ def add_values(page: Page, values: dict[str, int], grid: tuple[int, ...]) -> Non
 
 
 def add_certificate(page: Page, run: Run, without: str) -> None:
-    """the log, by its name and its hash"""
-    if not run.log:
+    """the log, by its name and its hash; or what is left of it, beside the page"""
+    if run.hints_beside:
+        page.fact("What certifies it", f"{run.hints_beside}, beside this page, has what is left of the search's log. It certifies what "
+                  "the sheet claims, where recheck accepts it.")
+    elif not run.log:
         page.fact("What certifies it", without)
     elif run.log.sha256:
         page.fact("What certifies it", f"The log of the search certifies what the sheet claims, where check accepts it. It has "
@@ -168,7 +173,7 @@ def grid_of(run: Run) -> tuple[int, ...]:
 
 
 def sheet_name(run: Run) -> str:
-    return (run.file.rsplit("/", 1)[-1].removesuffix(".xml") or "station") + ".sheet"
+    return run.sheet_beside or (run.file.rsplit("/", 1)[-1].removesuffix(".xml") or "station") + ".sheet"
 
 
 def add_sheet(page: Page, run: Run) -> None:
@@ -178,8 +183,11 @@ def add_sheet(page: Page, run: Run) -> None:
     content = page.sheet.encode("utf-8")
     page.provenance.files.insert(len(run.inputs), ("Sheet", FileFacts(sheet_name(run), hashlib.sha256(content).hexdigest(),
                                                                       len(content))))
-    page.provenance.needs = f"{sheet_name(run)} is the sheet that this page holds; save it first."
-    if run.log and run.log.sha256:
+    page.provenance.needs = f"{sheet_name(run)} is the sheet that this page holds; " + \
+        ("it is beside the page." if run.sheet_beside else "save it first.")
+    if run.hints_beside:
+        page.provenance.check = ["./railplan", "recheck", run.file, sheet_name(run), run.hints_beside]
+    elif run.log and run.log.sha256:
         page.provenance.check = ["./railplan", "check", run.file, sheet_name(run), run.log.name]
     else:
         page.provenance.check = ["./railplan", "verify", run.file, sheet_name(run)]
@@ -287,7 +295,7 @@ def add_panels(page: Page, run: Run, why: texts.Why) -> None:
         keeps = f"It keeps {many} {sentences.listed(kept)} of the list. " if kept else "The list has no other law. "
         page.draw(run.scene(drawing, page.station, marks=marks, has_scale=False, part=HALF if len(why.laws) > 1 else FRAMED),
                   element("b", f"Given up: {number}. "),
-                  f"{sentences.sentence(text)} {keeps}Laws outside the list aren't kept.",
+                  f"{sentences.sentence(text)} {keeps}Laws outside the list needn't be kept.",
                   kind="panel", title=f"without {number}")
     page.fact("Colours", element("p", element("span", "Red, broken lines and squares", class_="broken"),
                                  ": what the drawing gives up."),

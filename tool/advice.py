@@ -48,12 +48,23 @@ def longest_chain(graph: list[str]) -> int:
     return max(far, default=0)
 
 
-def chain_of(program: str, name: str) -> int:
-    """the same of a file, as the program has its graph; 0 where that can't be had"""
+def tallest_stack(graph: list[str]) -> tuple[int, str]:
+    """how many nodes of a track graph's text have one mileage at most, and which: they lie in one column, one above another"""
+    mileages = Counter(line.split()[-1] for line in graph if line.startswith("node "))
+    return max(((count, mileage) for mileage, count in mileages.items()), default=(0, ""))
+
+
+def graph_of(program: str, name: str) -> list[str]:
+    """the lines of a file's track graph, as the program has it; none where that can't be had"""
     if not files.is_plain(name):
-        return 0
+        return []
     ran = subprocess.run([program, "graph", name], stdin=subprocess.DEVNULL, capture_output=True, text=True)
-    return longest_chain(ran.stdout.splitlines()) if ran.returncode == 0 else 0
+    return ran.stdout.splitlines() if ran.returncode == 0 else []
+
+
+def chain_of(program: str, name: str) -> int:
+    """the longest chain of a file's edges; 0 where that can't be had"""
+    return longest_chain(graph_of(program, name))
 
 
 def grid_of(line: words.Line, said: list[str]) -> tuple[int, int, int]:
@@ -68,7 +79,8 @@ def grid_of(line: words.Line, said: list[str]) -> tuple[int, int, int]:
 def no_drawing(program: str, line: words.Line, said: list[str]) -> list[Note]:
     width, height, least = grid_of(line, said)
     text = f"no lawful drawing lies on columns 0 to {width}, rows 0 to {height}"
-    chain = chain_of(program, line.names[0])
+    graph = graph_of(program, line.names[0])
+    chain, (stack, mileage) = longest_chain(graph), tallest_stack(graph)
     need = chain * least
     if need > width:
         each = f", each of {least} columns or more" if least > 1 else ""
@@ -76,9 +88,15 @@ def no_drawing(program: str, line: words.Line, said: list[str]) -> list[Note]:
             f". {chain} pieces of track lie one behind another{each}, which takes {need} columns"
         if need > WIDEST:
             return [Note(f"{text}, and a grid has at most {WIDEST}. {shorter(line, least)}")]
+    if stack > height + 1:
+        text += f". {stack} ends, switches or crossings are at {mileage} m and lie one above another, which takes rows 0 to {stack - 1}"
+        if stack > HIGHEST + 1:
+            return [Note(f"{text}, and a grid has at most rows 0 to {HIGHEST}. Draw a part of the station")]
     if width < WIDEST or height < HIGHEST:
-        text += f". A larger grid may do: {again(line, width=str(WIDEST), height=str(HIGHEST))}"
-        if need <= width:
+        is_low = stack > height + 1 and need <= width
+        text += ". A larger grid may do: " + \
+            again(line, width=str(width if is_low else WIDEST), height=str(stack - 1 if is_low else HIGHEST))
+        if need <= width and not is_low:
             text += f". Why there is none on this one: {explaining(line, width, height, least)}"
         return [Note(text)]
     return [Note(f"{text}, and no grid is larger. Why: {explaining(line, width, height, least)}")]

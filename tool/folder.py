@@ -102,6 +102,8 @@ def refuse_one_folder(asked: argparse.Namespace) -> None:
 
 
 def make_folder(out: Path) -> None:
+    if out.exists() and not out.is_dir():
+        end(6, f"{out} is a file. Name a folder, or one that isn't there yet")
     try:
         (out / RECORDS).mkdir(parents=True, exist_ok=True)
     except OSError as error:

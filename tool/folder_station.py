@@ -38,6 +38,10 @@ class Record:
     said: str = ""
     files: list[str] = field(default_factory=list)
 
+    def is_refused(self) -> bool:
+        """whether there is a certificate, and recheck doesn't accept it"""
+        return bool(self.certified) and not self.certified.startswith("certified")
+
 
 @dataclass(frozen=True)
 class Setting:
@@ -99,8 +103,8 @@ def read_record(out: Path, name: str) -> Record | None:
 
 
 def is_done(record: Record | None, key: str, out: Path) -> bool:
-    """whether what is there was made of the same, and is there still"""
-    return record is not None and record.key == key and all((out / it).is_file() for it in record.files)
+    """whether what is there was made of the same, and is there still; a refused certificate is tried again"""
+    return record is not None and record.key == key and not record.is_refused() and all((out / it).is_file() for it in record.files)
 
 
 def grids(setting: Setting, chain: int) -> list[tuple[int, int]]:
@@ -162,7 +166,8 @@ class Drawing:
             top = self.setting.top
             command = [sys.executable, "-S", f"{top}/pages/run.py", f"{top}/tool/bare.py", str(self.path("page")), *given]
             ran, output = self.jobs.run(command, RAILPLAN_PROGRAM=self.setting.program, RAILPLAN_MORE="\n".join(more),
-                                        RAILPLAN_BUILD=self.setting.build)
+                                        RAILPLAN_BUILD=self.setting.build, RAILPLAN_SHEET=f"{self.name}{ENDINGS['sheet']}",
+                                        RAILPLAN_HINTS=f"{self.name}{ENDINGS['hints']}" if self.setting.certifies else "")
             if ran != 3:
                 break
         return ran, output, given
@@ -187,6 +192,9 @@ class Drawing:
             if self.setting.certifies:
                 record.certified = self.certify()
         record.said = explained(self.station, given, status, output, self.setting.program)
+        if record.is_refused():
+            record.status = 8
+            record.said += f"railplan: the certificate of {self.station} was refused: {record.certified}\n"
         record.seconds = round(time.monotonic() - began, 2)
         return record
 

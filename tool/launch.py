@@ -2,6 +2,7 @@
 from __future__ import annotations
 
 import os
+import shlex
 import sys
 from typing import NoReturn
 
@@ -125,8 +126,8 @@ def run(clone: built.Clone, given: list[str]) -> int:
     except OSError:
         end(10, "the current folder isn't there any more. Go to another one: cd ~")
     if line.lacking:
-        end(2, f"behind {line.lacking} its value is missing: {called()} {line.lacking} {words.PAGE_WORDS[line.lacking].value} "
-               f"{' '.join(line.words) or 'draw FILE'}")
+        given = shlex.join(line.words) if len(line.words) > 1 else f"{line.command or 'draw'} FILE"
+        end(2, f"behind {line.lacking} its value is missing: {called()} {line.lacking} {words.PAGE_WORDS[line.lacking].value} {given}")
     held = {}
     if not words.fault(line.words):
         files.look(line)
@@ -149,11 +150,9 @@ def run_words(clone: built.Clone, line: words.Line) -> int:
 
 def no_words() -> int:
     """the program's own answer to no words, which nobody should wait for"""
-    from tool import manual
     write_output(b"words 1 NoCommand 1\n")
     close_output()
-    say(f"a command is missing: {called()} draw FILE draws a station")
-    write_error(manual.overview(called()))
+    say(f"a command is missing: {called()} draw FILE draws a station, and {called()} help says all commands")
     return 2
 
 

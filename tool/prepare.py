@@ -10,6 +10,7 @@ import os
 import re
 from decimal import Decimal, InvalidOperation
 from pathlib import Path
+from shlex import quote
 from xml.parsers import expat
 
 from tool import files, railml, words
@@ -271,8 +272,10 @@ def mended(name: str, data: bytes) -> Prepared:
 def refuse_other(out: str, source: str) -> None:
     """no file but one that prepare wrote is written over"""
     there = files.state_of(out)
-    if there is None:
+    if there is None and not os.path.islink(out):
         return
+    if os.path.islink(out) or not os.path.isfile(out):
+        end(2, f"{out} is {'a link' if os.path.islink(out) else 'no plain file'}, and prepare writes none. Name another file")
     if files.is_one_file(out, source):
         end(2, f"{source} and {out} are one file. Name another one for what is mended")
     if there.st_size and MARK.encode() not in Path(out).read_bytes()[:400]:
@@ -307,6 +310,10 @@ def run(line: words.Line) -> int:
     if it.guesses:
         end(1, f"nothing is written: {len(it.guesses)} {'thing' if len(it.guesses) == 1 else 'things'} would have to be guessed")
     write(out, with_mark(it.data) if it.changes else it.data)
-    count = f"{len(it.changes)} {'change' if len(it.changes) == 1 else 'changes'}" if it.changes else "nothing in it is of a kind that prepare mends"
-    say(f"{out} is written: {count}. This is no part of what is proved. Next: {called()} draw {out}")
+    if it.changes:
+        count = f"{len(it.changes)} {'change' if len(it.changes) == 1 else 'changes'}"
+        say(f"{out} is written: {count}. This is no part of what is proved. {called()} draw {quote(out)} says whether more is wrong")
+    else:
+        say(f"{out} is written as {source} is: nothing in it is of a kind that prepare mends. {called()} draw {quote(source)} says what "
+            f"is wrong")
     return 0

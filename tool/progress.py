@@ -23,6 +23,14 @@ DOING = {"front": "looking for the pairs", "explain": "looking for laws that can
          "check": "checking the log", "trim": "trimming the log", "recheck": "checking the hinted lines"}
 
 
+def columns() -> int:
+    """how wide the terminal is on which progress is shown: that of standard error"""
+    try:
+        return os.get_terminal_size(2).columns
+    except OSError:
+        return 100
+
+
 @dataclass
 class Log:
     """The front of a log that was read so far, and what it says: the bounds by their variables, how many clauses were learnt,
@@ -146,7 +154,7 @@ class Watch:
 
     def show(self, seconds: float) -> None:
         self.is_shown = True
-        write_error("\r" + self.text(seconds, shutil.get_terminal_size((100, 24)).columns - 1) + "\033[K")
+        write_error("\r" + self.text(seconds, columns() - 1) + "\033[K")
 
     def clear(self) -> None:
         if self.is_shown:

@@ -2,6 +2,7 @@
 from __future__ import annotations
 
 import re
+from shlex import quote
 
 from tool import railml
 from tool.notes import Note
@@ -11,13 +12,13 @@ from tool.places import of_byte
 def not_utf8(name: str, data: bytes, place: int, called: str) -> str:
     kind = "UTF-16" if data[:2] in (b"\xff\xfe", b"\xfe\xff") or b"\0" in data[:4] else ""
     found = f"the file is {kind}, and only UTF-8 is read" if kind else "from here on the file isn't UTF-8"
-    return f"{found}. {called} prepare {name} NEW.xml writes it anew as UTF-8, from UTF-16 and Latin-1"
+    return f"{found}. {called} prepare {quote(name)} NEW.xml writes it anew as UTF-8, from UTF-16 and Latin-1"
 
 
 def encoding(name: str, data: bytes, place: int, called: str) -> str:
     found = re.search(rb"encoding\s*=\s*[\"']([^\"'<>]*)", data[place:place + 200])
     named = found[1].decode("utf-8", "replace") if found else "another encoding"
-    return f"the file says that it is {named}, and only UTF-8 is read. {called} prepare {name} NEW.xml writes it anew as UTF-8"
+    return f"the file says that it is {named}, and only UTF-8 is read. {called} prepare {quote(name)} NEW.xml writes it anew as UTF-8"
 
 
 def doctype(name: str, data: bytes, place: int, called: str) -> str:
@@ -85,7 +86,7 @@ def root(name: str, data: bytes, place: int, called: str) -> str:
         return "this is railML 3, which isn't read. Export the infrastructure as railML 2"
     if ":" in named and named.rpartition(":")[2] in ("railml", "infrastructure"):
         return f"the elements have the prefix {named.partition(':')[0]}:, and names are read without one. " \
-               f"{called} prepare {name} NEW.xml takes it off"
+               f"{called} prepare {quote(name)} NEW.xml takes it off"
     return f"the first element is {named}, so the file isn't railML 2: that begins with railml or infrastructure"
 
 
@@ -110,7 +111,7 @@ def no_infrastructure(name: str, data: bytes, place: int, called: str) -> str:
     below = [it.name for it in opened.root.children] if opened.root else []
     prefixed = next((it for it in below if it.endswith(":infrastructure")), "")
     if prefixed:
-        return f"the element {prefixed} has a prefix, and names are read without one. {called} prepare {name} NEW.xml takes it " \
+        return f"the element {prefixed} has a prefix, and names are read without one. {called} prepare {quote(name)} NEW.xml takes it " \
             f"off"
     only = f": it has only {', '.join(dict.fromkeys(below))}" if below else ""
     return f"the file is railML, but has no infrastructure{only}. Export the infrastructure too"

@@ -1,6 +1,7 @@
 """What a fault of a station's topology or of its signals means, and what to do about it."""
 from __future__ import annotations
 
+import shlex
 import difflib
 
 from tool import railml
@@ -34,7 +35,13 @@ class Station:
         return [Note(text, self.place(it))] if it else []
 
     def prepared(self) -> str:
-        return f"{self.called} prepare {self.name} NEW.xml"
+        return f"{self.called} prepare {shlex.quote(self.name)} NEW.xml"
+
+
+def near_hand(given: str) -> str:
+    """the hand that was meant, as far as it can be seen"""
+    found = difflib.get_close_matches(given.lower(), ("left", "right"), 1, 0.6)
+    return f" (did you mean {found[0]}?)" if found else ""
 
 
 def no_tracks(station: Station, it: Element | None, tells: list[str]) -> str:
@@ -187,12 +194,12 @@ def kind_of_crossing(it: Element) -> str:
 def course(station: Station, it: Element | None, tells: list[str]) -> str:
     given = it.attributes.get("course", "") if it else ""
     if it and it.parent and it.parent.name == "crossing":
-        return f"course=\"{given}\" of {tells[0]} is no hand. Write left or right: the hand to which this path leaves the " \
+        return f"course=\"{given}\" of {tells[0]} isn't left or right{near_hand(given)}. Write one of them: the hand to which this path leaves the " \
                "crossing's own track"
     if given == "straight":
         return f"the branch {tells[0]} goes straight, so the track itself turns off, and nothing says to which hand. Write " \
                "trackContinueCourse=\"left\" or \"right\" at the switch"
-    return f"course=\"{given}\" of {tells[0]} is no hand. Write left or right: the hand to which the branch turns off, seen " \
+    return f"course=\"{given}\" of {tells[0]} isn't left or right{near_hand(given)}. Write one of them: the hand to which the branch turns off, seen " \
         "from the points"
 
 

@@ -140,7 +140,7 @@ class Explaining(unittest.TestCase):
         for number, caption in enumerate(captions, 1):
             kept = [str(it) for it in range(1, 5) if it != number]
             self.assertIn(f"Given up: {number}. ", caption)
-            self.assertIn(f"It keeps numbers {kept[0]}, {kept[1]} and {kept[2]} of the list. Laws outside the list aren't kept.",
+            self.assertIn(f"It keeps numbers {kept[0]}, {kept[1]} and {kept[2]} of the list. Laws outside the list needn't be kept.",
                           caption)
 
     def test_one_law_alone_and_other_answers(self) -> None:
