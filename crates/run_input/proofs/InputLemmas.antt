@@ -31,13 +31,13 @@ use Rattle.run_input.specs.Fault.{fault_status}
 use Rattle.run_input.specs.Input.{IsLong, IsShort, HasRows, HasTopology, HasGraph, HasStation, HasFileFault}
 use Rattle.run_input.proofs.FormedRows.{rows_formed}
 
-one_rows : (bytes : List ℕ) (a b : List Elem) → HasRows bytes a → HasRows bytes b → a ≡ b
+pub one_rows : (bytes : List ℕ) (a b : List Elem) → HasRows bytes a → HasRows bytes b → a ≡ b
 one_rows bytes a b p q =
     let one = p.gives.are_rows in
     let other = q.gives.are_rows in
     one.found ∙ ap (λ (t : XmlTree). rows_of t) (one_tree bytes one.tree other.tree one.spells other.spells) ∙ sym other.found
 
-one_topology : (bytes : List ℕ) (t u : Tracks) → HasTopology bytes t → HasTopology bytes u → t ≡ u
+pub one_topology : (bytes : List ℕ) (t u : Tracks) → HasTopology bytes t → HasTopology bytes u → t ≡ u
 one_topology bytes t u a b =
     let P : List Elem → Type 0 = λ rows. IsTopologyOf rows u in
     let same = one_rows bytes b.rows a.rows b.has_rows a.has_rows in

@@ -25,7 +25,7 @@ mod status;
 
 pub use fault::RunFault;
 pub use input::{InputRefusal, Station, station_in};
-pub use laws::{one_fault, one_graph, one_status_to_a_number, station_or_fault};
+pub use laws::{one_fault, one_graph, one_status_to_a_number, signals_or_fault, station_or_fault};
 pub use printing::print;
 pub use reading::{bytes_of, signals_of, station_of};
 pub use reply::{Cut, Reply, cut_of, fault_reply};
