@@ -1,5 +1,5 @@
 -- The analyser's own tables.
-use Rattle.std.proofs.Common.{◌≡◌, ℕ, ◌+◌, ◌<◌, ◌≤◌, ◌∙◌, true, List, length, take, get_or, sym, ap, subst, arith}
+use Rattle.std.proofs.Common.{◌≡◌, ℕ, ◌+◌, ◌<◌, ◌≤◌, ◌∙◌, Bool, true, List, length, take, get_or, sym, ap, subst, arith}
 use Rattle.std.specs.Prelude.{All, Contains}
 use Rattle.std.proofs.lemmas.List.{get_or_default, get_or-take}
 use Rattle.std.proofs.lemmas.List.Elements.{All-weaker}
@@ -26,11 +26,12 @@ AreMet w = (i : ℕ) → i < length w.met → is_seen w.seen (get_or w.met i 0) 
 abbrev pub AreNamed : Sight → Cut → Type 0
 AreNamed s w = (v : ℕ) → IsSeen w v → IsNamed (clauses_in s) v
 
-pub analyser_after : (s : Sight) (w : Cut) (side : List ℕ) (n : ℕ) → IsSound s → w.vars ≡ s.vars → w.vars ≤ VARS → length w.rest ≤ w.vars + 1 → w.vars + 1 ≤ length side → n ≤ w.vars + 1 → n ≡ length w.met → take n side ≡ w.met → AreNamed s w → AreMet w → ((i j : ℕ) → i < j → j < length w.met → get_or w.met i 0 ≡ get_or w.met j 0 → ⊥) → IsAnalyser w side n
-analyser_after s w side n sound vars limit short size within len same named met apart = record {
+pub analyser_after : (s : Sight) (w : Cut) (implied : List Bool) (side : List ℕ) (n : ℕ) → IsSound s → w.vars ≡ s.vars → w.vars ≤ VARS → length w.rest ≤ w.vars + 1 → w.vars + 1 ≤ length side → w.vars + 1 ≤ length implied → n ≤ w.vars + 1 → n ≡ length w.met → take n side ≡ w.met → AreNamed s w → AreMet w → ((i j : ℕ) → i < j → j < length w.met → get_or w.met i 0 ≡ get_or w.met j 0 → ⊥) → IsAnalyser w implied side n
+analyser_after s w implied side n sound vars limit short size tables within len same named met apart = record {
   limit = limit;
   short = short;
   size = size;
+  tables = tables;
   within = within;
   there = λ i lt.
       let there : (1 ≤ get_or w.met i 0) × (get_or w.met i 0 ≤ s.vars) = named_there s (get_or w.met i 0) sound (named (get_or w.met i 0) (met i (omega arith))) in

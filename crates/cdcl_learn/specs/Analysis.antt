@@ -29,11 +29,12 @@ analysis_of w headed first back side len = record {
   seen = take len side;
 }
 
--- the table has a place for each variable; the variables in front are distinct and in range
-pub record IsAnalyser (w : Cut) (side : List ℕ) (len : ℕ) : Type 0 where
+-- both tables have a place for each variable; the variables in front are distinct and in range
+pub record IsAnalyser (w : Cut) (implied : List Bool) (side : List ℕ) (len : ℕ) : Type 0 where
   pub limit : w.vars ≤ VARS
   pub short : length w.rest ≤ w.vars + 1
   pub size : w.vars + 1 ≤ length side
+  pub tables : w.vars + 1 ≤ length implied
   pub within : len ≤ w.vars + 1
   pub there : (i : ℕ) → i < len → (1 ≤ slice_index side i) × (slice_index side i ≤ w.vars)
   pub apart : (i j : ℕ) → i < j → j < len → slice_index side i ≢ slice_index side j

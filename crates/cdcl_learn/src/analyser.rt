@@ -9,6 +9,7 @@ ghost use Rattle.cdcl_learn.specs.Trace.{IsTraced, IsTracedOf};
 ghost use Rattle.cdcl_learn.specs.Analysis.{AreVars, AreSeen, IsImpliedFalse};
 
 use crate::conflict::learn;
+use crate::consequences::Consequences;
 use crate::tracing::{trace_back, trace_clash};
 use crate::work::Work;
 use cnf_core::{Lit, VARS, Var, lengthen};
@@ -21,6 +22,7 @@ use watch_arena::{Arena, ClauseRef, Trail};
 #[derive(Drop)]
 pub struct Analyser {
     work: Work,
+    found: Consequences,
     /// Whether the clause has `first` before the literals of `work`.
     headed: bool,
     first: Lit,
@@ -36,7 +38,7 @@ impl Model for Analyser {
 
     ghost view = { λ a. analysis_of a.work a.headed a.first a.back a.side.items a.side_len };
 
-    ghost invariant = { λ a. IsAnalyser a.work a.side.items a.side_len };
+    ghost invariant = { λ a. IsAnalyser a.work a.found a.side.items a.side_len };
 }
 
 /// Copies the variables that were seen. The answer is how many there are.
@@ -67,6 +69,7 @@ impl Analyser {
     {
         Ok(Analyser {
             work: Work::with_vars(alloc, n)?,
+            found: Consequences::with_vars(alloc, n)?,
             headed: false,
             first: Lit::new(Var(1), true),
             back: 0,
@@ -85,6 +88,7 @@ impl Analyser {
         ensures seen { self.new.seen ≡ self.old.seen }
     {
         lengthen(&mut self.side, n as usize, 0)?;
+        self.found.add_vars(n)?;
         self.work.add_vars(n)
     }
 
@@ -103,7 +107,7 @@ impl Analyser {
         // what the types keep
         let _level = trail.level();
         let _literals = arena.len_of(clash);
-        let learnt = learn(&mut self.work, arena, trail, clash);
+        let learnt = learn(&mut self.work, &mut self.found, arena, trail, clash);
         // what the types keep
         let _short = self.work.len();
         self.headed = true;

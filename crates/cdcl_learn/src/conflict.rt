@@ -7,6 +7,7 @@ ghost use Rattle.cdcl_learn.specs.Cut.{cut_with, cut_with_all, IsSeen, IsResolvi
 ghost use Rattle.cdcl_learn.specs.Cut.{IsBack};
 ghost use Rattle.cdcl_learn.specs.Shorter.{AreMarked};
 
+use crate::consequences::Consequences;
 use crate::work::Work;
 use cnf_core::{Lit, Var};
 use watch_arena::{Arena, ClauseRef, Trail};
@@ -108,11 +109,19 @@ pub struct Learnt {
 
 /// Learns from a clause all of whose literals are false: the clause of the first unique implication
 /// point, without the literals that follow from others.
-pub fn learn(work: &mut Work, arena: &Arena, trail: &Trail, clash: ClauseRef) -> Learnt
+pub fn learn(
+    work: &mut Work,
+    found: &mut Consequences,
+    arena: &Arena,
+    trail: &Trail,
+    clash: ClauseRef,
+) -> Learnt
     requires sound { IsSound (sight arena.now trail.now) }
     requires vars { work.old.vars ≡ trail.now.vars }
     requires clash { IsConflict (sight arena.now trail.now) clash.0 }
+    requires tables { trail.now.vars + 1 ≤ length found.old }
     ensures vars { work.new.vars ≡ work.old.vars }
+    ensures tables { length found.new ≡ length found.old }
     ensures learnt { IsLearnt (sight arena.now trail.now) result.first work.new.rest }
     ensures back { IsBack (sight arena.now trail.now) work.new.rest result.back }
     ensures seen { All (λ k. IsSeen work.new k.var) (result.first ∷ work.new.rest) }
@@ -120,7 +129,7 @@ pub fn learn(work: &mut Work, arena: &Arena, trail: &Trail, clash: ClauseRef) ->
     ensures above { (v : ℕ) → IsSeen work.new v → IsSetAbove (sight arena.now trail.now) v }
 {
     let first = resolve(work, arena, trail, clash);
-    work.shorten(arena, trail);
+    work.shorten(found, arena, trail);
     let back = work.put_latest_first(trail);
     Learnt { first, back }
 }

@@ -15,6 +15,7 @@
 
 mod analyser;
 mod conflict;
+mod consequences;
 mod laws;
 mod shorter;
 mod tables;

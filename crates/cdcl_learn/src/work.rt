@@ -6,10 +6,11 @@ ghost use Rattle.cnf_core.specs.Lit.{Literal, negate, has};
 ghost use Rattle.cnf_core.specs.Propagation.{IsIn};
 ghost use Rattle.watch_arena.specs.Arena.{Attached};
 ghost use Rattle.cdcl_learn.specs.Sight.{sight, IsSound};
-ghost use Rattle.cdcl_learn.specs.Shorter.{IsShortened};
+ghost use Rattle.cdcl_learn.specs.Shorter.{IsFalseBelow, IsShortened};
 ghost use Rattle.cdcl_learn.specs.Cut.{is_seen, with_open, with_lower, with_resolved, IsBlank, IsBack, IsLatest};
 ghost use Rattle.cdcl_learn.specs.Cut.{IsShuffle};
 
+use crate::consequences::Consequences;
 use crate::shorter::keep_needed;
 use crate::tables::lengthen_all;
 use cnf_core::{Lit, VARS, Var};
@@ -109,17 +110,19 @@ impl Work {
     }
 
     /// Drops literals of lower levels that follow from others.
-    pub fn shorten(&mut self, arena: &Arena, trail: &Trail)
+    pub fn shorten(&mut self, found: &mut Consequences, arena: &Arena, trail: &Trail)
         requires sound { IsSound (sight arena.now trail.now) }
         requires vars { self.old.vars ≡ trail.now.vars }
-        requires falsified { All (λ k. IsIn (has trail.now.lits) (negate k)) self.old.rest }
+        requires tables { trail.now.vars + 1 ≤ length found.old }
+        requires falsified { All (IsFalseBelow (sight arena.now trail.now)) self.old.rest }
         requires distinct { AreDistinct self.old.rest }
         ensures vars { self.new.vars ≡ self.old.vars }
         ensures seen { self.new.seen ≡ self.old.seen }
         ensures met { self.new.met ≡ self.old.met }
+        ensures tables { length found.new ≡ length found.old }
         ensures shortened { IsShortened (sight arena.now trail.now) self.old.seen self.old.rest self.new.rest }
     {
-        self.len = keep_needed(&mut self.rest, self.len, &self.seen, arena, trail);
+        self.len = keep_needed(&mut self.rest, self.len, &self.seen, found, arena, trail);
     }
 
     /// Puts a literal of the latest level first among those of lower levels. The answer is its level,

@@ -1,16 +1,13 @@
 use Rattle.std.proofs.Common.{◌≡◌, ◌∙◌, Bool, true, List, ◌∷◌, subst, sym}
 use Rattle.std.specs.Prelude.{All}
-use Rattle.std.proofs.lemmas.List.Elements.{All-tail}
-use Rattle.cnf_core.specs.Lit.{negate, has}
-use Rattle.cnf_core.specs.Propagation.{IsIn}
 use Rattle.cdcl_learn.specs.Sight.{sight}
 use Rattle.cdcl_learn.specs.Cut.{is_seen, IsSeen}
 use Rattle.cdcl_learn.proofs.BackLemmas.{learnt_shuffled, learnt_vars, shuffle_into, with_within}
-use Rattle.cdcl_learn.proofs.ShorterLemmas.{shortened_learnt}
+use Rattle.cdcl_learn.proofs.ShorterLemmas.{shortened_learnt, all_false_below}
 use Rattle.cdcl_learn.proofs.conflict.learn.Goals as goal
 
 pub shorten-requires-clause-falsified : goal.shorten-requires-clause-falsified
-shorten-requires-clause-falsified c = All-tail (λ k. IsIn (has c.args.trail.now.lits) (negate k)) c.resolve-first.result c.resolve-first.new.work.rest c.resolve-first.ensures.learnt.falsified
+shorten-requires-clause-falsified c = all_false_below (sight c.args.arena.now c.args.trail.now) c.resolve-first.result c.resolve-first.new.work.rest c.resolve-first.ensures.learnt
 
 pub shorten-requires-clause-distinct : goal.shorten-requires-clause-distinct
 shorten-requires-clause-distinct c = c.resolve-first.ensures.learnt.distinct.1
@@ -31,7 +28,7 @@ returns-clause-seen c =
     let e : c.put_latest_first-back.new.self.seen ≡ c.resolve-first.new.work.seen = c.put_latest_first-back.ensures.seen ∙ c.shorten.ensures.seen in
     let short = c.shorten.ensures.shortened in
     subst (λ (bs : List Bool). All (λ k. is_seen bs k.var ≡ true) (c.resolve-first.result ∷ c.put_latest_first-back.new.self.rest)) (sym e)
-    (with_within (λ k. IsSeen c.resolve-first.new.work k.var) c.resolve-first.result c.resolve-first.new.work.rest c.put_latest_first-back.new.self.rest (λ k among. short.within k (shuffle_into _ _ c.put_latest_first-back.ensures.shuffle k among)) c.resolve-first.ensures.seen)
+    (with_within (λ k. IsSeen c.resolve-first.new.work k.var) c.resolve-first.result c.resolve-first.new.work.rest c.put_latest_first-back.new.self.rest (λ k among. short.short.within k (shuffle_into _ _ c.put_latest_first-back.ensures.shuffle k among)) c.resolve-first.ensures.seen)
 
 pub returns-clause-named : goal.returns-clause-named
 returns-clause-named c = λ v h.

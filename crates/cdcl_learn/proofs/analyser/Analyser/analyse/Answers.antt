@@ -18,8 +18,9 @@ invariant_of-self c =
     let len : length c.copy_met-self-inside.new.side ≡ c.self.inside.side.len = c.copy_met-self-inside.auto.side ∙ c.deref_mut.ensures.len in
     let items : length c.copy_met-self-inside.new.side ≡ length c.self.inside.side.items = c.copy_met-self-inside.auto.side ∙ ap length c.deref_mut.ensures.value in
     let room : w.vars + 1 ≤ length c.copy_met-self-inside.new.side = omega arith in
-    subst (λ (ns : List ℕ). IsAnalyser w ns c.copy_met-self-inside.result) (sym (take_at c.copy_met-self-inside.new.side (drop (length c.copy_met-self-inside.new.side) c.self.inside.side.items) c.self.inside.side.len len))
-    (analyser_after (sight c.args.arena.now c.args.trail.now) w c.copy_met-self-inside.new.side c.copy_met-self-inside.result (sound_sight c.args.arena.now c.args.trail.now c.requires.arena c.len_of-literals.ensures.attached c.level-level.ensures.marks c.requires.reasoned) here c.len-short.ensures.limit c.len-short.ensures.short room
+    let tables : w.vars + 1 ≤ length c.learn-learnt.new.found = let same = c.learn-learnt.ensures.tables in let before = c.self.invariant.tables in let v : c.self.inside.work.vars ≡ c.args.self.now.vars = ap (λ (m : Analysis). m.vars) c.self.view_is in omega arith in
+    subst (λ (ns : List ℕ). IsAnalyser w c.learn-learnt.new.found ns c.copy_met-self-inside.result) (sym (take_at c.copy_met-self-inside.new.side (drop (length c.copy_met-self-inside.new.side) c.self.inside.side.items) c.self.inside.side.len len))
+    (analyser_after (sight c.args.arena.now c.args.trail.now) w c.learn-learnt.new.found c.copy_met-self-inside.new.side c.copy_met-self-inside.result (sound_sight c.args.arena.now c.args.trail.now c.requires.arena c.len_of-literals.ensures.attached c.level-level.ensures.marks c.requires.reasoned) here c.len-short.ensures.limit c.len-short.ensures.short room tables
     c.copy_met-self-inside.ensures.short c.copy_met-self-inside.ensures.len c.copy_met-self-inside.ensures.same c.learn-learnt.ensures.named c.copy_met-self-inside.ensures.marked c.copy_met-self-inside.ensures.apart)
 
 pub returns-clause-seen : goal.returns-clause-seen
