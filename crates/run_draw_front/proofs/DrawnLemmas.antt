@@ -1,17 +1,14 @@
 -- What the outcome of a search says of the sheet that is written.
-use Rattle.std.proofs.Common.{◌≡◌, ℕ, ◌+◌, ◌<◌, Bool, true, false, List, [], ◌∷◌, ◌++◌, length, take, None, Some, sym, ◌∙◌, ap, subst, arith}
-use Rattle.std.specs.Prelude.{⊤, slice_get, Result, Ok, Err, IfOk, IfSome}
+use Rattle.std.proofs.Common.{◌≡◌, ℕ, ◌<◌, true, false, List, length, None, Some, sym, subst, arith}
+use Rattle.std.specs.Prelude.{⊤, Result, Ok, Err, IfOk, IfSome}
 use Rattle.std.specs.declared.option.Option.{Option}
 use Rattle.std.specs.Option.{is_some}
-use Rattle.std.proofs.lemmas.List.{take_more}
-use Rattle.std.proofs.lemmas.Option.{get_or_from_slice_get}
 use Rattle.plan_core.specs.declared.criterion.Criterion.{Criterion}
 use Rattle.plan_core.specs.Graph.{Graph}
 use Rattle.plan_core.specs.Lawful.{HasSizeOf}
 use Rattle.plan_core.specs.Order.{IsOrder}
 use Rattle.plan_core.proofs.LimitLemmas.{points_on_grid}
 use Rattle.track_order.specs.Order.{EdgeOrder, is_above}
-use Rattle.plan_write.specs.declared.ending.Ending.TheVariants as endings
 use Rattle.plan_text.specs.SheetText.{Sheet, MayBeSettled, DrawsAll, DrawsOnGrid, StatesSettled}
 use Rattle.refute_log.specs.Told.{Lines}
 use Rattle.search_least.specs.declared.outcome.Outcome.{Outcome}

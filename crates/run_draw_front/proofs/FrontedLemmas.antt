@@ -1,9 +1,8 @@
 -- What front answers, from what the search for the front says.
-use Rattle.std.proofs.Common.{◌≡◌, ◌⊎◌, ℕ, List, inl, inr, subst}
+use Rattle.std.proofs.Common.{◌≡◌, ℕ, List, subst}
 use Rattle.plan_core.specs.declared.criterion.Criterion.{Criterion}
 use Rattle.plan_core.specs.Grid.{GridSize}
 use Rattle.plan_core.specs.Graph.{Graph}
-use Rattle.outside_io.specs.Contents.{FilesAt}
 use Rattle.cnf_core.specs.declared.limits.TheConstants.{ROOM}
 use Rattle.track_order.specs.Order.{EdgeOrder}
 use Rattle.refute_log.specs.Told.{Lines}
@@ -14,9 +13,6 @@ use Rattle.trade_off.specs.Outcome.{IsRightFront, IsFrontLog}
 use Rattle.drawing_cnf.specs.Layout.{layout}
 use Rattle.lex_minimise.specs.Task.{task_of}
 use Rattle.run_input.specs.declared.status.Status.{Status}
-use Rattle.run_input.specs.Input.{IsStationOf}
-use Rattle.run_input.specs.Met.{between, HasRead}
-use Rattle.run_input.specs.Answer.{HasReadStation}
 use Rattle.run_draw_front.specs.FrontText.{front_text}
 use Rattle.run_draw_front.specs.Fronted.{FrontJob, front_job, status_of_front, IsFrontAnswer}
 

@@ -1,4 +1,5 @@
 pub mod OutcomeLemmas
+pub mod DerivesLemmas
 pub mod LeavesLemmas
 pub mod DrawnLemmas
 pub mod PictureLemmas

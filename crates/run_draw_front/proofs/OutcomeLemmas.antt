@@ -1,4 +1,9 @@
--- The status of an outcome.
+-- The status of an outcome, and its lines.
+use Rattle.std.proofs.Common.{List, None, Some}
+use Rattle.plan_core.specs.declared.criterion.Criterion.{Criterion}
+use Rattle.refute_log.specs.Told.{Lines}
+use Rattle.search_least.specs.Task.{Task}
+use Rattle.search_least.specs.Outcome.{IsOutcome, IsSearched}
 use Rattle.search_least.specs.declared.outcome.Outcome.{Outcome}
 use Rattle.search_least.specs.declared.outcome.Outcome.TheVariants as outcomes
 use Rattle.run_input.specs.declared.status.Status.{Status}
@@ -11,3 +16,12 @@ on_outcome P (outcomes.Best d) done none unfinished = done
 on_outcome P outcomes.NoDrawing done none unfinished = none
 on_outcome P (outcomes.Spent best settled) done none unfinished = unfinished
 on_outcome P (outcomes.Room best settled) done none unfinished = unfinished
+
+-- the lines of every search
+pub searched_of : (p : Task) (order : List Criterion) (outcome : Outcome) (lines : Lines) → IsOutcome p order outcome lines → IsSearched p order lines
+searched_of p order (outcomes.Best d) lines ended = ended.searched
+searched_of p order outcomes.NoDrawing lines ended = ended.searched
+searched_of p order (outcomes.Spent None settled) lines ended = ended.searched
+searched_of p order (outcomes.Spent (Some d) settled) lines ended = ended.searched
+searched_of p order (outcomes.Room None settled) lines ended = ended.searched
+searched_of p order (outcomes.Room (Some d) settled) lines ended = ended.searched

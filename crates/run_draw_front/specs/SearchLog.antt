@@ -1,11 +1,16 @@
 -- The log of a search: the lines that a run told, to the file that is named for them or else to the trace. The trace is
 -- the log that is handed to a run; the program's keeps no line.
-use Rattle.std.specs.Prelude.{◌≡◌, ℕ, List, None, Some}
+use Rattle.std.specs.Prelude.{◌≡◌, ℕ, List, [], None, Some}
 use Rattle.std.specs.declared.option.Option.{Option}
 use Rattle.outside_io.specs.Contents.{Told, WhereTold}
 use Rattle.refute_log.specs.Lines.{log_text, MayAllBeTold}
 use Rattle.refute_log.specs.Told.{Lines}
+use Rattle.refute_log.specs.Log.{Derives}
 use Rattle.run_input.specs.Met.{Met}
+
+-- where a log told no line before, what it tells derives
+abbrev pub DerivesIfNew : (old new : Lines → Type 0) → Type 0
+DerivesIfNew old new = old [] → (lines : Lines) → new lines → Derives lines
 
 -- the file of this name is the text of these lines, and of no other list
 pub record IsLogFile (name : List ℕ) (lines : Lines) (contents : Told) : Type 0 where

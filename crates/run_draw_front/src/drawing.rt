@@ -16,7 +16,7 @@ ghost use Rattle.run_input.specs.Answer.{IsFileJudged, IsAnswerToFile, HasReadSt
 ghost use Rattle.run_input.specs.Input.{IsShort};
 ghost use Rattle.run_input.specs.Met.{between, ReadsInputs, IsUnwritten, LeftSo, HasLeft};
 ghost use Rattle.refute_log.specs.ToldTo.{told_to};
-ghost use Rattle.run_draw_front.specs.SearchLog.{HoldsLog, IsRunLog};
+ghost use Rattle.run_draw_front.specs.SearchLog.{DerivesIfNew, HoldsLog, IsRunLog};
 ghost use Rattle.run_draw_front.specs.Written.{AreFilesApart, file_named, FailsToWrite};
 ghost use Rattle.run_draw_front.specs.Drawn.{sheet_with, sheet_of, status_of, HasSearched, IsDrawAnswer};
 ghost use Rattle.run_draw_front.specs.Drawn.{HasBegunPicture};
@@ -68,6 +68,7 @@ pub fn search<L: LogSink>(
     ensures searched { IfOk result (HasSearched station.now.graph station.now.order asked.now
         (told_to L.tells L.learnt log.old
         log.new)) }
+    ensures derives { DerivesIfNew (L.tells log.old) (L.tells log.new) }
     ensures later { L.is_later log.old log.new }
     ensures faults { L.faults log.old ≤ L.faults log.new }
     ensures cause { IsErrOf result Cut.Unwritten → Rose (L.faults log.old) (L.faults log.new) }
@@ -213,6 +214,7 @@ pub(crate) fn search_told<F: Files, T: LogSink>(
         (T.faults trace.old) (T.faults trace.new)) }
     ensures read_faults { (F.at files.new).read_faults ≡ (F.at files.old).read_faults }
     ensures reads { (F.at files.new).reads ≡ (F.at files.old).reads }
+    ensures derives { DerivesIfNew (T.tells trace.old) (T.tells trace.new) }
     ensures traced { T.is_later trace.old trace.new }
     ensures untold { asked.now.log ≢ None → trace.new ≡ trace.old }
 {
@@ -246,6 +248,7 @@ fn draw_station<F: Files, T: LogSink>(
     ensures cause { let met = between (F.at files.old) (F.at files.new) in
         IsErrOf result Cut.Unwritten → FailsToWrite (file_named asked.now.log ++ file_named asked.now.svg)
         (asked.now.log ≡ None) met (Rose (T.faults trace.old) (T.faults trace.new)) }
+    ensures derives { DerivesIfNew (T.tells trace.old) (T.tells trace.new) }
     ensures traced { T.is_later trace.old trace.new }
     ensures untold { asked.now.log ≢ None → trace.new ≡ trace.old }
 {
@@ -278,6 +281,7 @@ pub fn draw<F: Files, T: LogSink>(
         IsErrOf result Cut.Unwritten → FailsToWrite (file_named asked.now.log ++ file_named asked.now.svg)
         (asked.now.log ≡ None) met (Rose (T.faults trace.old) (T.faults trace.new)) }
     ensures later { (F.at files.old).read_faults ≤ (F.at files.new).read_faults }
+    ensures derives { DerivesIfNew (T.tells trace.old) (T.tells trace.new) }
     ensures traced { T.is_later trace.old trace.new }
     ensures untold { let met = between (F.at files.old) (F.at files.new) in
         IsOkAnd result (λ r. IsRefused r.status)

@@ -7,6 +7,7 @@ ghost use Rattle.refute_log.specs.ToldTo.{told_to};
 ghost use Rattle.run_input.specs.Status.{IsAnswered, IsRefused};
 ghost use Rattle.run_input.specs.Met.{between, ReadsInputs, IsUnwritten};
 ghost use Rattle.run_input.specs.Answer.{IsFileJudged, IsAnswerToFile, HasReadStation};
+ghost use Rattle.run_draw_front.specs.SearchLog.{DerivesIfNew};
 ghost use Rattle.run_draw_front.specs.Fronted.{IsFrontAnswer, status_of_front};
 
 use crate::writing::text_of;
@@ -64,6 +65,7 @@ fn front_station<L: LogSink>(
     ensures answer { let told = told_to L.tells L.learnt log.old log.new in
         IfOk result (λ r. IsFrontAnswer asked.now told station.now.graph station.now.order r.status r.text.items) }
     ensures unrefused { IsOkAnd result (λ r. IsRefused r.status) → ⊥ }
+    ensures derives { DerivesIfNew (L.tells log.old) (L.tells log.new) }
     ensures later { L.is_later log.old log.new }
     ensures cause { IsErrOf result Cut.Unwritten → Rose (L.faults log.old) (L.faults log.new) }
 {
@@ -106,6 +108,7 @@ pub fn front<F: Files, T: LogSink>(
     ensures same { WhereTold (F.at files.old).contents (F.at files.new).contents SameFiles }
     ensures cause { IsErrOf result Cut.Unwritten → Rose (T.faults trace.old) (T.faults trace.new) }
     ensures later { (F.at files.old).read_faults ≤ (F.at files.new).read_faults }
+    ensures derives { DerivesIfNew (T.tells trace.old) (T.tells trace.new) }
     ensures traced { T.is_later trace.old trace.new }
     ensures untold { let met = between (F.at files.old) (F.at files.new) in
         IsOkAnd result (λ r. IsRefused r.status) ⊎ (HasReadStation input.now met → ⊥) → trace.new ≡ trace.old }

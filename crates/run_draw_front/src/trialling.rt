@@ -10,6 +10,7 @@ ghost use Rattle.station_make.specs.StationText.{station_text};
 ghost use Rattle.run_input.specs.Status.{IsRefused};
 ghost use Rattle.run_input.specs.Input.{HasSomeStation};
 ghost use Rattle.run_input.specs.Answer.{IsFileJudged};
+ghost use Rattle.run_draw_front.specs.SearchLog.{DerivesIfNew};
 ghost use Rattle.run_draw_front.specs.Drawn.{HasSearched};
 ghost use Rattle.run_draw_front.specs.Tried.{IsMade, IsTried, trial_job, graph_counts, best_measures, trial_end};
 ghost use Rattle.run_draw_front.specs.Tried.{trial_line};
@@ -69,6 +70,7 @@ fn search_trial<L: LogSink>(alloc: Global, station: &Station, log: &mut L) -> Re
     ensures searched { IfOk result (HasSearched station.now.graph station.now.order trial_job
         (told_to L.tells L.learnt log.old
         log.new)) }
+    ensures derives { DerivesIfNew (L.tells log.old) (L.tells log.new) }
     ensures later { L.is_later log.old log.new }
     ensures faults { L.faults log.old ≤ L.faults log.new }
     ensures cause { IsErrOf result Cut.Unwritten → Rose (L.faults log.old) (L.faults log.new) }
@@ -152,6 +154,7 @@ fn try_station<L: LogSink>(
     ensures answer { IfOk result (λ r. IsTried n (told_to L.tells L.learnt log.old log.new) station.now.graph
         station.now.order
         r.status r.text.items) }
+    ensures derives { DerivesIfNew (L.tells log.old) (L.tells log.new) }
     ensures later { L.is_later log.old log.new }
     ensures faults { L.faults log.old ≤ L.faults log.new }
     ensures cause { IsErrOf result Cut.Unwritten → Rose (L.faults log.old) (L.faults log.new) }
@@ -168,6 +171,7 @@ pub fn trial<L: LogSink>(alloc: Global, n: u32, log: &mut L) -> Result<Reply, Cu
     ensures answer { IfOk result (λ r. IsFileJudged (IsTried n (told_to L.tells L.learnt log.old log.new))
         (station_text n)
         r.status r.text.items) }
+    ensures derives { DerivesIfNew (L.tells log.old) (L.tells log.new) }
     ensures later { L.is_later log.old log.new }
     ensures cause { IsErrOf result Cut.Unwritten → Rose (L.faults log.old) (L.faults log.new) }
     ensures untold { IsOkAnd result (λ r. IsRefused r.status) ⊎ (HasSomeStation (station_text n) → ⊥) → log.new

@@ -32,6 +32,7 @@ use Rattle.log_check.specs.Judged.{IsLogJudged}
 use Rattle.log_check.proofs.CountingLemmas.{caps_alone}
 use Rattle.log_check.proofs.JudgingLemmas.{same_expectation}
 use Rattle.run_check.specs.CheckLine.{claim_of}
+use Rattle.run_draw_front.proofs.OutcomeLemmas.{searched_of}
 use Rattle.run_draw_front.specs.Drawn.{Job, search_of, sheet_of}
 use Rattle.run_check.specs.Checked.{PassesCheck}
 use Rattle.log_trim.proofs.OwnLog.{own_bounds}
@@ -52,14 +53,6 @@ whole_or_none g o asked (outcomes.Spent None settled) lines ended = ended.told
 whole_or_none g o asked (outcomes.Spent (Some d) settled) lines ended = inl ended.whole
 whole_or_none g o asked (outcomes.Room None settled) lines ended = ended.told
 whole_or_none g o asked (outcomes.Room (Some d) settled) lines ended = inl ended.whole
-
-searched_of : (g : Graph) (o : EdgeOrder) (asked : Job) (outcome : Outcome) (lines : Lines) → IsOutcome (search_of g o asked) asked.order outcome lines → IsSearched (search_of g o asked) asked.order lines
-searched_of g o asked (outcomes.Best d) lines ended = ended.searched
-searched_of g o asked outcomes.NoDrawing lines ended = ended.searched
-searched_of g o asked (outcomes.Spent None settled) lines ended = ended.searched
-searched_of g o asked (outcomes.Spent (Some d) settled) lines ended = ended.searched
-searched_of g o asked (outcomes.Room None settled) lines ended = ended.searched
-searched_of g o asked (outcomes.Room (Some d) settled) lines ended = ended.searched
 
 -- its words have room where they are told
 few_words : (e : Expectation) (lines : Lines) → clause_lines lines ≡ e.lines → words_of (flat_map added lines) ≤ ROOM → words_of (flat_map given e.lines) ≤ ROOM
@@ -129,7 +122,7 @@ order_asked asked (outcomes.Room found settled) = refl
 judged : (g : Graph) (o : EdgeOrder) (asked : Job) (outcome : Outcome) (lines : Lines) → IsOutcome (search_of g o asked) asked.order outcome lines →
     IsLogJudged (layout g o asked.grid) asked.order (claim_for asked outcome) (log_text lines) verdicts.Certified
 judged g o asked outcome lines ended =
-    let searched = searched_of g o asked outcome lines ended in
+    let searched = searched_of (search_of g o asked) asked.order outcome lines ended in
     record {
       expected = expected_of g o asked lines;
       is_expected = record {

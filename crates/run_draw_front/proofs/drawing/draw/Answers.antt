@@ -8,6 +8,7 @@ use Rattle.run_input.specs.Met.{between}
 use Rattle.run_input.proofs.AnswerLemmas.{refused_on}
 use Rattle.run_draw_front.proofs.FiledLemmas.{drawn_on, leaves_on, unwritten_on, untold_on}
 use Rattle.run_input.proofs.MetLemmas.{reads_one}
+use Rattle.run_draw_front.proofs.DerivesLemmas.{new_unchanged}
 use Rattle.run_draw_front.proofs.drawing.draw.Goals as goal
 
 pub returns-in-Ok-clause-answer : goal.returns-in-Ok-clause-answer
@@ -52,3 +53,12 @@ returns-in_ok-fault_reply-in-Err-Fault-clause-answer g c =
     let reply = c.in_ok-fault_reply-in-Err-Fault.field-0 in
     refused_on (IsDrawAnswer c.args.asked.now met traced) c.args.input.now met c.in-Err-Fault.field-0 c.in-Err-Fault.fault reply.status reply.text.items c.in-Err-Fault.ensures.refusal
     c.in-Err-Fault.field-0-is c.in_ok-fault_reply-in-Err-Fault.ensures.told
+
+pub returns-in_err-fault_reply-in-Err-Fault-clause-derives : goal.returns-in_err-fault_reply-in-Err-Fault-clause-derives
+returns-in_err-fault_reply-in-Err-Fault-clause-derives g c = new_unchanged (g.T.LogSink.tells c.args.trace.now) (g.met.T.LogSink.one_reading c.args.trace.now)
+
+pub returns-in_ok-fault_reply-in-Err-Fault-clause-derives : goal.returns-in_ok-fault_reply-in-Err-Fault-clause-derives
+returns-in_ok-fault_reply-in-Err-Fault-clause-derives g c = new_unchanged (g.T.LogSink.tells c.args.trace.now) (g.met.T.LogSink.one_reading c.args.trace.now)
+
+pub returns-in-Err-Memory-clause-derives : goal.returns-in-Err-Memory-clause-derives
+returns-in-Err-Memory-clause-derives g c = new_unchanged (g.T.LogSink.tells c.args.trace.now) (g.met.T.LogSink.one_reading c.args.trace.now)

@@ -1,5 +1,4 @@
 use Rattle.std.specs.Prelude.{IsOkAnd}
-use Rattle.std.proofs.lemmas.Result.{IfOk-weaker}
 use Rattle.refute_log.specs.ToldTo.{told_to}
 use Rattle.run_input.specs.Status.{IsRefused}
 use Rattle.run_input.specs.Met.{between}
@@ -7,6 +6,7 @@ use Rattle.run_input.proofs.AnswerLemmas.{refused_on}
 use Rattle.run_input.proofs.MetLemmas.{reads_one}
 use Rattle.run_draw_front.specs.Fronted.{IsFrontAnswer}
 use Rattle.run_input.proofs.AnswerLemmas.{untold_here}
+use Rattle.run_draw_front.proofs.DerivesLemmas.{new_unchanged}
 use Rattle.run_draw_front.proofs.fronting.front.Goals as goal
 
 pub returns-in-Ok-clause-reads : goal.returns-in-Ok-clause-reads
@@ -26,3 +26,12 @@ returns-in_ok-fault_reply-in-Err-Fault-clause-answer g c =
     let reply = c.in_ok-fault_reply-in-Err-Fault.field-0 in
     refused_on (IsFrontAnswer c.args.asked.now traced) c.args.input.now met c.in-Err-Fault.field-0 c.in-Err-Fault.fault reply.status reply.text.items c.in-Err-Fault.ensures.refusal
     c.in-Err-Fault.field-0-is c.in_ok-fault_reply-in-Err-Fault.ensures.told
+
+pub returns-in_err-fault_reply-in-Err-Fault-clause-derives : goal.returns-in_err-fault_reply-in-Err-Fault-clause-derives
+returns-in_err-fault_reply-in-Err-Fault-clause-derives g c = new_unchanged (g.T.LogSink.tells c.args.trace.now) (g.met.T.LogSink.one_reading c.args.trace.now)
+
+pub returns-in_ok-fault_reply-in-Err-Fault-clause-derives : goal.returns-in_ok-fault_reply-in-Err-Fault-clause-derives
+returns-in_ok-fault_reply-in-Err-Fault-clause-derives g c = new_unchanged (g.T.LogSink.tells c.args.trace.now) (g.met.T.LogSink.one_reading c.args.trace.now)
+
+pub returns-in-Err-Memory-clause-derives : goal.returns-in-Err-Memory-clause-derives
+returns-in-Err-Memory-clause-derives g c = new_unchanged (g.T.LogSink.tells c.args.trace.now) (g.met.T.LogSink.one_reading c.args.trace.now)

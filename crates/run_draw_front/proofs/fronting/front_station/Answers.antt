@@ -1,5 +1,6 @@
 use Rattle.refute_log.specs.ToldTo.{told_to}
 use Rattle.run_draw_front.proofs.FrontedLemmas.{fronted}
+use Rattle.run_draw_front.proofs.DerivesLemmas.{new_told}
 use Rattle.run_draw_front.proofs.fronting.front_station.Goals as goal
 
 pub returns-in_ok-text_of-in-Ok-clause-answer : goal.returns-in_ok-text_of-in-Ok-clause-answer
@@ -7,3 +8,21 @@ returns-in_ok-text_of-in-Ok-clause-answer g c =
     let traced = told_to {Self = g.row.L.Denot} g.L.LogSink.tells g.L.LogSink.learnt c.args.log.now c.front.new.log in
     fronted c.asked.inside.grid.now c.asked.inside.first c.asked.inside.second c.asked.inside.budget c.args.asked.now traced c.args.station.now.graph c.args.station.now.order c.in-Ok.found.pairs c.in-Ok.found.ending c.status_of.result
     c.in_ok-text_of-in-Ok.field-0.items c.asked.view_is c.in-Ok.ensures.right c.in-Ok.ensures.lines c.status_of.ensures c.in_ok-text_of-in-Ok.ensures
+
+pub returns-in_err-text_of-in-Ok-clause-derives : goal.returns-in_err-text_of-in-Ok-clause-derives
+returns-in_err-text_of-in-Ok-clause-derives g c =
+    let k = g.L.LogSink in
+    let lines = c.in-Ok.ensures.lines in
+    new_told (k.tells c.args.log.now) (k.tells c.front.new.log) lines.0 (g.met.L.LogSink.one_reading c.front.new.log) lines.1.behind lines.2.derives
+
+pub returns-in_ok-text_of-in-Ok-clause-derives : goal.returns-in_ok-text_of-in-Ok-clause-derives
+returns-in_ok-text_of-in-Ok-clause-derives g c =
+    let k = g.L.LogSink in
+    let lines = c.in-Ok.ensures.lines in
+    new_told (k.tells c.args.log.now) (k.tells c.front.new.log) lines.0 (g.met.L.LogSink.one_reading c.front.new.log) lines.1.behind lines.2.derives
+
+pub returns-in-Err-Log-clause-derives : goal.returns-in-Err-Log-clause-derives
+returns-in-Err-Log-clause-derives g c = λ none lines is. (c.in-Err-Log.ensures.left none lines is).derives
+
+pub returns-in-Err-Memory-clause-derives : goal.returns-in-Err-Memory-clause-derives
+returns-in-Err-Memory-clause-derives g c = λ none lines is. (c.in-Err-Memory.ensures.left none lines is).derives

@@ -12,6 +12,7 @@ use Rattle.run_draw_front.specs.Drawn.{Job, job}
 use Rattle.run_draw_front.specs.Signalled.{HasReadSignals}
 use Rattle.run_draw_front.proofs.LeavesLemmas.{NamedMay}
 use Rattle.run_draw_front.proofs.SignalledLemmas.{as_many_places, longer_is, signalled_for, signalled_on, signals_refused_on, signals_leave, signals_unwritten, signals_untold}
+use Rattle.run_draw_front.proofs.DerivesLemmas.{new_unchanged}
 use Rattle.run_draw_front.proofs.signalling.signals.Goals as goal
 
 pub signal_station-requires-clause-same : goal.signal_station-requires-clause-same
@@ -98,3 +99,12 @@ returns-in_ok-fault_reply-in-Err-Fault-clause-answer g c =
     let reply = c.in_ok-fault_reply-in-Err-Fault.field-0 in
     signals_refused_on c.args.asked.now traced c.args.input.now met c.in-Err-Fault.field-0 c.in-Err-Fault.fault reply.status reply.text.items c.in-Err-Fault.ensures.refusal c.in-Err-Fault.field-0-is
     (rw c.in-Err-Fault.field-0-is at c.in_ok-fault_reply-in-Err-Fault.ensures.told)
+
+pub returns-in_err-fault_reply-in-Err-Fault-clause-derives : goal.returns-in_err-fault_reply-in-Err-Fault-clause-derives
+returns-in_err-fault_reply-in-Err-Fault-clause-derives g c = new_unchanged (g.T.LogSink.tells c.args.trace.now) (g.met.T.LogSink.one_reading c.args.trace.now)
+
+pub returns-in_ok-fault_reply-in-Err-Fault-clause-derives : goal.returns-in_ok-fault_reply-in-Err-Fault-clause-derives
+returns-in_ok-fault_reply-in-Err-Fault-clause-derives g c = new_unchanged (g.T.LogSink.tells c.args.trace.now) (g.met.T.LogSink.one_reading c.args.trace.now)
+
+pub returns-in-Err-Memory-clause-derives : goal.returns-in-Err-Memory-clause-derives
+returns-in-Err-Memory-clause-derives g c = new_unchanged (g.T.LogSink.tells c.args.trace.now) (g.met.T.LogSink.one_reading c.args.trace.now)
