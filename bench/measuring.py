@@ -56,11 +56,17 @@ def counts_of(program: Path, station: Path) -> list[str]:
     return [graph.first("nodes "), graph.first("edges ")] if graph.status == 0 else [graph.text.strip(), "-"]
 
 
-def reader_of_words(about: str | None, **more: str) -> argparse.ArgumentParser:
-    """the words that each script takes: a program, and where its table goes"""
+def reader_of_program(about: str | None) -> argparse.ArgumentParser:
+    """the one word of a script without a table: a program"""
     parser = argparse.ArgumentParser(description=about, formatter_class=argparse.RawDescriptionHelpFormatter)
     parser.add_argument("program", type=Path, nargs="?", default=BUILT, metavar="PROGRAM",
                         help="the program that is measured (the one that ./railplan built)")
+    return parser
+
+
+def reader_of_words(about: str | None, **more: str) -> argparse.ArgumentParser:
+    """the words of a script with a table: a program, and whether the table is written"""
+    parser = reader_of_program(about)
     parser.add_argument("--write", action="store_true", help="write the table into bench/results, from which docs/measured.md is made")
     for name, said in more.items():
         parser.add_argument(f"--{name}", nargs="*", default=[], help=said)

@@ -13,7 +13,7 @@ import tempfile
 from concurrent.futures import ThreadPoolExecutor
 from pathlib import Path
 
-from measuring import TOP, read_words, reader_of_words
+from measuring import TOP, read_words, reader_of_program
 
 SOURCE = TOP / "bench" / "programs" / "refuse.c"
 STATION = TOP / "cases" / "stations" / "loop.xml"
@@ -54,7 +54,7 @@ class Tally:
 
 
 def main() -> None:
-    words = read_words(reader_of_words(__doc__))
+    words = read_words(reader_of_program(__doc__))
     if not shutil.which("cc"):
         sys.exit("bench/refused.py: a C compiler, cc, is needed")
     with tempfile.TemporaryDirectory() as folder, ThreadPoolExecutor(os.cpu_count()) as pool:
