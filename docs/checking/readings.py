@@ -2,7 +2,8 @@
 
 No program sees whether a sentence says what a definition means. So a record is kept of each paragraph and of the text of the
 definitions that it names. Where either is another one now, the paragraph is to be read again beside what it tells, and mended if it
-needs it; `docs/check --read` then keeps the record anew, and says of which paragraphs."""
+needs it; `docs/check --read` then keeps the record anew, and says of which paragraphs. Each page has a row besides, which sees
+headings, the order of paragraphs, those that went, and white space inside blocks."""
 import csv
 import hashlib
 import re
@@ -12,8 +13,9 @@ from checking.crates import TOP, crates, read, show, spans, words_of
 from checking.style import MADE, pages
 
 RECORD = TOP / "docs" / "checking" / "read.csv"
+WHOLE = "the page"
 # pages whose sentences are no facts of the sources
-LEFT_OUT = {"docs/style.md", "docs/measured.md"}
+LEFT_OUT = {"docs/style.md"}
 
 
 def short(text):
@@ -25,6 +27,12 @@ def paragraphs(text):
     text = re.sub(r"<!-- made: .*?<!-- end -->", "", text, flags=re.S)
     parts = re.split(r"\n\s*\n(?![^`]*```\n(?!\n))|\n(?=- )", text)
     return [part.strip() for part in parts if part.strip() and not part.strip().startswith("#")]
+
+
+def whole(text):
+    """A page as one text: without what is made, and with white space kept in blocks alone."""
+    text = re.sub(r"<!-- made: .*?<!-- end -->", "", text, flags=re.S)
+    return "".join(part if part.startswith("```") else " ".join(part.split()) for part in re.split(r"(^```.*?^```)", text, flags=re.M | re.S))
 
 
 def definitions():
@@ -43,6 +51,7 @@ def readings():
         name = str(show(path))
         if MADE in path.parents or name in LEFT_OUT:
             continue
+        found.append((name, WHOLE, hashlib.sha256(whole(read(path)).encode()).hexdigest()[:12], WHOLE))
         for part in paragraphs(read(path)):
             named = sorted({word for span in spans(part) for word in re.findall(r"[A-Za-z_]\w*", span) if word in known})
             found.append((name, part, short(part), short("".join(text for word in named for text in known[word])) if named else "-"))
@@ -60,9 +69,12 @@ def unread():
     """The paragraphs that aren't as they were when they were read, or what they name isn't."""
     known = recorded()
     paragraphs_known = {(page, own) for page, own, _ in known}
-    found = []
-    for page, part, own, named in readings():
-        if (page, own, named) not in known:
+    found, changed = [], set()
+    for page, part, own, named in sorted(readings(), key=lambda row: row[1] == WHOLE):
+        if (page, own, named) not in known and part == WHOLE:
+            found += [] if page in changed else [(page, "its headings, or the order or the number of its paragraphs", "they changed")]
+        elif (page, own, named) not in known:
+            changed.add(page)
             why = "what it names changed" if (page, own) in paragraphs_known else "it is new or changed"
             found.append((page, part, why))
     return found

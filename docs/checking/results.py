@@ -1,9 +1,10 @@
 """The tables of docs/measured.md and its plots, from the CSV files that the scripts of bench/ write."""
 import csv
+import re
 from functools import partial
 from html import escape
 
-from checking.crates import TOP
+from checking.crates import TOP, read
 
 RESULTS = TOP / "bench" / "results"
 PLOT = TOP / "docs" / "made" / "together.svg"
@@ -53,3 +54,11 @@ def together_plot():
     rows = [row for row in rows if not row[0].startswith("all")]
     series = [("before", [float(row[5]) for row in rows]), ("drawn together", [float(row[6]) for row in rows])]
     return bars("Seconds of draw on a grid of 64 by 12", [row[0] for row in rows], series)
+
+
+def all_failures():
+    """Words of docs/measured.md that are set as a table's heading and that no table has."""
+    heads = {word.lower() for path in RESULTS.glob("*.csv") for word in rows_of(path.stem)[0]}
+    text = re.sub(r"<!-- made: .*?<!-- end -->|\*\*[^*]*\*\*", "", read(TOP / "docs" / "measured.md"), flags=re.S)
+    return [f"docs/measured.md: no table has a heading {word}" for word in re.findall(r"(?<!\*)\*([^*\n]+)\*(?!\*)", text)
+            if word.lower() not in heads]

@@ -21,6 +21,9 @@ NUMBERS = [
     ("plan_core", "MAX_HEIGHT", 0, README, r"`--width \d+ --height #` is the largest"),
     ("plan_words", "DEFAULT_BUDGET", 0, README, r"one from each dead end: #, or what"),
     ("plan_core", "MAX_BUDGET", 0, README, r"says, up to #\."),
+    ("plan_words", "DEFAULT_BUDGET", 0, "docs/guide.md", r"may learn # clauses"),
+    ("plan_core", "MAX_BUDGET", 0, "docs/guide.md", r"`--conflicts #`, for fewer"),
+    ("cdcl_core", "RESTART", 0, "docs/DECISIONS.md", r"restart every # conflicts stays"),
     ("plan_words", "MAX_SEED", 0, FORMATS, r"that of `make` and of `trial` 0 to #"),
     ("plan_core", "MAX_FILE_BYTES", 0, FORMATS, r"A file of up to # bytes"),
     ("plan_core", "MAX_LOG_BYTES", 0, FORMATS, r"the log with up to # bytes"),
@@ -49,7 +52,7 @@ NUMBERS = [
 
 GEOMETRY = "plan_core/specs/Laws.antt"
 
-# (file under crates/, a line of it, and the sentences that tell it: of each its page and its words)
+# (file under crates/, or from `tool/`, `pages/` or `.ci/` on, a line of it, and the sentences that tell it: of each its page and its words)
 SAYINGS = [
     # the seven laws
     (GEOMETRY, "pub in_width : p.x ≤ grid.width pub in_height : p.y ≤ grid.height",
@@ -146,6 +149,15 @@ SAYINGS = [
      [(FORMATS, "on a grid of 64 by 2"), ("docs/trusted.md", "on a grid of 64 by 2")]),
     ("run_draw_front/src/trialling.rt", "Order::new(&[Criterion::Height, Criterion::Width])", [(FORMATS, "in the order `height,width`")]),
     ("plan_core/src/limits.rt", "MAX_FILE_BYTES: usize = 4_194_304;", [(README, "4 MiB")]),
+    # around the program
+    ("tool/launch.py", "this is a fault of the launcher itself, so nothing more is known: {type(error).__name__}: {error}\") return 10",
+     [(FORMATS, "The launcher ends with 10 too"), ("THEOREM.md", "The launcher also ends with 10 and 130")]),
+    ("tool/install.py", 'line.words[1] if len(line.words) > 1 else "~/.local"', [(README, "`~/.local` is usual")]),
+    ("pages/columns.py", 'PAPERS = {"A4": (297, 210), "A3": (420, 297), "A2": (594, 420), "A1": (841, 594)}', [("docs/guide.md", "A4 to A1 go as well")]),
+    (".ci/run", "rt ci status=$?", [(README, "the gate: rt ci (proofs, tests, edits that must fail), cases/, bench/hostile, pages/, tool/, documents")]),
+    (".ci/run", "cases/run crates/railplan_main/out/railplan_main >&2 || status=1 bench/hostile/run crates/railplan_main/out/railplan_main "
+     ">&2 || status=1 python3 pages/check.py >&2 || status=1 python3 -m unittest discover -s tool -t . >&2 || status=1 python3 docs/check",
+     [(README, "rt ci (proofs, tests, edits that must fail), cases/, bench/hostile, pages/, tool/, documents")]),
 ]
 
 
@@ -165,11 +177,12 @@ def numbers_that_differ():
 
 def sayings_that_fail():
     found = []
-    for path, line, told in SAYINGS:
-        if plain(line) not in plain(read(TOP / "crates" / path)):
-            found.append(f"crates/{path}: has no line '{plain(line)[:70]}' any more; read what pages say of it, and "
+    for name, line, told in SAYINGS:
+        path = name if name.startswith(("tool/", "pages/", ".ci/")) else f"crates/{name}"
+        if plain(line) not in plain(read(TOP / path)):
+            found.append(f"{path}: has no line '{plain(line)[:70]}' any more; read what pages say of it, and "
                          "docs/checking/sayings.py")
-        found += [f"{page}: doesn't say '{words[:100]}', which tells '{plain(line)[:60]}' of crates/{path}"
+        found += [f"{page}: doesn't say '{words[:100]}', which tells '{plain(line)[:60]}' of {path}"
                   for page, words in told if words not in plain(read(TOP / page))]
     return found
 
