@@ -73,8 +73,8 @@ SAYINGS = [
      [(LAWS, "Through a joint both lines have one slope."), (DEFINITIONS, "At a joint both slopes are equal.")]),
     (GEOMETRY, "Diverges East Upper s diverging = IsOneMore s diverging Diverges East Lower s diverging = IsOneMore diverging s "
                "Diverges West Upper s diverging = IsOneMore diverging s Diverges West Lower s diverging = IsOneMore s diverging",
-     [(LAWS, "with legs in the east an upper leg goes one step more up, a lower one one step more down; with legs in the west, seen "
-             "from west to east, an upper leg goes one step more down to the switch, and a lower one one step more up."),
+     [(LAWS, "Read slopes from west to east. With legs in the east an upper leg rises one step more, and a lower one falls one step "
+             "more. With legs in the west an upper leg falls one step more to the switch, and a lower one rises one step more."),
       (DEFINITIONS, "with legs in the east, s + 1 where it is the upper one and s - 1 where it is the lower one, with legs in the "
                     "west the other way round")]),
     (GEOMETRY, "pub goes_straight : at_node straight ≡ at_node trunk",
@@ -86,8 +86,8 @@ SAYINGS = [
     (GEOMETRY, "NodesAreApart d u v = place d u ≢ place d v",
      [(LAWS, "Two nodes don't have one point."), (DEFINITIONS, "distinct nodes have distinct points.")]),
     (GEOMETRY, "EdgeIsOver g d e f = (x : ℕ) → AreCompared g d e f x → height (line d f) x < height (line d e) x",
-     [(LAWS, "Where the track graph has one edge above another, its line is higher in each column that both lines have, but for the "
-             "column of a node at which both end."),
+     [(LAWS, "Where the track graph has one edge above another, its line is higher in each column that both lines have. The column "
+             "of a node at which both end is excepted."),
       (DEFINITIONS, "where one edge is above another, its line is the higher one over each column that both lines have, but for the "
                     "column of a node that is an end of both.")]),
     (GEOMETRY, "EdgesAreParted g d e f = EdgeIsOver g d e f ⊎ EdgeIsOver g d f e",
