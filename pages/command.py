@@ -12,8 +12,7 @@ import tempfile
 import time
 from dataclasses import dataclass, field
 from pathlib import Path
-from types import FrameType
-from typing import Iterator, Optional
+from typing import Optional
 
 from pages import kinds, texts
 from pages.columns import PAPERS
@@ -22,16 +21,13 @@ from pages.files import Input, Output, Refused, hashed, is_one_file, read_once
 from pages.kinds import ANSWERED, INPUTS, Page, Run, Settings
 from pages.texts import Graph, NoPage
 from pages.whole import page_text
+from tool import running
 from tool import words as table
 from tool.version import VERSION
 
 USE = "a page is asked for by --html FILE and the words of draw, signals, front, explain, redraw or verify"
 CHOICES = {"--paper": tuple(PAPERS), "--labels": ("name", "id"), "--side": ("right", "left")}
 FILES = {"--html": b"<!DOCTYPE html>", "--dxf": b"0\r\nSECTION", "--csv": b"km,kind,name,id"}
-
-
-class Stopped(Exception):
-    """the run was interrupted"""
 
 
 @dataclass
@@ -103,12 +99,15 @@ class Program:
         self.job: Optional[subprocess.Popen[bytes]] = None
 
     def run(self, words: list[str], is_quiet: bool = False) -> tuple[int, bytes]:
-        """the status and the output of a run"""
+        """the status and the output of a run; until the launcher listens an interrupt waits"""
+        signal.pthread_sigmask(signal.SIG_BLOCK, (signal.SIGINT,))
         self.job = subprocess.Popen([*self.command, *words], stdout=subprocess.PIPE, env=self.environment,
                                     stderr=subprocess.DEVNULL if is_quiet else None)
         try:
+            signal.pthread_sigmask(signal.SIG_UNBLOCK, (signal.SIGINT,))
             output = self.job.communicate()[0]
         except BaseException:
+            running.leave_alone()
             self.stop()
             raise
         return (self.job.returncode if self.job.returncode >= 0 else 128 - self.job.returncode), output
@@ -131,19 +130,6 @@ class Program:
             return texts.read_graph(output.decode("utf-8", "replace")) if status == 0 else None
         except (NoPage, ValueError):
             return None
-
-
-@contextlib.contextmanager
-def stoppable() -> Iterator[None]:
-    """an interrupt, a request to end and a closed terminal end the run, with everything taken away"""
-    def stop(number: int, frame: Optional[FrameType]) -> None:
-        for other in (signal.SIGINT, signal.SIGTERM, signal.SIGHUP):
-            signal.signal(other, signal.SIG_IGN)
-        raise Stopped
-
-    for number in (signal.SIGINT, signal.SIGTERM, signal.SIGHUP):
-        signal.signal(number, stop)
-    yield
 
 
 def open_ends() -> bool:
@@ -252,6 +238,7 @@ def run_asked(launcher: str, asked: Asked, folder: Path, outputs: dict[str, Outp
     program = Program(launcher, asked, inputs)
     status, output = program.run(words)
     if status > 128:
+        say(unwritten(outputs))
         return status
     ended = give_all(output, is_open)
     run = Run(asked.words, line.names, line.options, output.decode("utf-8", "replace"), status, inputs, log=None,
@@ -288,30 +275,40 @@ def give_all(output: bytes, is_open: bool) -> int:
     return 0
 
 
+def unwritten(outputs: dict[str, Output]) -> str:
+    """which of the files that were asked for aren't there"""
+    if not outputs:
+        return "nothing is written"
+    names = [it.name for it in outputs.values() if not it.is_written]
+    if not names:
+        return f"{' and '.join(it.name for it in outputs.values())} {'are' if len(outputs) > 1 else 'is'} written"
+    return f"{' and '.join(names)} {'are' if len(names) > 1 else 'is'}n't written"
+
+
 def start(given: list[str]) -> int:
     """the whole: the status of the run, or of what couldn't be done for its page"""
     is_open = open_ends()
     folder, outputs = "", {}
     try:
-        with stoppable():
-            asked = asked_of(given[1:])
-            line = table.read(asked.words)
-            refuse_one_file(asked, [it.word for it in line.files_read + line.files_written])
-            for word, name in asked.files.items():
-                outputs[word] = Output(name, FILES[word])
-            folder = tempfile.mkdtemp(prefix="railplan-")
-            return run_asked(given[0], asked, Path(folder), outputs, is_open)
+        asked = asked_of(given[1:])
+        line = table.read(asked.words)
+        refuse_one_file(asked, [it.word for it in line.files_read + line.files_written])
+        for word, name in asked.files.items():
+            outputs[word] = Output(name, FILES[word])
+        folder = tempfile.mkdtemp(prefix="railplan-")
+        return run_asked(given[0], asked, Path(folder), outputs, is_open)
     except Refused as why:
         say(str(why))
         return why.status
-    except Stopped:
-        names = [it.name for it in outputs.values()]
-        say(f"stopped; {' and '.join(names)} {'are' if len(names) > 1 else 'is'}n't written" if names else "stopped")
+    except KeyboardInterrupt:
+        running.leave_alone()
+        say(f"stopped; {unwritten(outputs)}")
         return 130
     except OSError as error:
         say(f"couldn't make the page: {error.strerror or error}")
         return 6
     finally:
+        running.leave_alone()
         for output in outputs.values():
             output.drop()
         shutil.rmtree(folder, ignore_errors=True) if folder else None

@@ -76,7 +76,7 @@ class Output:
     """a file that is written whole: into a temporary one of its folder, which takes its place at the end"""
 
     def __init__(self, name: str, begins: bytes) -> None:
-        self.name, self.part = name, ""
+        self.name, self.part, self.is_written = name, "", False
         try:
             there = self.look(begins)
             handle, self.part = tempfile.mkstemp(prefix=".", suffix=".tmp", dir=os.path.dirname(name) or ".")
@@ -112,7 +112,7 @@ class Output:
                 file.flush()
                 os.fsync(file.fileno())
             os.replace(self.part, self.name)
-            self.part = ""
+            self.part, self.is_written = "", True
         except OSError as error:
             raise Refused(f"couldn't write: {self.name}: {error.strerror}", 6) from error
         finally:

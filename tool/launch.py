@@ -168,5 +168,6 @@ def main(given: list[str], top: str) -> int:
         say(f"this is a fault of the launcher itself, so nothing more is known: {type(error).__name__}: {error}")
         return 10
     except KeyboardInterrupt:
+        running.leave_alone()
         say("stopped")
         return 130

@@ -53,5 +53,8 @@ def run(clone: built.Clone, line: words.Line, given: list[str]) -> int:
     if line.command == "prepare":
         from tool import prepare
         return prepare.run(line)
-    from tool import folder
+    try:
+        from tool import folder
+    except KeyboardInterrupt:
+        end(130, "stopped before a station was drawn")
     return folder.run(clone, given)

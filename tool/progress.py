@@ -124,6 +124,10 @@ def budget_of(line: words.Line) -> int:
     return int(line.options.get("--conflicts", words.OPTIONS["--conflicts"].usual))
 
 
+def duration(seconds: float) -> str:
+    return f"{seconds:.{1 if seconds < 9.95 else 0}f} s"
+
+
 def grouped(number: int) -> str:
     return f"{number:,}"
 
@@ -213,7 +217,7 @@ def stopped(line: words.Line, ran: running.Ran) -> None:
 
 def tell_stopped(watch: Watch, seconds: float, named: str) -> None:
     """what an interrupted run leaves, and how to have what it found"""
-    say(f"stopped after {seconds:.0f} s; nothing was printed")
+    say(f"stopped after {duration(seconds)}; nothing was printed")
     log = watch.log
     if log and log.has_model and watch.line.command != "redraw":
         asked = [it for it in watch.line.words]

@@ -235,10 +235,27 @@ class Ends(Case):
                 time.sleep(0.02)
             began = time.time()
             job.send_signal(number)
+            job.send_signal(signal.SIGINT)
             output, said = job.communicate(timeout=30)
             self.assertEqual((job.returncode, output, said), (130, b"", b"railplan: stopped; p.html isn't written\n"))
             self.assertLess(time.time() - began, 8)
             self.assertEqual(self.left(), [])
+
+    def test_an_interrupt_before_a_page_is_begun(self) -> None:
+        signal.pthread_sigmask(signal.SIG_BLOCK, (signal.SIGINT,))
+        try:
+            job = subprocess.Popen(self.command("p.html", "draw", "a.xml"), cwd=self.base, env=self.environment,
+                                   stdout=subprocess.PIPE, stderr=subprocess.PIPE)
+            job.send_signal(signal.SIGINT)
+        finally:
+            signal.pthread_sigmask(signal.SIG_UNBLOCK, (signal.SIGINT,))
+        self.assertEqual((job.communicate(timeout=30), job.returncode), ((b"", b"railplan: stopped; nothing is written\n"), 130))
+        self.assertEqual(self.left(), [])
+
+    def test_a_program_that_is_killed_leaves_no_page(self) -> None:
+        ran = self.start("p.html", "draw", "a.xml", environment={"STATUS": "137"})
+        self.assertEqual((ran.returncode, ran.stdout, ran.stderr), (137, b"", b"railplan: p.html isn't written\n"))
+        self.assertEqual(self.left(), [])
 
     def test_closed_outputs(self) -> None:
         for closing in (">&-", ">&- 2>&-", ">/dev/full"):

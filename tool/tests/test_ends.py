@@ -4,6 +4,7 @@ import signal
 import time
 import unittest
 
+from tool import progress
 from tool.tests.clones import InClone
 
 SLOW = "#!/bin/sh\necho $$ > begun\nexec sleep 60\n"
@@ -43,6 +44,29 @@ class Stopped(InClone):
                 self.assertNotIn("Traceback", err)
                 self.assertFalse(self.is_there(number))
                 (self.top / "begun").unlink()
+
+    def test_a_second_signal_does_not_disturb_the_end(self):
+        job = self.start("draw", "one.xml")
+        self.begun()
+        for _ in range(3):
+            job.send_signal(signal.SIGINT)
+            time.sleep(0.01)
+        out, err = job.communicate(timeout=20)
+        self.assertEqual((job.returncode, out), (130, ""))
+        self.assertRegex(err, r"^railplan: stopped after \d+\.\d s; nothing was printed\n$")
+
+    def test_how_long_a_run_took(self):
+        for seconds, said in ((0.94, "0.9 s"), (9.94, "9.9 s"), (10.4, "10 s"), (75.2, "75 s")):
+            self.assertEqual(progress.duration(seconds), said)
+
+    def test_an_interrupt_before_the_launcher_listens(self):
+        signal.pthread_sigmask(signal.SIG_BLOCK, (signal.SIGINT,))
+        try:
+            job = self.start("draw", "one.xml")
+            job.send_signal(signal.SIGINT)
+        finally:
+            signal.pthread_sigmask(signal.SIG_UNBLOCK, (signal.SIGINT,))
+        self.assertEqual((job.communicate(timeout=20), job.returncode), (("", "railplan: stopped\n"), 130))
 
     def test_what_was_found_is_said_from_the_log(self):
         self.script("crates/railplan_main/out/railplan_main",

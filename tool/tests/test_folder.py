@@ -158,10 +158,12 @@ class Folders(InClone):
         until = time.time() + 30
         while not (self.top / "out/records/a.json").exists() and time.time() < until:
             time.sleep(0.05)
-        job.send_signal(signal.SIGINT)
+        for _ in range(2):
+            job.send_signal(signal.SIGINT)
+            time.sleep(0.01)
         err = job.communicate(timeout=20)[1]
         self.assertEqual(job.returncode, 130)
-        self.assertIn("of 2 stations 1 is done", err)
+        self.assertEqual(err, "railplan: stopped; of 2 stations 1 is done. The same line goes on from there\n")
         self.drawn()
         self.stations("slow2")
         (self.top / "in/slow.xml").rename(self.top / "in/quick.xml")
