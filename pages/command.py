@@ -17,17 +17,18 @@ from typing import Optional
 from pages import kinds, texts
 from pages.columns import PAPERS
 from pages.facts import Build
-from pages.files import Input, Output, Refused, hashed, is_one_file, read_once
+from pages.files import Input, Output, Refused, hashed, read_once
 from pages.kinds import ANSWERED, INPUTS, Page, Run, Settings
 from pages.texts import Graph, NoPage
 from pages.whole import page_text
-from tool import running
+from tool import files, running
 from tool import words as table
+from tool.saying import Ended, say
 from tool.version import VERSION
 
 USE = "a page is asked for by --html FILE and the words of draw, signals, front, explain, redraw or verify"
 CHOICES = {"--paper": tuple(PAPERS), "--labels": ("name", "id"), "--side": ("right", "left")}
-FILES = {"--html": b"<!DOCTYPE html>", "--dxf": b"0\r\nSECTION", "--csv": b"km,kind,name,id"}
+FILES = ("--html", "--dxf", "--csv")
 
 
 @dataclass
@@ -38,11 +39,6 @@ class Asked:
     front: list[str] = field(default_factory=list)
     words: list[str] = field(default_factory=list)
     is_unproved: bool = False
-
-
-def say(text: str) -> None:
-    with contextlib.suppress(OSError, ValueError, AttributeError):
-        print(f"railplan: {text}", file=sys.stderr, flush=True)
 
 
 # ---- the words
@@ -72,18 +68,6 @@ def asked_of(given: list[str]) -> Asked:
     if not found.files or not all(found.files.values()) or left[:1] == [] or left[0] not in kinds.PAGES:
         raise Refused(USE)
     return found
-
-
-def refuse_one_file(asked: Asked, names: list[str]) -> None:
-    """no file that pages write is another file of the run, by any spelling or link, nor where standard output goes"""
-    written = list(asked.files.values())
-    for number, name in enumerate(written):
-        if any(is_one_file(name, other) for other in [*names, *written[:number]]):
-            raise Refused("the page has the name of another file of the run" if name == asked.files.get("--html")
-                          else f"{name} is the name of another file of the run")
-        with contextlib.suppress(OSError, ValueError):
-            if os.path.samestat(os.stat(name), os.fstat(1)) and os.path.isfile(name):
-                raise Refused(f"standard output goes to {name}, which is to be written; give it another name")
 
 
 # ---- running the program
@@ -132,18 +116,6 @@ class Program:
             return None
 
 
-def open_ends() -> bool:
-    """opens what of the three streams is closed, so that no file gets its number; says whether the output was open"""
-    was_open = True
-    for number in (0, 1, 2):
-        try:
-            os.fstat(number)
-        except OSError:
-            was_open = was_open and number != 1
-            os.open(os.devnull, os.O_RDWR)
-    return was_open
-
-
 def give(output: bytes) -> None:
     """writes what the run gave to standard output"""
     left = memoryview(output)
@@ -157,8 +129,8 @@ def give(output: bytes) -> None:
 def read_inputs(line: table.Line, folder: Path) -> tuple[list[Input], list[str]]:
     """the inputs of a run, and its words with their copies; words that have a fault are left as they are"""
     words = list(line.words)
-    read, written = ([it.word for it in files] for files in (line.files_read, line.files_written))
-    is_one = any(is_one_file(one, other) for at, one in enumerate(written) for other in read + written[:at])
+    read, written = ([it.word for it in named] for named in (line.files_read, line.files_written))
+    is_one = any(files.is_one_file(one, other) for at, one in enumerate(written) for other in read + written[:at])
     if table.fault(words) or is_one:
         return [], words
     inputs: list[Input] = []
@@ -287,19 +259,22 @@ def unwritten(outputs: dict[str, Output]) -> str:
 
 def start(given: list[str]) -> int:
     """the whole: the status of the run, or of what couldn't be done for its page"""
-    is_open = open_ends()
+    is_open = running.open_ends()
     folder, outputs = "", {}
     try:
         asked = asked_of(given[1:])
         line = table.read(asked.words)
-        refuse_one_file(asked, [it.word for it in line.files_read + line.files_written])
+        line.pages.update(asked.files)
+        files.look(line)
         for word, name in asked.files.items():
-            outputs[word] = Output(name, FILES[word])
+            outputs[word] = Output(name)
         folder = tempfile.mkdtemp(prefix="railplan-")
         return run_asked(given[0], asked, Path(folder), outputs, is_open)
     except Refused as why:
         say(str(why))
         return why.status
+    except Ended as ended:
+        return ended.status
     except KeyboardInterrupt:
         running.leave_alone()
         say(f"stopped; {unwritten(outputs)}")

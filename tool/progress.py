@@ -11,6 +11,7 @@ from tool import notes, running, words
 from tool.saying import called, say, write_error
 
 BAR = 16
+UNKNOWN_COLUMNS = 100
 # room that is left for a log that is only read for what it says of the search
 ROOM = 2 << 30
 # bytes of a log that are read at once, and for how long it is read each second
@@ -24,11 +25,11 @@ DOING = {"front": "looking for the pairs", "explain": "looking for laws that can
 
 
 def columns() -> int:
-    """how wide the terminal is on which progress is shown: that of standard error"""
+    """how wide the terminal is on which progress is shown: that of standard error; some say 0, as they don't know it"""
     try:
-        return os.get_terminal_size(2).columns
+        return os.get_terminal_size(2).columns or UNKNOWN_COLUMNS
     except OSError:
-        return 100
+        return UNKNOWN_COLUMNS
 
 
 @dataclass

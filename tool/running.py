@@ -17,6 +17,19 @@ if TYPE_CHECKING:
 STOPPING = (signal.SIGINT, signal.SIGTERM, signal.SIGHUP)
 
 
+def open_ends() -> bool:
+    """opens what of the three streams is closed on nothing, so that no file of the run is taken for one of them; says whether the
+    output was open: without one a run ends with 6, as the program does"""
+    was_open = True
+    for handle in (0, 1, 2):
+        try:
+            os.fstat(handle)
+        except OSError:
+            was_open = was_open and handle != 1
+            os.open(os.devnull, os.O_RDWR)
+    return was_open
+
+
 class Ran:
     """How a run ended: its status, what it printed, how long it took, and whether somebody stopped it."""
 

@@ -158,9 +158,9 @@ class Files(Case):
         os.mkfifo(self.base / "fifo.html")
         (self.base / "folder.html").mkdir()
         (self.base / "text.html").write_text("a letter")
-        for name in ("link.html", "fifo.html", "folder.html", "text.html", "/dev/null"):
+        for name, status in (("link.html", 2), ("fifo.html", 2), ("folder.html", 6), ("text.html", 2), ("/dev/null", 2)):
             ran = self.start(name, "draw", "a.xml")
-            self.assertEqual((ran.returncode, ran.stdout), (2, b""), name)
+            self.assertEqual((ran.returncode, ran.stdout), (status, b""), name)
             self.assertIn(b"railplan: ", ran.stderr)
         self.assertEqual((self.base / "victim").read_text(), "<!DOCTYPE html>\nkept")
         self.assertTrue(stat.S_ISFIFO(os.stat(self.base / "fifo.html").st_mode))
@@ -198,12 +198,12 @@ class Files(Case):
             ran = subprocess.run(self.command("p.html", "draw", "a.xml"), cwd=self.base, env=self.environment, stdout=out,
                                  stderr=subprocess.PIPE)
         self.assertEqual(ran.returncode, 2)
-        self.assertIn(b"standard output goes to p.html", ran.stderr)
+        self.assertIn(b"standard output goes into p.html, which this run writes", ran.stderr)
 
     def test_a_folder_that_lacks_is_seen_before_the_search(self) -> None:
         ran = self.start("none/p.html", "draw", "a.xml")
         self.assertEqual((ran.returncode, ran.stdout), (6, b""))
-        self.assertIn(b"couldn't write: none/p.html: No such file or directory", ran.stderr)
+        self.assertIn(b"none/p.html can't be written: none isn't there", ran.stderr)
         self.assertFalse((self.base / "seen").exists())
 
     def test_the_sheet_is_given_though_the_page_can_not_be_written(self) -> None:
