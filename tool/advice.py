@@ -17,6 +17,8 @@ SLIPS = {"doubleSwitchCrossing": "a double slip", "simpleSwitchCrossing": "a sin
 # from how many signals on one piece of track on it is said why each edge takes so many columns
 MANY_SIGNALS = 4
 PASSED_GROUPS = ("trackElements", "ocsElements")
+# what of a track's topology is read; its other groups, as mileageChanges, are passed over
+READ_GROUPS = ("trackBegin", "trackEnd", "connections")
 READ = ("track", "trackTopology", "trackBegin", "trackEnd", "connections", "switch", "crossing", "connection")
 
 
@@ -194,6 +196,8 @@ def passed_over(document: Document, command: str) -> list[str]:
     for track in document.tracks():
         for group in track.named(*PASSED_GROUPS):
             kinds.update(leaf.name for leaf in leaves(group) if leaf.name != "signal" or command != "signals")
+        for below in track.named("trackTopology"):
+            kinds.update(it.name for group in below.children if group.name not in READ_GROUPS for it in group.children or [group])
     listed = ", ".join(f"{count} {name}" for name, count in sorted(kinds.items()))
     signals = "; signals draws signals" if kinds.get("signal") else ""
     return [f"not drawn: {listed}{signals}"] if listed else []
@@ -239,13 +243,11 @@ def odd_picture(line: words.Line, said: list[str]) -> list[Note]:
                  f"{shown}. Give it another id, or ask for a page by --html")]
 
 
-def not_shown(line: words.Line, said: list[str]) -> list[Note]:
-    data = files.reread(line.names[0])
-    if data is None:
-        return []
+def not_shown(data: bytes, line: words.Line, said: list[str]) -> list[str]:
+    """what a file has that the drawing of this answer doesn't show, for standard error and for pages"""
     document = railml.read(data)
     found = slips(document) + bent_tracks(document) + prefixed(document, line.command)
-    return [Note(it) for it in found + passed_over(document, line.command) + crowded_piece(document, line, said)]
+    return found + passed_over(document, line.command) + crowded_piece(document, line, said)
 
 
 def notes(program: str, line: words.Line, ran: running.Ran) -> list[Note]:
@@ -253,7 +255,8 @@ def notes(program: str, line: words.Line, ran: running.Ran) -> list[Note]:
     said, command = ran.lines, line.command
     found = []
     if command in ("draw", "signals", "redraw"):
-        found += not_shown(line, said)
+        data = files.reread(line.names[0])
+        found += [Note(it) for it in not_shown(data, line, said)] if data is not None else []
     if command == "draw":
         found += odd_picture(line, said)
     if ran.status == 0 and command == "explain" and any(it.startswith("laws ") for it in said):

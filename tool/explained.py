@@ -31,7 +31,7 @@ class Named:
 
 
 def origin(graph: TrackGraph, upper: int, lower: int) -> str:
-    """the switch or crossing by which one edge lies above another"""
+    """the switch or crossing by which one edge lies above another; for standard error and for pages"""
     fork = next(iter(graph.origins(upper, lower)), None)
     return f", by the {railml.what(fork.node)} ({hand(fork)})" if fork else ""
 
