@@ -15,19 +15,18 @@ from pathlib import Path
 from typing import Optional
 
 from pages import kinds, texts
-from pages.columns import PAPERS
 from pages.facts import Build
 from pages.files import Input, Output, Refused, hashed, read_once
 from pages.kinds import ANSWERED, INPUTS, Page, Run, Settings
 from pages.texts import Graph, NoPage
 from pages.whole import page_text
-from tool import files, running
+from tool import built, files, running, telling
 from tool import words as table
 from tool.saying import Ended, say
 from tool.version import VERSION
 
 USE = "a page is asked for by --html FILE and the words of draw, signals, front, explain, redraw or verify"
-CHOICES = {"--paper": tuple(PAPERS), "--labels": ("name", "id"), "--side": ("right", "left")}
+CHOICES = {it.word: it.choices for it in table.PAGE_WORDS.values() if it.choices}
 FILES = ("--html", "--dxf", "--csv")
 
 
@@ -65,6 +64,8 @@ def asked_of(given: list[str]) -> Asked:
         else:
             setattr(found.settings, word[2:], value)
     found.words = left
+    if found.front and not found.files:
+        raise Refused(f"{found.front[0]} needs --html FILE")
     if not found.files or not all(found.files.values()) or left[:1] == [] or left[0] not in kinds.PAGES:
         raise Refused(USE)
     return found
@@ -106,6 +107,12 @@ class Program:
         except subprocess.TimeoutExpired:
             self.job.kill()
             self.job.wait()
+
+    def explain(self, words: list[str], output: bytes) -> bool:
+        """says the reasons that the launcher leaves to its page's run, as they belong behind the answer; whether there are any"""
+        os.environ["RAILPLAN_NAMES"] = self.environment["RAILPLAN_NAMES"]
+        telling.tell(built.Clone(os.path.dirname(self.command[2])).program, table.read(words), running.Ran(0, output, 0))
+        return b"\nlaw " in output
 
     def graph(self, input_: Input) -> Optional[Graph]:
         """the track graph of a file that was read, or nothing"""
@@ -213,6 +220,7 @@ def run_asked(launcher: str, asked: Asked, folder: Path, outputs: dict[str, Outp
         say(unwritten(outputs))
         return status
     ended = give_all(output, is_open)
+    has_laws = line.command == "explain" and status == 0 and program.explain(words, output)
     run = Run(asked.words, line.names, line.options, output.decode("utf-8", "replace"), status, inputs, log=None,
               settings=asked.settings, build=Build.of(os.environ, asked.is_unproved), version=VERSION, date=date_of(),
               page=asked.files.get("--html", ""), sheet_beside=os.environ.get("RAILPLAN_SHEET", ""),
@@ -226,6 +234,10 @@ def run_asked(launcher: str, asked: Asked, folder: Path, outputs: dict[str, Outp
     except NoPage as why:
         say(f"there is no page of this run: {why}")
         return 6
+    if has_laws and run.page:
+        say(f"{run.page} has all of it, with a drawing without each of the laws")
+    if ended:
+        say(unwritten(outputs))
     return ended or status
 
 
@@ -236,11 +248,13 @@ def shown_front(asked: Asked) -> list[str]:
 
 
 def give_all(output: bytes, is_open: bool) -> int:
-    """gives the output; 6 where it can't be written"""
+    """gives the output; 6 where it can't be written, without a word where its reader is gone"""
     try:
         if not is_open and output:
             raise OSError(9, "Bad file descriptor")
         give(output)
+    except BrokenPipeError:
+        return 6
     except OSError as error:
         say(f"couldn't write: {error.strerror}")
         return 6

@@ -285,14 +285,17 @@ def explain_page(run: Run) -> Page:
     return page
 
 
-def origin(graph: TrackGraph, law: Law, station: Station) -> str:
-    """of an order the switch or crossing from which it comes"""
-    return station.shown(explained.origin(graph, *(number for _, number in law.parties))) if law.number == 6 else ""
+def origin(graph: Optional[TrackGraph], law: Law, station: Station) -> str:
+    """of an order the switch or crossing from which it comes, where the file can be read to its end"""
+    if law.number != 6 or graph is None:
+        return ""
+    return station.shown(explained.origin(graph, *(number for _, number in law.parties)))
 
 
 def add_panels(page: Page, run: Run, why: texts.Why) -> None:
     """for each law of the list a drawing that gives it up, and keeps the others of the list"""
-    graph = TrackGraph(railml.read(run.content(0)))
+    document = railml.read(run.content(0))
+    graph = TrackGraph(document) if document.root and not document.open else None
     asked = [sentences.asked(law, why.without[0], page.station) + origin(graph, law, page.station) for law in why.laws]
     items = [law_item(law, f"{sentences.sentence(text)} (law {law.number})", "li") for law, text in zip(why.laws, asked)]
     page.lead = ["No drawing on this grid keeps all of these at once. Give up any one of them, and a drawing keeps the others.",

@@ -15,6 +15,9 @@ from tool.saying import called, end, is_terminal, say, why, write_error
 
 DRAW_OPTIONS = [it for it in words.COMMANDS["draw"].options if not words.OPTIONS[it].is_file]
 FORM = "folder IN OUT [-j N] [--certify] [--shard I/N] [--join] [options of draw]"
+ENDINGS_READ = (".xml", ".railml")
+# of so many files it is said that they are passed over
+LISTED = 5
 BEGINS = {"page": b"<!doctype html", "picture": b"<svg", "sheet": b"railplan ", "hints": b"railplan-hints"}
 
 
@@ -73,11 +76,19 @@ def stations(folder: Path) -> dict[str, Path]:
     """the railML files of a folder by the names of what is made of them, in the order of these"""
     if not folder.is_dir():
         end(5, f"{folder} " + ("is no folder" if folder.exists() else "isn't there") + ". Name a folder with railML files")
-    found = sorted(it for it in folder.iterdir() if it.suffix.lower() in (".xml", ".railml") and it.is_file())
+    found = sorted(it for it in folder.iterdir() if it.suffix.lower() in ENDINGS_READ and it.is_file())
     if not found:
         end(5, f"{folder} has no file *.xml or *.railml")
     stems = [it.stem for it in found]
     return {it.stem if stems.count(it.stem) == 1 else it.name: it for it in found}
+
+
+def passed_over(folder: Path) -> str:
+    """the files of a folder that aren't drawn, as their names don't end as those of railML files"""
+    found = sorted(it.name for it in folder.iterdir()
+                   if it.is_file() and it.suffix.lower() not in ENDINGS_READ and not it.name.startswith("."))
+    more = f" and {len(found) - LISTED} more" if len(found) > LISTED else ""
+    return f"passed over, as they don't end in .xml or .railml: {', '.join(found[:LISTED])}{more}" if found else ""
 
 
 def of_shard(names: list[str], part: tuple[int, int]) -> list[str]:
@@ -216,23 +227,35 @@ def words_behind(given: list[str]) -> list[str]:
     return given[1:]
 
 
+def summary(records: list[Record], asked: argparse.Namespace) -> str:
+    """how many stations ended how, how many of them on a larger grid, and how many with a certificate"""
+    given = dict(zip(asked.options[::2], asked.options[1::2]))
+    grid = [int(given.get(it, words.OPTIONS[it].usual)) for it in ("--width", "--height")]
+    larger, certified = sum(bool(it.values) and it.grid != grid for it in records), folder_index.certified(records)
+    said = f"{folder_index.stations(len(records))}: {folder_index.counts(records)}"
+    said += f", {larger} on a larger grid" if larger else ""
+    return said + (f", {certified} with a certificate" if certified else "")
+
+
 def make(clone: built.Clone, asked: argparse.Namespace, all_: dict[str, Path], drawn: Drawn) -> int:
     """draws the stations, and makes the page of all; the status of the run"""
     out, began = Path(asked.OUT), time.monotonic()
     refuse_one_folder(asked)
     refuse_others(out, list(all_))
     make_folder(out)
+    others = passed_over(Path(asked.IN))
+    if others:
+        say(others)
     if not asked.join:
         draw_all(drawn, clone, asked)
     is_part = asked.shard[1] > 1
     if is_part and not asked.join:
-        say(f"{folder_index.stations(len(drawn.found))}: {folder_index.counts(drawn.found)}, in {time.monotonic() - began:.0f} s. "
+        say(f"{summary(drawn.found, asked)}, in {time.monotonic() - began:.0f} s. "
             f"{called()} folder --join {asked.IN} {asked.OUT} makes the page of all parts")
         return folder_index.worst(drawn.found)
     records = join(out, all_)
     write_index(out, f"Stations of {Path(asked.IN).name or asked.IN}", records)
-    say(f"{folder_index.stations(len(records))}: {folder_index.counts(records)}, in {time.monotonic() - began:.0f} s. Open "
-        f"{out / 'index.html'}")
+    say(f"{summary(records, asked)}, in {time.monotonic() - began:.0f} s. Open {out / 'index.html'}")
     return folder_index.worst(records)
 
 

@@ -112,9 +112,14 @@ def counts(records: list[Record]) -> str:
     return ", ".join(f"{count} {kind}" for kind, count in kinds.items())
 
 
+def certified(records: list[Record]) -> int:
+    """how many have a certificate that claims something, and that recheck accepted"""
+    return sum(isinstance(badge(it), Element) for it in records)
+
+
 def text(title: str, records: list[Record]) -> str:
     table = Element("table", Element("thead", Element("tr", *(Element("th", it) for it in HEADS))),
                     Element("tbody", *(row(it) for it in in_order(records))))
-    certified = sum(isinstance(badge(it), Element) for it in records)
-    line = f"{counts(records)}." + (f" {certified} with a certificate that was checked again." if certified else "")
+    count = certified(records)
+    line = f"{counts(records)}." + (f" {count} with a certificate that was checked again." if count else "")
     return document(title, RULES, Element("h1", stations(len(records))), Element("p", line), table)

@@ -21,8 +21,12 @@ def answer_unrun(clone: built.Clone, line: words.Line) -> None:
 
 
 def tell(clone: built.Clone, line: words.Line, ran: running.Ran) -> None:
-    """says what a run's end means where that isn't what was asked for, and what a drawing doesn't show"""
-    if ran.status or line.command in ("draw", "signals", "redraw", "explain"):
+    """says what a run's end means where that isn't what was asked for, and what a drawing doesn't show; on a terminal also what a
+    certificate means. The reasons of an explanation are said by its page's run, behind the answer"""
+    if line.command == "explain" and not ran.status and "RAILPLAN_NAMES" in os.environ:
+        return
+    if ran.status or line.command in ("draw", "signals", "redraw", "explain") or \
+            line.command in ("check", "trim", "recheck") and is_terminal():
         from tool import telling
         telling.tell(clone.program, line, ran)
 

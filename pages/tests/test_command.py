@@ -266,6 +266,21 @@ class Ends(Case):
             self.assertNotIn(b"Traceback", ran.stderr)
             self.assertTrue(self.page().endswith("</html>\n"))
 
+    def test_a_reader_that_is_gone_hears_only_of_the_page(self) -> None:
+        reading, writing = os.pipe()
+        os.close(reading)
+        ran = subprocess.run(self.command("p.html", "draw", "a.xml"), cwd=self.base, env=self.environment, stdout=writing,
+                             stderr=subprocess.PIPE)
+        os.close(writing)
+        self.assertEqual((ran.returncode, ran.stderr), (6, b"railplan: p.html is written\n"))
+        self.assertTrue(self.page().endswith("</html>\n"))
+
+    def test_reasons_are_said_behind_the_answer(self) -> None:
+        (self.base / "out").write_text("railplan-why 1\nlaws 1\nlaw 5 node 0 node 1\n")
+        ran = subprocess.run(self.command("--dxf", "p.dxf", "explain", "a.xml"), cwd=self.base, stdout=subprocess.PIPE,
+                             env={**self.environment, "OUTPUT": str(self.base / "out")}, stderr=subprocess.STDOUT)
+        self.assertTrue(ran.stdout.startswith(b"railplan-why 1\nlaws 1\nlaw 5 node 0 node 1\n"), ran.stdout)
+
     def test_a_reader_that_goes(self) -> None:
         ran = subprocess.run(["sh", "-c", '"$@"; echo $? >status', "sh", *self.command("p.html", "draw", "a.xml")],
                              cwd=self.base, env=self.environment,

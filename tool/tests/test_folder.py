@@ -92,6 +92,17 @@ class Folders(InClone):
         grids = ["--width 40 --height 8", "--width 64 --height 8", "--width 64 --height 12"]
         self.assertEqual(sorted(self.drawn()), sorted(f"draw in/{name}.xml {it}" for name in ("large", "none") for it in grids))
         self.assertEqual(self.record("large")["grid"], [64, 12])
+        self.assertIn("2 stations: 1 best, 1 no drawing, 1 on a larger grid, in ", self.folder()[2])
+        self.assertNotIn("larger grid", self.folder("--width", "64", "--height", "12")[2])
+
+    def test_files_that_are_passed_over(self):
+        self.stations("a")
+        for name in ("in/b.txt", "in/c.xml.zip", "in/.hidden", "in/below/d.pdf"):
+            self.write(name, "x")
+        self.assertIn("railplan: passed over, as they don't end in .xml or .railml: b.txt, c.xml.zip\n", self.folder()[2])
+        for number in range(9):
+            self.write(f"in/n{number}", "x")
+        self.assertIn(": b.txt, c.xml.zip, n0, n1, n2 and 6 more\n", self.folder()[2])
 
     def test_what_has_not_changed_is_not_drawn_again(self):
         self.stations("a", "b", "refused")
@@ -117,7 +128,7 @@ class Folders(InClone):
 
     def test_certificates(self):
         self.stations("a", "none")
-        self.folder("--certify")
+        self.assertIn("2 stations: 1 best, 1 no drawing, 2 with a certificate, in ", self.folder("--certify")[2])
         self.assertEqual(self.record("a")["certified"], "certified 2")
         self.assertIn("a.hints", self.made())
         self.assertNotIn("a.log", self.made())
