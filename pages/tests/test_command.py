@@ -12,10 +12,13 @@ import time
 import unittest
 from pathlib import Path
 
+from pages.columns import PAPERS
 from pages.command import asked_of, pair_options
 from pages.files import Refused
+from pages.kinds import Settings
 from pages.tests.fixtures import SAMPLES, TOP
 from pages.texts import Front
+from tool import words as table
 
 LAUNCHER = """import os, sys, time
 from pathlib import Path
@@ -296,6 +299,11 @@ class Words(unittest.TestCase):
         self.assertEqual((found.files, found.settings.paper, found.settings.labels, found.settings.side, found.is_unproved,
                           found.words),
                          ({"--html": "p", "--dxf": "d"}, "A1", "id", "left", True, ["draw", "f", "--width", "9"]))
+
+    def test_what_counts_without_a_word_is_what_the_help_says(self) -> None:
+        usual = {it.word[2:]: it.usual for it in table.PAGE_WORDS.values() if it.choices}
+        self.assertEqual(vars(Settings()), usual)
+        self.assertEqual({*table.PAGE_WORDS["--paper"].choices}, {*PAPERS})
 
     def test_words_that_are_none(self) -> None:
         for words in ([], ["p"], ["p", "graph", "f"], ["draw", "f"], ["p", "--paper", "A9", "draw", "f"], ["p", "--paper"],

@@ -41,6 +41,27 @@ class Certificates(unittest.TestCase):
         self.assertIn("the hinted lines certify", self.certified("certified 1", "height", "nodes 2", "recheck")[0])
 
 
+class Stopped(unittest.TestCase):
+    def said(self, *given, said):
+        note, = advice.stopped(words.read(list(given)), said)
+        return note.text
+
+    def test_what_is_true_of_a_front_that_stopped(self):
+        self.assertIn("The pairs are all up to the last one; more may follow. Ways on: more clauses, ",
+                      self.said("front", "f", "height,width", said=["pair 1 5", "end conflicts"]))
+        self.assertIn("No pair is known yet", self.said("front", "f", "height,width", said=["end conflicts"]))
+
+    def test_what_is_true_of_a_redrawing_that_stopped(self):
+        given = ["redraw", "f", "old", "s"]
+        said = self.said(*given, said=["values 1 2 3 4", "end conflicts"])
+        self.assertIn("The drawing is lawful, but one with fewer moved nodes may exist", said)
+        self.assertIn("redraw f old s --conflicts 200000; a smaller grid", said)
+        self.assertNotIn("fewer criteria", said)
+        self.assertIn("No drawing was found, and none is ruled out", self.said(*given, said=["end room"]))
+        self.assertIn("as there was no room for more clauses", self.said(*given, said=["end room"]))
+        self.assertNotIn("more clauses, ", self.said(*given, said=["end room"]))
+
+
 class Larger(unittest.TestCase):
     def stack(self, count, mileage="5.000000"):
         return [f"node {at} n{at} end {mileage}" for at in range(count)]

@@ -3,11 +3,20 @@ import os
 import signal
 import time
 import unittest
+from unittest import mock
 
-from tool import progress
+from tool import launch, progress
 from tool.tests.clones import InClone
 
 SLOW = "#!/bin/sh\necho $$ > begun\nexec sleep 60\n"
+
+
+class OwnFaults(unittest.TestCase):
+    def test_a_fault_of_the_launcher_is_one_line(self):
+        said = []
+        with mock.patch("tool.launch.run", side_effect=AttributeError("no such thing")), mock.patch("tool.launch.say", said.append):
+            self.assertEqual(launch.main(["draw", "x"], "/nosuch"), 10)
+        self.assertEqual(said, ["this is a fault of the launcher itself, so nothing more is known: AttributeError: no such thing"])
 
 
 class Stopped(InClone):

@@ -37,6 +37,18 @@ class Help(InClone):
                 for line in text.splitlines():
                     self.assertLessEqual(len(line), 80)
 
+    def test_further_sentences_of_a_command(self):
+        for word, command in manual.all_commands().items():
+            with self.subTest(word):
+                self.assertIn(command.more, " ".join(manual.of_command(word, "railplan").split()))
+
+    def test_what_options_of_pages_take_and_what_counts_without_them(self):
+        text = " ".join(manual.of_command("draw", "railplan").split())
+        for said in ("A4, A3, A2 or A1 (A3)", "name or id (name)", "right or left (right)"):
+            self.assertIn(said, text)
+        for option in words.PAGE_WORDS.values():
+            self.assertTrue(not option.choices or option.usual in option.choices)
+
     def test_the_overview_names_all_and_is_80_columns_wide(self):
         text = manual.overview("./railplan")
         for word in [*manual.all_commands(), *words.OPTIONS, *words.PAGE_WORDS, "--unproved"]:
