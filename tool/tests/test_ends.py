@@ -5,7 +5,7 @@ import time
 import unittest
 from unittest import mock
 
-from tool import launch, progress
+from tool import launch, progress, running
 from tool.tests.clones import InClone
 
 SLOW = "#!/bin/sh\necho $$ > begun\nexec sleep 60\n"
@@ -63,6 +63,13 @@ class Stopped(InClone):
         out, err = job.communicate(timeout=20)
         self.assertEqual((job.returncode, out), (130, ""))
         self.assertRegex(err, r"^railplan: stopped after \d+\.\d s; nothing was printed\n$")
+
+    def test_an_interrupt_that_is_sent_twice_is_one(self):
+        with mock.patch("tool.running.Last.until", 0.0):
+            self.assertRaises(KeyboardInterrupt, running.interrupted, signal.SIGINT, None)
+            self.assertIsNone(running.interrupted(signal.SIGINT, None))
+            running.Last.until -= 1
+            self.assertRaises(KeyboardInterrupt, running.interrupted, signal.SIGINT, None)
 
     def test_how_long_a_run_took(self):
         for seconds, said in ((0.94, "0.9 s"), (9.94, "9.9 s"), (10.4, "10 s"), (75.2, "75 s")):
