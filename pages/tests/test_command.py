@@ -279,10 +279,15 @@ class Ends(Case):
         self.assertTrue(self.page().endswith("</html>\n"))
 
     def test_reasons_are_said_behind_the_answer(self) -> None:
+        program = self.base / "crates/railplan_main/out/railplan_main"
+        program.parent.mkdir(parents=True)
+        program.write_text('#!/bin/sh\ncat "$GRAPH"\n')
+        program.chmod(0o755)
         (self.base / "out").write_text("railplan-why 1\nlaws 1\nlaw 5 node 0 node 1\n")
         ran = subprocess.run(self.command("--dxf", "p.dxf", "explain", "a.xml"), cwd=self.base, stdout=subprocess.PIPE,
                              env={**self.environment, "OUTPUT": str(self.base / "out")}, stderr=subprocess.STDOUT)
-        self.assertTrue(ran.stdout.startswith(b"railplan-why 1\nlaws 1\nlaw 5 node 0 node 1\n"), ran.stdout)
+        self.assertTrue(ran.stdout.startswith(b"railplan-why 1\nlaws 1\nlaw 5 node 0 node 1\nrailplan: no drawing on this grid meets "
+                                              b"these laws together:\n  law 5: A1 and "), ran.stdout)
 
     def test_a_reader_that_goes(self) -> None:
         ran = subprocess.run(["sh", "-c", '"$@"; echo $? >status', "sh", *self.command("p.html", "draw", "a.xml")],

@@ -75,6 +75,10 @@ class Stopped(InClone):
         for seconds, said in ((0.94, "0.9 s"), (9.94, "9.9 s"), (10.4, "10 s"), (75.2, "75 s")):
             self.assertEqual(progress.duration(seconds), said)
 
+    def test_an_interrupt_while_the_launcher_is_read(self):
+        self.write("tool/launch.py", "import os, signal, time\nos.kill(os.getpid(), signal.SIGINT)\ntime.sleep(9)\n")
+        self.assertEqual(self.launch("draw", "one.xml"), (130, "", "railplan: stopped\n"))
+
     def test_an_interrupt_before_the_launcher_listens(self):
         signal.pthread_sigmask(signal.SIG_BLOCK, (signal.SIGINT,))
         try:
