@@ -264,7 +264,7 @@ def fullest_piece(document: Document, count: int) -> str:
     graph, on = TrackGraph(document), Counter()
     for track in document.tracks():
         spots = sorted(railml.places_of(track), key=railml.position)
-        for signal in (it for group in track.named("ocsElements") for listed in group.named("signals") for it in listed.named("signal")):
+        for signal in railml.signals(track):
             west = [it for it in spots[:-1] if railml.position(it) <= railml.position(signal)] or spots[:1]
             on.update(graph.pieces.get((it.place, 1)) for it in west[-1:])
     fullest = [number for number, found in on.items() if found == count and number is not None]

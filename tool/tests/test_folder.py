@@ -183,9 +183,11 @@ class Folders(InClone):
 
     def test_rights_that_lack_are_said_before_a_run(self):
         (self.top / "out").mkdir()
-        with mock.patch("os.access", lambda path, mode: False), self.assertRaises(Ended) as ended:
+        with mock.patch("os.access", lambda path, mode: False), mock.patch("tool.saying.write_error") as said, \
+                self.assertRaises(Ended) as ended:
             folder.make_folder(self.top / "out")
         self.assertEqual(ended.exception.status, 6)
+        self.assertIn("you haven't the right to make files in it", said.call_args[0][0])
 
     def test_nothing_goes_through_a_link(self):
         self.stations("a")

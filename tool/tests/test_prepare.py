@@ -156,9 +156,11 @@ class Written(InClone):
         self.assertFalse((self.top / "nosuch.xml").exists())
 
     def test_a_file_that_cannot_be_read(self):
-        with mock.patch("builtins.open", side_effect=PermissionError(13, "Permission denied")), self.assertRaises(Ended) as ended:
+        with mock.patch("builtins.open", side_effect=PermissionError(13, "Permission denied")), \
+                mock.patch("tool.saying.write_error") as said, self.assertRaises(Ended) as ended:
             prepare.refuse_other(str(self.top / "other.xml"), "s.xml")
         self.assertEqual(ended.exception.status, 6)
+        self.assertIn("can't be read to see who wrote it", said.call_args[0][0])
 
 
 if __name__ == "__main__":
