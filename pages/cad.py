@@ -9,7 +9,7 @@ from typing import Iterable
 from pages.columns import MM, Columns, Strip
 from pages.drawing import Scene
 from pages.places import SIZES
-from pages.texts import kilometres
+from tool.law_words import kilometres
 
 LAYERS = (("TRACK", 7), ("MAIN", 7), ("NODE", 1), ("NAME", 3), ("SIGNAL", 5), ("KILOMETRE", 8))
 CAP = 0.716

@@ -4,7 +4,8 @@ from __future__ import annotations
 from pages.drawing import Marks
 from pages.markup import Element, element
 from pages.station import Station
-from pages.texts import Drawing, Edge, Node, kilometres
+from pages.texts import Drawing, Edge, Node
+from tool.law_words import kilometres
 
 
 class Changes:

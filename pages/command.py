@@ -12,26 +12,22 @@ import tempfile
 import time
 from dataclasses import dataclass, field
 from pathlib import Path
-from types import FrameType
-from typing import Iterator, Optional
+from typing import Optional
 
 from pages import kinds, texts
-from pages.columns import PAPERS
 from pages.facts import Build
-from pages.files import Input, Output, Refused, hashed, is_one_file, read_once
+from pages.files import Input, Output, Refused, hashed, read_once
 from pages.kinds import ANSWERED, INPUTS, Page, Run, Settings
 from pages.texts import Graph, NoPage
 from pages.whole import page_text
+from tool import built, files, running, telling
 from tool import words as table
+from tool.saying import Ended, say
 from tool.version import VERSION
 
 USE = "a page is asked for by --html FILE and the words of draw, signals, front, explain, redraw or verify"
-CHOICES = {"--paper": tuple(PAPERS), "--labels": ("name", "id"), "--side": ("right", "left")}
-FILES = {"--html": b"<!DOCTYPE html>", "--dxf": b"0\r\nSECTION", "--csv": b"km,kind,name,id"}
-
-
-class Stopped(Exception):
-    """the run was interrupted"""
+CHOICES = {it.word: it.choices for it in table.PAGE_WORDS.values() if it.choices}
+FILES = ("--html", "--dxf", "--csv")
 
 
 @dataclass
@@ -42,11 +38,6 @@ class Asked:
     front: list[str] = field(default_factory=list)
     words: list[str] = field(default_factory=list)
     is_unproved: bool = False
-
-
-def say(text: str) -> None:
-    with contextlib.suppress(OSError, ValueError, AttributeError):
-        print(f"railplan: {text}", file=sys.stderr, flush=True)
 
 
 # ---- the words
@@ -73,21 +64,11 @@ def asked_of(given: list[str]) -> Asked:
         else:
             setattr(found.settings, word[2:], value)
     found.words = left
+    if found.front and not found.files:
+        raise Refused(f"{found.front[0]} needs --html FILE")
     if not found.files or not all(found.files.values()) or left[:1] == [] or left[0] not in kinds.PAGES:
         raise Refused(USE)
     return found
-
-
-def refuse_one_file(asked: Asked, names: list[str]) -> None:
-    """no file that pages write is another file of the run, by any spelling or link, nor where standard output goes"""
-    written = list(asked.files.values())
-    for number, name in enumerate(written):
-        if any(is_one_file(name, other) for other in [*names, *written[:number]]):
-            raise Refused("the page has the name of another file of the run" if name == asked.files.get("--html")
-                          else f"{name} is the name of another file of the run")
-        with contextlib.suppress(OSError, ValueError):
-            if os.path.samestat(os.stat(name), os.fstat(1)) and os.path.isfile(name):
-                raise Refused(f"standard output goes to {name}, which is to be written; give it another name")
 
 
 # ---- running the program
@@ -103,12 +84,15 @@ class Program:
         self.job: Optional[subprocess.Popen[bytes]] = None
 
     def run(self, words: list[str], is_quiet: bool = False) -> tuple[int, bytes]:
-        """the status and the output of a run"""
+        """the status and the output of a run; until the launcher listens an interrupt waits"""
+        signal.pthread_sigmask(signal.SIG_BLOCK, (signal.SIGINT,))
         self.job = subprocess.Popen([*self.command, *words], stdout=subprocess.PIPE, env=self.environment,
                                     stderr=subprocess.DEVNULL if is_quiet else None)
         try:
+            signal.pthread_sigmask(signal.SIG_UNBLOCK, (signal.SIGINT,))
             output = self.job.communicate()[0]
         except BaseException:
+            running.leave_alone()
             self.stop()
             raise
         return (self.job.returncode if self.job.returncode >= 0 else 128 - self.job.returncode), output
@@ -124,6 +108,12 @@ class Program:
             self.job.kill()
             self.job.wait()
 
+    def explain(self, words: list[str], output: bytes) -> bool:
+        """says the reasons that the launcher leaves to its page's run, as they belong behind the answer; whether there are any"""
+        os.environ["RAILPLAN_NAMES"] = self.environment["RAILPLAN_NAMES"]
+        telling.tell(built.Clone(os.path.dirname(self.command[2])).program, table.read(words), running.Ran(0, output, 0))
+        return b"\nlaw " in output
+
     def graph(self, input_: Input) -> Optional[Graph]:
         """the track graph of a file that was read, or nothing"""
         status, output = self.run(["graph", input_.copy], is_quiet=True) if input_.copy else (1, b"")
@@ -131,31 +121,6 @@ class Program:
             return texts.read_graph(output.decode("utf-8", "replace")) if status == 0 else None
         except (NoPage, ValueError):
             return None
-
-
-@contextlib.contextmanager
-def stoppable() -> Iterator[None]:
-    """an interrupt, a request to end and a closed terminal end the run, with everything taken away"""
-    def stop(number: int, frame: Optional[FrameType]) -> None:
-        for other in (signal.SIGINT, signal.SIGTERM, signal.SIGHUP):
-            signal.signal(other, signal.SIG_IGN)
-        raise Stopped
-
-    for number in (signal.SIGINT, signal.SIGTERM, signal.SIGHUP):
-        signal.signal(number, stop)
-    yield
-
-
-def open_ends() -> bool:
-    """opens what of the three streams is closed, so that no file gets its number; says whether the output was open"""
-    was_open = True
-    for number in (0, 1, 2):
-        try:
-            os.fstat(number)
-        except OSError:
-            was_open = was_open and number != 1
-            os.open(os.devnull, os.O_RDWR)
-    return was_open
 
 
 def give(output: bytes) -> None:
@@ -171,8 +136,8 @@ def give(output: bytes) -> None:
 def read_inputs(line: table.Line, folder: Path) -> tuple[list[Input], list[str]]:
     """the inputs of a run, and its words with their copies; words that have a fault are left as they are"""
     words = list(line.words)
-    read, written = ([it.word for it in files] for files in (line.files_read, line.files_written))
-    is_one = any(is_one_file(one, other) for at, one in enumerate(written) for other in read + written[:at])
+    read, written = ([it.word for it in named] for named in (line.files_read, line.files_written))
+    is_one = any(files.is_one_file(one, other) for at, one in enumerate(written) for other in read + written[:at])
     if table.fault(words) or is_one:
         return [], words
     inputs: list[Input] = []
@@ -252,8 +217,10 @@ def run_asked(launcher: str, asked: Asked, folder: Path, outputs: dict[str, Outp
     program = Program(launcher, asked, inputs)
     status, output = program.run(words)
     if status > 128:
+        say(unwritten(outputs))
         return status
     ended = give_all(output, is_open)
+    has_laws = line.command == "explain" and status == 0 and program.explain(words, output)
     run = Run(asked.words, line.names, line.options, output.decode("utf-8", "replace"), status, inputs, log=None,
               settings=asked.settings, build=Build.of(os.environ, asked.is_unproved), version=VERSION, date=date_of(),
               page=asked.files.get("--html", ""), sheet_beside=os.environ.get("RAILPLAN_SHEET", ""),
@@ -267,6 +234,10 @@ def run_asked(launcher: str, asked: Asked, folder: Path, outputs: dict[str, Outp
     except NoPage as why:
         say(f"there is no page of this run: {why}")
         return 6
+    if has_laws and run.page:
+        say(f"{run.page} has all of it, with a drawing without each of the laws")
+    if ended:
+        say(unwritten(outputs))
     return ended or status
 
 
@@ -277,41 +248,56 @@ def shown_front(asked: Asked) -> list[str]:
 
 
 def give_all(output: bytes, is_open: bool) -> int:
-    """gives the output; 6 where it can't be written"""
+    """gives the output; 6 where it can't be written, without a word where its reader is gone"""
     try:
         if not is_open and output:
             raise OSError(9, "Bad file descriptor")
         give(output)
+    except BrokenPipeError:
+        return 6
     except OSError as error:
         say(f"couldn't write: {error.strerror}")
         return 6
     return 0
 
 
+def unwritten(outputs: dict[str, Output]) -> str:
+    """which of the files that were asked for aren't there"""
+    if not outputs:
+        return "nothing is written"
+    names = [it.name for it in outputs.values() if not it.is_written]
+    if not names:
+        return f"{' and '.join(it.name for it in outputs.values())} {'are' if len(outputs) > 1 else 'is'} written"
+    return f"{' and '.join(names)} {'are' if len(names) > 1 else 'is'}n't written"
+
+
 def start(given: list[str]) -> int:
     """the whole: the status of the run, or of what couldn't be done for its page"""
-    is_open = open_ends()
+    is_open = running.open_ends()
     folder, outputs = "", {}
     try:
-        with stoppable():
-            asked = asked_of(given[1:])
-            line = table.read(asked.words)
-            refuse_one_file(asked, [it.word for it in line.files_read + line.files_written])
-            for word, name in asked.files.items():
-                outputs[word] = Output(name, FILES[word])
-            folder = tempfile.mkdtemp(prefix="railplan-")
-            return run_asked(given[0], asked, Path(folder), outputs, is_open)
+        asked = asked_of(given[1:])
+        line = table.read(asked.words)
+        line.pages.update(asked.files)
+        files.look(line)
+        for word, name in asked.files.items():
+            outputs[word] = Output(name)
+        folder = tempfile.mkdtemp(prefix="railplan-")
+        return run_asked(given[0], asked, Path(folder), outputs, is_open)
     except Refused as why:
         say(str(why))
         return why.status
-    except Stopped:
-        names = [it.name for it in outputs.values()]
-        say(f"stopped; {' and '.join(names)} {'are' if len(names) > 1 else 'is'}n't written" if names else "stopped")
+    except Ended as ended:
+        return ended.status
+    except KeyboardInterrupt:
+        running.leave_alone()
+        say(f"stopped; {unwritten(outputs)}")
         return 130
     except OSError as error:
         say(f"couldn't make the page: {error.strerror or error}")
         return 6
     finally:
+        running.leave_alone()
         for output in outputs.values():
             output.drop()
         shutil.rmtree(folder, ignore_errors=True) if folder else None

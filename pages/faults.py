@@ -7,12 +7,10 @@ from dataclasses import dataclass, field
 from pages.files import Input
 from tool import telling
 from tool import words as table
+from tool.manual import ENDINGS
 from tool.notes import Note
 from tool.running import Ran
 
-STATUSES = {1: "an input was refused", 2: "the words have a fault", 5: "a file couldn't be read",
-            6: "the output or a file couldn't be written", 7: "there was no memory",
-            10: "the program couldn't be built or started"}
 CONTEXT = 2
 LONGEST = 300
 
@@ -79,7 +77,7 @@ def excerpts(places: list[tuple[str, int]], inputs: list[Input]) -> list[Excerpt
 def of_run(words: list[str], output: str, status: int, inputs: list[Input]) -> Fault:
     """the fault that a run ended with; `words` are those that the program got, with the names of copies"""
     notes = notes_of(words, output, status)
-    plain = f"The run ended with {status}: {STATUSES.get(status, 'no more is known')}."
+    plain = f"The run ended with {status}: {ENDINGS.get(status, 'no more is known')}."
     sentences = [ended(note.text) for note in notes] or [plain]
     for one in inputs:
         if one.copy:

@@ -11,6 +11,7 @@ from pathlib import Path
 from typing import Optional
 
 from pages.facts import FileFacts
+from tool.files import state_of
 
 MOST = 4_194_304
 PIECE = 1 << 20
@@ -63,46 +64,20 @@ def hashed(name: str) -> FileFacts:
     return FileFacts(name, total.hexdigest(), size)
 
 
-def is_one_file(one: str, other: str) -> bool:
-    if os.path.realpath(one) == os.path.realpath(other):
-        return True
-    try:
-        return os.path.samefile(one, other)
-    except (OSError, ValueError):
-        return False
-
-
 class Output:
-    """a file that is written whole: into a temporary one of its folder, which takes its place at the end"""
+    """a file that is written whole: into a temporary one of its folder, which takes its place at the end, with the rights of what
+    was there. Whether that may be replaced was looked at by then (tool/files.py)"""
 
-    def __init__(self, name: str, begins: bytes) -> None:
-        self.name, self.part = name, ""
+    def __init__(self, name: str) -> None:
+        self.name, self.part, self.is_written = name, "", False
         try:
-            there = self.look(begins)
+            there = state_of(name)
             handle, self.part = tempfile.mkstemp(prefix=".", suffix=".tmp", dir=os.path.dirname(name) or ".")
             os.close(handle)
             os.chmod(self.part, stat.S_IMODE(there.st_mode) if there else 0o666 & ~umask())
         except (OSError, ValueError) as error:
             self.drop()
             raise Refused(f"couldn't write: {name}: {getattr(error, 'strerror', None) or error}", 6) from error
-
-    def look(self, begins: bytes) -> Optional[os.stat_result]:
-        """what is there already; only a plain file of this kind, or an empty one, may be replaced"""
-        try:
-            there = os.lstat(self.name)
-        except FileNotFoundError:
-            return None
-        if stat.S_ISLNK(there.st_mode):
-            raise Refused(f"{self.name} is a link, and isn't replaced; name the file that it leads to")
-        if not stat.S_ISREG(there.st_mode):
-            raise Refused(f"{self.name} is no plain file, and isn't replaced; name another")
-        with open(self.name, "rb") as file:
-            first = file.read(len(begins))
-        if first and first.lower() != begins.lower():
-            raise Refused(f"{self.name} is there and is something else, so it isn't written over; name another file")
-        if not os.access(self.name, os.W_OK):
-            raise PermissionError(13, "Permission denied")
-        return there
 
     def write(self, text: str) -> None:
         """writes the text, and takes the place of what was there"""
@@ -112,7 +87,7 @@ class Output:
                 file.flush()
                 os.fsync(file.fileno())
             os.replace(self.part, self.name)
-            self.part = ""
+            self.part, self.is_written = "", True
         except OSError as error:
             raise Refused(f"couldn't write: {self.name}: {error.strerror}", 6) from error
         finally:

@@ -1,7 +1,8 @@
 """What a railML file says beyond the texts of the program: names, kinds of ends, types of tracks, signals.
 
-It takes the elements that the program takes, by their path, and no others. So what stands in an element that the program skips
-isn't seen here either. A file that can't be read so says nothing, and `trouble` says why.
+Its elements are those of tool/railml.py, which selects what the program selects. So what is in an element that the program skips
+isn't seen here either. A file that can't be read so says nothing, and `trouble` says why. Other than a message, a page has no use
+for a file's bytes and their places: so here characters are read too that the program takes and expat doesn't.
 """
 from __future__ import annotations
 
@@ -9,9 +10,10 @@ import re
 from dataclasses import dataclass, field
 from decimal import Decimal, InvalidOperation
 from typing import Optional
-from xml.parsers import expat
 
-TOPOLOGY = ("tracks", "track", "trackTopology")
+from tool import railml
+from tool.railml import Element
+
 ENDS = {"openEnd": "open end", "bufferStop": "buffer stop", "macroscopicNode": "line goes on"}
 NUMBER = re.compile(r"[\t\n\r ]*[+-]?(\d{1,9}(\.\d{0,6})?|\.\d{1,6})[\t\n\r ]*")
 REFERENCE = re.compile(r"&#(?:x([0-9a-fA-F]{1,8})|([0-9]{1,8}));")
@@ -63,7 +65,6 @@ class Infrastructure:
     tracks: dict[str, Track] = field(default_factory=dict)
     signals: dict[str, SignalInFile] = field(default_factory=dict)
     owners: dict[str, str] = field(default_factory=dict)
-    lines: dict[str, list[int]] = field(default_factory=dict)
     trouble: str = ""
 
 
@@ -87,90 +88,66 @@ def given_back(text: str) -> str:
     return text.translate({PRIVATE + code: code for code in REFUSED}) if not text.isascii() else text
 
 
-class Reader:
-    """takes what elements say, each by its path"""
+def given(it: Element) -> Attributes:
+    return {given_back(key): given_back(value) for key, value in it.attributes.items()}
 
-    def __init__(self) -> None:
-        self.found, self.path, self.outer = Infrastructure(), [], []
-        self.parser = expat.ParserCreate()
-        self.parser.StartElementHandler = self.start
-        self.parser.EndElementHandler = self.end
-        self.parser.CharacterDataHandler = self.characters
-        self.parser.buffer_text = True
 
-    def start(self, name: str, given: Attributes) -> None:
-        attributes = {given_back(key): given_back(value) for key, value in given.items()}
-        self.path.append(name)
-        self.outer.append(attributes)
-        if attributes.get("id"):
-            self.found.lines.setdefault(attributes["id"], []).append(self.parser.CurrentLineNumber)
-        path = tuple(self.path[1:] if self.path[0] == "railml" else self.path)
-        if path[:1] != ("infrastructure",):
-            return
-        if path == ("infrastructure",):
-            self.found.title = attributes.get("name", "").strip() or self.found.title
-        elif path[1:] == ("tracks", "track"):
-            one = attributes.get("id", "")
-            self.found.tracks[one] = Track(one, attributes.get("name", ""), attributes.get("type", ""))
-            self.name(attributes)
-        elif path[1:4] == TOPOLOGY:
-            self.in_topology(path[4:], attributes)
-        elif path[1:] == ("tracks", "track", "ocsElements", "signals", "signal"):
-            self.signal(attributes)
+class Taken:
+    """what the elements of a file say"""
 
-    def end(self, name: str) -> None:
-        self.path.pop()
-        self.outer.pop()
+    def __init__(self, document: railml.Document) -> None:
+        self.found = Infrastructure(self.title(document))
+        for track in document.tracks():
+            self.take_track(track)
 
-    def characters(self, text: str) -> None:
-        """the title of the file, where the infrastructure has no name"""
-        if self.path[-1] in ("title", "dc:title") and self.path[1:2] == ["metadata"] and not self.found.title:
-            self.found.title = given_back(text).strip()
+    def title(self, document: railml.Document) -> str:
+        """the infrastructure's name, or the title of the file"""
+        names = [given(it).get("name", "").strip() for it in document.stations()]
+        titles = [given_back(it.text).strip() for it in document.elements
+                  if it.name in railml.TITLES and (around := it.above("metadata")) and around.parent is document.root]
+        return next(filter(None, [*reversed(names), *titles]), "")
 
     def name(self, attributes: Attributes) -> None:
         if attributes.get("id") and attributes.get("name", "").strip():
             self.found.names.setdefault(attributes["id"], attributes["name"])
 
-    def track(self) -> Track:
-        """the track that the innermost element is in"""
-        depth = 3 if self.path[0] == "railml" else 2
-        return self.found.tracks[self.outer[depth].get("id", "")]
-
-    def in_topology(self, path: tuple[str, ...], attributes: Attributes) -> None:
-        if path in (("trackBegin",), ("trackEnd",)):
-            end = self.track().begin if path == ("trackBegin",) else self.track().end
-            end.id, end.mileage, end.pos = attributes.get("id", ""), number(attributes, "absPos"), number(attributes, "pos")
-            self.name(attributes)
-        elif path[:1] in (("trackBegin",), ("trackEnd",)) and len(path) == 2:
-            end = self.track().begin if path[0] == "trackBegin" else self.track().end
-            if path[1] in ENDS:
-                end.kind = ENDS[path[1]]
-                self.found.ends[end.id] = end.kind
-            elif path[1] == "connection":
-                end.kind, end.ref = "connection", attributes.get("ref", "")
-                self.found.owners[attributes.get("id", "")] = end.id
-        elif path in (("connections", "switch"), ("connections", "crossing")):
-            self.name(attributes)
-        elif path in (("connections", "switch", "connection"), ("connections", "crossing", "connection")):
-            self.found.owners[attributes.get("id", "")] = self.outer[-2].get("id", "")
-
-    def signal(self, attributes: Attributes) -> None:
+    def take_track(self, it: Element) -> None:
+        attributes = given(it)
         one = attributes.get("id", "")
-        self.found.signals.setdefault(one, SignalInFile(one, attributes.get("name", ""), self.track().id,
-                                                        attributes.get("dir", ""),
+        track = self.found.tracks[one] = Track(one, attributes.get("name", ""), attributes.get("type", ""))
+        self.name(attributes)
+        for below in it.named("trackTopology"):
+            for element in below.named(*railml.ENDS):
+                self.take_end(track.begin if element.name == "trackBegin" else track.end, element)
+        for point in railml.points(it):
+            self.name(given(point))
+            for connection in point.named("connection"):
+                self.found.owners[given(connection).get("id", "")] = given(point).get("id", "")
+        for signal in railml.signals(it):
+            self.take_signal(track, given(signal))
+
+    def take_end(self, end: TrackEnd, it: Element) -> None:
+        attributes = given(it)
+        end.id, end.mileage, end.pos = attributes.get("id", ""), number(attributes, "absPos"), number(attributes, "pos")
+        self.name(attributes)
+        for below in it.named(*railml.ENDINGS):
+            if below.name in ENDS:
+                end.kind = self.found.ends[end.id] = ENDS[below.name]
+            else:
+                end.kind, end.ref = "connection", given(below).get("ref", "")
+                self.found.owners[given(below).get("id", "")] = end.id
+
+    def take_signal(self, track: Track, attributes: Attributes) -> None:
+        one = attributes.get("id", "")
+        self.found.signals.setdefault(one, SignalInFile(one, attributes.get("name", ""), track.id, attributes.get("dir", ""),
                                                         number(attributes, "absPos"), number(attributes, "pos")))
 
 
 def read(file: bytes) -> Infrastructure:
     """what a railML file says; nothing but why not, where it can't be read"""
-    reader = Reader()
     try:
         text = file.decode("utf-8")
-        reader.parser.Parse(hidden(text).encode("utf-8"), True)
     except UnicodeDecodeError:
         return Infrastructure(trouble="the file isn't UTF-8")
-    except expat.ExpatError as error:
-        return Infrastructure(trouble=f"line {error.lineno}: {expat.ErrorString(error.code)}", lines=reader.found.lines)
-    except (KeyError, IndexError):
-        return Infrastructure(trouble="its tracks have no ids", lines=reader.found.lines)
-    return reader.found
+    document = railml.read(hidden(text).encode("utf-8"))
+    return Infrastructure(trouble=document.trouble) if document.trouble else Taken(document).found

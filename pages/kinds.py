@@ -14,6 +14,8 @@ from pages.objects import Objects
 from pages.plot import plot
 from pages.station import Station
 from pages.texts import Drawing, Graph, Law, NoPage
+from tool import advice, explained, railml, words
+from tool.track_graph import TrackGraph
 
 CAPTION = "Not to scale: mileages rise from west to east, and upper is on the left seen in this direction."
 NO_LOG = "No log was kept. With --log NAME the search leaves one, which others can judge."
@@ -140,6 +142,13 @@ def add_values(page: Page, values: dict[str, int], grid: tuple[int, ...]) -> Non
     page.fact("Values", table(sentences.measured(values)), f"On a grid of {sentences.grid_in_words(grid)}.")
 
 
+def add_not_shown(page: Page, run: Run) -> None:
+    """what the file has and the drawing doesn't show, as standard error says it"""
+    found = advice.not_shown(run.content(0), words.read(run.words), run.output.splitlines())
+    if found:
+        page.fact("What the drawing doesn't show", *(faults.ended(page.station.shown(it)) for it in found))
+
+
 def add_certificate(page: Page, run: Run, without: str) -> None:
     """the log, by its name and its hash; or what is left of it, beside the page"""
     if run.hints_beside:
@@ -212,6 +221,7 @@ def draw_page(run: Run) -> Page:
     if sheet.drawing:
         page.draw(run.scene(sheet.drawing, page.station, signals=signals), CAPTION)
         add_values(page, sheet.values, sheet.grid)
+        add_not_shown(page, run)
         add_sheet(page, run)
     else:
         page.lead = [f"There is no drawing. It was looked for on a grid of {sentences.grid_in_words(sheet.grid)}."]
@@ -275,9 +285,18 @@ def explain_page(run: Run) -> Page:
     return page
 
 
+def origin(graph: Optional[TrackGraph], law: Law, station: Station) -> str:
+    """of an order the switch or crossing from which it comes, where the file can be read to its end"""
+    if law.number != 6 or graph is None:
+        return ""
+    return station.shown(explained.origin(graph, *(number for _, number in law.parties)))
+
+
 def add_panels(page: Page, run: Run, why: texts.Why) -> None:
     """for each law of the list a drawing that gives it up, and keeps the others of the list"""
-    asked = [sentences.asked(law, why.without[0], page.station) for law in why.laws]
+    document = railml.read(run.content(0))
+    graph = TrackGraph(document) if document.root and not document.open else None
+    asked = [sentences.asked(law, why.without[0], page.station) + origin(graph, law, page.station) for law in why.laws]
     items = [law_item(law, f"{sentences.sentence(text)} (law {law.number})", "li") for law, text in zip(why.laws, asked)]
     page.lead = ["No drawing on this grid keeps all of these at once. Give up any one of them, and a drawing keeps the others.",
                  element("ol", *items)]
@@ -312,6 +331,7 @@ def redraw_page(run: Run) -> Page:
         page.lead = [f"Of {found.of} nodes that the former drawing has too, {found.moved} moved."]
         add_versions(page, run, found.drawing, former.drawing)
         add_values(page, found.values, found.grid)
+        add_not_shown(page, run)
     else:
         page.lead = [f"There is no drawing. It was looked for on a grid of {sentences.grid_in_words(found.grid)}."]
     page.fact("How the search ended", sentences.ending_of_moved(found.ending))

@@ -9,7 +9,8 @@ from typing import Optional
 
 from pages.drawing import Scene
 from pages.station import DIVERGING, STRAIGHT
-from pages.texts import Edge, Node, Signal, kilometres
+from pages.texts import Edge, Node, Signal
+from tool.law_words import kilometres
 
 # what a link leads to is the key of an object
 Fact = tuple[str, str, str]

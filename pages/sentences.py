@@ -4,7 +4,8 @@ from __future__ import annotations
 from typing import Iterable, Sequence
 
 from pages.station import Station
-from pages.texts import VALUES, Drawing, Law, Node, Party, kilometres
+from pages.texts import VALUES, Drawing, Law, Node, Party
+from tool import law_words
 
 MEASURED = {"height": ("row above the lowest", "rows above the lowest"),
             "bends": ("point at which a line turns", "points at which lines turn"),
@@ -75,31 +76,8 @@ def name_of(party: Party, drawing: Drawing, station: Station) -> str:
 
 
 def at_node(node: Node, station: Station) -> str:
-    known, name = station.node(node.number), station.label(node.name)
-    kind = known.kind if known else "node"
-    if kind == "switch":
-        return (f"at the switch {name} the trunk and the straight leg have one slope, and the diverging leg is one step "
-                f"steeper on the {known.side} side")
-    if kind == "crossing":
-        return f"at the crossing {name} each path has one slope on both sides, and the rising path's is the greater"
-    if kind == "joint":
-        return f"through the joint {name} both lines have one slope"
-    if kind == "node":
-        return f"at {name} the lines' slopes are those that its kind asks for"
-    return f"at the end {name} the line is level"
-
-
-def by_mileage(one: Node, other: Node, station: Station) -> str:
-    """law 2 of two nodes"""
-    if not one.mileage or not other.mileage:
-        names = station.label(one.name), station.label(other.name)
-        return f"the nodes {names[0]} and {names[1]} lie from west to east as their mileages do"
-    west, east = (one, other) if float(one.mileage) <= float(other.mileage) else (other, one)
-    names = station.label(west.name), station.label(east.name)
-    if float(west.mileage) == float(east.mileage):
-        return f"the nodes {names[0]} and {names[1]}, both at km {kilometres(west.mileage)}, lie in one column"
-    return (f"the node {names[0]}, at km {kilometres(west.mileage)}, doesn't lie further east than {names[1]}, at km "
-            f"{kilometres(east.mileage)}")
+    known = station.node(node.number)
+    return law_words.at_node(station.label(node.name), known.kind if known else "", known.side if known else "")
 
 
 def asked(law: Law, drawing: Drawing, station: Station) -> str:
@@ -112,7 +90,8 @@ def asked(law: Law, drawing: Drawing, station: Station) -> str:
     if law.number == 4:
         return at_node(drawing.nodes[law.parties[0][1]], station)
     if law.number == 2:
-        return by_mileage(*(drawing.nodes[number] for _, number in law.parties), station)
+        one, other = (drawing.nodes[number] for _, number in law.parties)
+        return law_words.by_mileage((station.label(one.name), one.mileage or ""), (station.label(other.name), other.mileage or ""))
     if law.number == 5:
         return f"{names[0]} and {names[1]} lie at two points, and not at one"
     if law.number == 6:

@@ -4,6 +4,7 @@ Without a graph it knows no kinds, and without a file no names: then the page ha
 """
 from __future__ import annotations
 
+from collections import Counter
 from dataclasses import dataclass, field
 from decimal import Decimal
 from typing import Iterator, Optional
@@ -45,8 +46,22 @@ class Station:
         if self.graph:
             texts |= {it.name for it in self.graph.nodes} | {it.track for it in self.graph.edges}
         self.letters = Letters(texts)
+        self.repeated = self.names_of_two()
 
     # ---- names
+
+    def names_of_two(self) -> set[str]:
+        """the names that two tracks or two nodes have: they tell nothing apart"""
+        nodes = [it.name for it in self.graph.nodes] if self.graph else [it for it in self.file.names if it not in self.file.tracks]
+        found: set[str] = set()
+        for ids in (self.file.tracks, nodes):
+            count = Counter(self.file.names[it].strip() for it in ids if it in self.file.names)
+            found |= {name for name, number in count.items() if number > 1}
+        return found
+
+    def is_label(self, name: str, id: str, is_signal: bool) -> bool:
+        """whether a thing's name is written at it: where names are asked for, and it is the only one of its kind that has it"""
+        return self.labels == "name" and name != "" and (is_signal or self.file.names.get(id, "").strip() not in self.repeated)
 
     def shown(self, text: str) -> str:
         return self.letters.shown(text)
@@ -62,16 +77,16 @@ class Station:
         return self.shown(name) if name.strip() and name != id else ""
 
     def label(self, id: str, is_signal: bool = False) -> str:
-        """what is written at a thing: its name where there is one and names are asked for, else its id"""
+        """what is written at a thing: its name, or else its id"""
         name = self.signal_name(id) if is_signal else self.name(id)
-        return name if name and self.labels == "name" else self.shown(id)
+        return name if self.is_label(name, id, is_signal) else self.shown(id)
 
     def both(self, id: str, is_signal: bool = False) -> str:
         """the label, and behind it what it isn't of name and id"""
         name, own = (self.signal_name(id) if is_signal else self.name(id)), self.shown(id)
         if not name:
             return own
-        return f"{name} ({own})" if self.labels == "name" else f"{own} ({name})"
+        return f"{name} ({own})" if self.is_label(name, id, is_signal) else f"{own} ({name})"
 
     # ---- kinds and sides, from the graph
 

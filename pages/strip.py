@@ -9,8 +9,9 @@ from pages.columns import BEYOND, Columns, Strip
 from pages.markup import Element, element
 from pages.places import Box, Field, Line, Name, Sign, Spot, Wish
 from pages.signs import shown, spots
-from pages.texts import Edge, Node, Signal, kilometres
+from pages.texts import Edge, Node, Signal
 from pages.widths import ASCENT, height_of, width_of
+from tool.law_words import kilometres
 
 if TYPE_CHECKING:
     from pages.drawing import Scene

@@ -265,12 +265,3 @@ def read_front(text: str) -> Front:
         found.pairs.append((one_value, other_value))
     found.ending = lines.take("end")[0]
     return found
-
-
-def kilometres(mileage: str) -> str:
-    """a mileage in metres, as the sheet has it, in kilometres with three decimals or as many as it needs"""
-    sign, digits = ("-", mileage[1:]) if mileage.startswith("-") else ("", mileage)
-    whole, _, part = digits.partition(".")
-    whole = whole.rjust(4, "0")
-    decimals = (whole[-3:] + part).rstrip("0")
-    return sign + whole[:-3] + "." + decimals.ljust(3, "0")

@@ -7,8 +7,10 @@ from collections import Counter
 
 from tool import files, railml, running, words
 from tool.notes import Note
+from tool.places import of_line
 from tool.railml import Document, Element
 from tool.saying import called
+from tool.track_graph import TrackGraph
 
 WIDEST, HIGHEST = words.OPTIONS["--width"].high, words.OPTIONS["--height"].high
 LARGEST = {"--width": str(WIDEST), "--height": str(HIGHEST)}
@@ -17,6 +19,8 @@ SLIPS = {"doubleSwitchCrossing": "a double slip", "simpleSwitchCrossing": "a sin
 # from how many signals on one piece of track on it is said why each edge takes so many columns
 MANY_SIGNALS = 4
 PASSED_GROUPS = ("trackElements", "ocsElements")
+# what of a track's topology is read; its other groups, as mileageChanges, are passed over
+READ_GROUPS = ("trackBegin", "trackEnd", "connections")
 READ = ("track", "trackTopology", "trackBegin", "trackEnd", "connections", "switch", "crossing", "connection")
 
 
@@ -127,6 +131,31 @@ def explaining(line: words.Line, width: int, height: int, least: int) -> str:
     return f"{called()} --html why.html explain {shlex.join([line.names[0], *options])}"
 
 
+def drawing(line: words.Line) -> str:
+    """the line that draws what explain was asked of"""
+    return f"{called()} {shlex.join(['draw', *line.words[1:]])}"
+
+
+# ---- certificates
+
+
+def certified(line: words.Line, fields: list[str]) -> list[str]:
+    """what `certified S` and `trimmed L K` mean; only a terminal is told so"""
+    named = {it.kind: it.word for it in line.files()}
+    if fields[0] == "trimmed":
+        return [f"the log has {fields[1]} learnt lines, and {fields[2]} of them are left in {named['hints']}. They certify what the "
+                "sheet claims"]
+    lines = "the hinted lines certify" if line.command == "recheck" else "the log certifies"
+    order, ending = (of_line(named["sheet"], number).text.split()[1:] for number in (3, 4))
+    if ending == ["none"]:
+        return [f"{lines} that no drawing on this grid is lawful"]
+    settled = order[:int(fields[1])]
+    if not settled:
+        return ["all lines are right, and the sheet claims nothing that they could certify"]
+    listed = f"{', '.join(settled[:-1])} and {settled[-1]} are least, in this order" if settled[1:] else f"{settled[0]} is least"
+    return [f"{lines} that the sheet's {listed}"]
+
+
 # ---- stopped searches
 
 
@@ -194,6 +223,8 @@ def passed_over(document: Document, command: str) -> list[str]:
     for track in document.tracks():
         for group in track.named(*PASSED_GROUPS):
             kinds.update(leaf.name for leaf in leaves(group) if leaf.name != "signal" or command != "signals")
+        for below in track.named("trackTopology"):
+            kinds.update(it.name for group in below.children if group.name not in READ_GROUPS for it in group.children or [group])
     listed = ", ".join(f"{count} {name}" for name, count in sorted(kinds.items()))
     signals = "; signals draws signals" if kinds.get("signal") else ""
     return [f"not drawn: {listed}{signals}"] if listed else []
@@ -224,8 +255,20 @@ def crowded_piece(document: Document, line: words.Line, said: list[str]) -> list
         track, west, east = edges[on.most_common(1)[0][0]][2:5]
         piece = f"{track} from {nodes[west]} to {nodes[east]} has"
     else:
-        piece = "one piece of track has"
+        piece = f"{fullest_piece(document, least - 1) or 'one piece of track'} has"
     return [f"{piece} {least - 1} signals, so each edge takes {least} columns"]
+
+
+def fullest_piece(document: Document, count: int) -> str:
+    """the piece of track with so many signals, where the answer doesn't say where signals are"""
+    graph, on = TrackGraph(document), Counter()
+    for track in document.tracks():
+        spots = sorted(railml.places_of(track), key=railml.position)
+        for signal in railml.signals(track):
+            west = [it for it in spots[:-1] if railml.position(it) <= railml.position(signal)] or spots[:1]
+            on.update(graph.pieces.get((it.place, 1)) for it in west[-1:])
+    fullest = [number for number, found in on.items() if found == count and number is not None]
+    return graph.piece_in_words(fullest[0]) if fullest else ""
 
 
 def odd_picture(line: words.Line, said: list[str]) -> list[Note]:
@@ -239,13 +282,11 @@ def odd_picture(line: words.Line, said: list[str]) -> list[Note]:
                  f"{shown}. Give it another id, or ask for a page by --html")]
 
 
-def not_shown(line: words.Line, said: list[str]) -> list[Note]:
-    data = files.reread(line.names[0])
-    if data is None:
-        return []
+def not_shown(data: bytes, line: words.Line, said: list[str]) -> list[str]:
+    """what a file has that the drawing of this answer doesn't show, for standard error and for pages"""
     document = railml.read(data)
     found = slips(document) + bent_tracks(document) + prefixed(document, line.command)
-    return [Note(it) for it in found + passed_over(document, line.command) + crowded_piece(document, line, said)]
+    return found + passed_over(document, line.command) + crowded_piece(document, line, said)
 
 
 def notes(program: str, line: words.Line, ran: running.Ran) -> list[Note]:
@@ -253,12 +294,17 @@ def notes(program: str, line: words.Line, ran: running.Ran) -> list[Note]:
     said, command = ran.lines, line.command
     found = []
     if command in ("draw", "signals", "redraw"):
-        found += not_shown(line, said)
+        data = files.reread(line.names[0])
+        found += [Note(it) for it in not_shown(data, line, said)] if data is not None else []
     if command == "draw":
         found += odd_picture(line, said)
     if ran.status == 0 and command == "explain" and any(it.startswith("laws ") for it in said):
         from tool import explained
         found += explained.laws(program, line, said) + [larger(program, line, said)]
+    if said[-1:] == ["drawing exists"]:
+        found.append(Note(f"a lawful drawing lies on this grid: {drawing(line)}"))
+    if ran.status == 0 and command in ("check", "trim", "recheck"):
+        found += [Note(it) for it in certified(line, said[-1].split())]
     if ran.status == 3 and command in ("draw", "signals", "redraw", "front"):
         found += no_drawing(program, line, said)
     if ran.status == 4 and command in ("draw", "signals", "redraw", "front", "explain"):

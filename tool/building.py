@@ -10,6 +10,7 @@ import signal
 import subprocess
 
 from tool import built
+from tool.running import leave_alone
 from tool.saying import end, say, why
 
 NO_RT = ("the Rattle toolchain's command rt isn't on the PATH. It comes with the Rattle kit: unpack the kit, and add its folder "
@@ -91,6 +92,7 @@ def prove_and_build(clone: built.Clone, rt: str, log: str) -> None:
             try:
                 seen = follow(job, log, total, seen)
             except KeyboardInterrupt:
+                leave_alone()
                 stop(job)
                 end(130, "stopped while the program was built")
             if job.returncode:

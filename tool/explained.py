@@ -3,13 +3,12 @@ from __future__ import annotations
 
 import subprocess
 
-from tool import files, railml, words
+from tool import files, law_words, railml, words
 from tool.graph_faults import hand
 from tool.notes import Note
 from tool.track_graph import TrackGraph
 
-LAWS = {2: "{0} and {1} lie in the order of their mileages", 4: "at {0} the lines meet as they must", 5: "{0} and {1} lie apart",
-        6: "{0} lies above {1}", 7: "{0} and {1} don't cross"}
+LAWS = {5: "{0} and {1} lie apart", 6: "{0} lies above {1}", 7: "{0} and {1} don't cross"}
 
 
 class Named:
@@ -18,7 +17,8 @@ class Named:
     def __init__(self, program: str, name: str):
         ran = subprocess.run([program, "graph", name], stdin=subprocess.DEVNULL, capture_output=True, text=True, errors="replace")
         fields = [line.split() for line in ran.stdout.splitlines()]
-        self.nodes = {it[1]: it[2] for it in fields if it[0] == "node"}
+        self.fields = {it[1]: it[2:] for it in fields if it[0] == "node"}
+        self.nodes = {number: it[0] for number, it in self.fields.items()}
         self.edges = {it[1]: it[2:5] for it in fields if it[0] == "edge"}
 
     def party(self, kind: str, number: str) -> str:
@@ -30,8 +30,19 @@ class Named:
         return f"{track} from {self.nodes[west]} to {self.nodes[east]}"
 
 
+    def law(self, number: int, parties: list[tuple[str, str]]) -> str:
+        """what a law asks of its parties"""
+        names = [self.party(*it) for it in parties]
+        known = [self.fields.get(at, ["", ""]) for _, at in parties]
+        if number == 2:
+            return law_words.by_mileage(*((name, it[-1]) for name, it in zip(names, known)))
+        if number == 4:
+            return law_words.at_node(names[0], known[0][1], known[0][-2])
+        return LAWS.get(number, "{0} {1}").format(*names, "")
+
+
 def origin(graph: TrackGraph, upper: int, lower: int) -> str:
-    """the switch or crossing by which one edge lies above another"""
+    """the switch or crossing by which one edge lies above another; for standard error and for pages"""
     fork = next(iter(graph.origins(upper, lower)), None)
     return f", by the {railml.what(fork.node)} ({hand(fork)})" if fork else ""
 
@@ -48,8 +59,7 @@ def laws(program: str, line: words.Line, said: list[str]) -> list[Note]:
     found = []
     for fields in listed:
         parties = list(zip(fields[2::2], fields[3::2]))
-        names = [named.party(*it) for it in parties] + [""]
-        text = LAWS.get(int(fields[1]), "{0} {1}").format(*names)
+        text = named.law(int(fields[1]), parties)
         by = origin(graph, int(parties[0][1]), int(parties[1][1])) if fields[1] == "6" else ""
         found.append(f"\n  law {fields[1]}: {text}{by}")
     return [Note("no drawing on this grid meets these laws together:" + "".join(found))]

@@ -7,9 +7,9 @@ import stat
 from tool import words
 from tool.saying import end, why
 
-# how a file of each kind begins, and what a kind is called
-BEGINS = {"log": (b"railplan-log",), "picture": (b"<svg",), "hints": (b"railplan-hints",), "page": (b"<!doctype html",)}
-OTHERS = (b"<", b"\xef\xbb\xbf<", b"\xff\xfe<", b"\xfe\xff\x00<", b"railplan", b"railgraph")
+# how a file of each kind begins, in small letters, and what a kind is called
+BEGINS = {"log": b"railplan-log", "picture": b"<svg", "hints": b"railplan-hints", "page": b"<!doctype html",
+          "dxf": b"0\r\nsection", "csv": b"km,kind,name,id"}
 CALLED = {"log": "a log", "picture": "a picture", "hints": "hinted lines", "page": "a page", "dxf": "a CAD drawing",
           "csv": "a table", "railml": "a railML file", "sheet": "a sheet"}
 
@@ -48,9 +48,8 @@ def is_one_file(one: str, other: str) -> bool:
     return bool(there and too and os.path.samestat(there, too))
 
 
-def refuse_one_file(line: words.Line) -> None:
+def refuse_one_file(read: list[words.File], written: list[words.File]) -> None:
     """the program compares names and not files: what it has read, or its log, would be written over"""
-    read, written = line.files_read, line.files_written
     for number, it in enumerate(written):
         for other in read + written[:number]:
             if (it.word != other.word or it.at < 0) and is_one_file(other.word, it.word):
@@ -58,12 +57,12 @@ def refuse_one_file(line: words.Line) -> None:
                     f"{it.word} is named twice; a file that is written needs a name of its own")
 
 
-def refuse_output(line: words.Line) -> None:
+def refuse_output(named: list[words.File]) -> None:
     """standard output that goes into a file of the run"""
     out = os.fstat(1)
     if not stat.S_ISREG(out.st_mode):
         return
-    for it in line.files_read + line.files_written:
+    for it in named:
         there = state_of(it.word)
         if there and os.path.samestat(there, out):
             done = "writes" if it.is_written else "reads" if out.st_size else "reads. The shell has emptied it by now"
@@ -71,20 +70,31 @@ def refuse_output(line: words.Line) -> None:
 
 
 def begins_as(data: bytes, kind: str) -> bool:
-    """whether a file that begins so may be written over by one of a kind. Of tables and CAD drawings the beginnings vary: they
-    don't begin as a file that is known to be something else"""
-    if kind not in BEGINS:
-        return not data.startswith(OTHERS)
+    """whether a file that begins so may be written over by one of a kind"""
     return data.removeprefix(b"\xef\xbb\xbf").lower().startswith(BEGINS[kind])
 
 
-def refuse_other_kinds(line: words.Line) -> None:
+def refuse_replaced(it: words.File) -> None:
+    """a file of pages is written whole and takes the place of what is there: never that of a link, a pipe or a device"""
+    try:
+        there = os.lstat(it.word)
+    except (OSError, ValueError):
+        return
+    if stat.S_ISLNK(there.st_mode):
+        end(2, f"{it.word} is a link, and isn't replaced. Name the file that it leads to")
+    if not stat.S_ISREG(there.st_mode) and not stat.S_ISDIR(there.st_mode):
+        end(2, f"{it.word} is no plain file, and isn't replaced. Name another file")
+
+
+def refuse_other_kinds(written: list[words.File]) -> None:
     """a file that is there, isn't empty and doesn't begin as its kind does"""
-    for it in line.files_written:
+    for it in written:
+        if it.at < 0:
+            refuse_replaced(it)
         there = state_of(it.word)
         if there is None:
             continue
-        if stat.S_ISFIFO(there.st_mode) and it.at >= 0:
+        if stat.S_ISFIFO(there.st_mode):
             end(2, f"{it.word} is a pipe, and {CALLED[it.kind]} is written piece by piece: a reader would see its end too early. "
                    "Name a file")
         if not stat.S_ISREG(there.st_mode) or not there.st_size:
@@ -98,9 +108,9 @@ def refuse_other_kinds(line: words.Line) -> None:
             end(2, f"{it.word} is there and isn't {CALLED[it.kind]}. Name another file, or delete it")
 
 
-def refuse_unwritable(line: words.Line) -> None:
-    """a file that couldn't be written: it would be lost after the search"""
-    for it in line.files_written:
+def refuse_unwritable(written: list[words.File]) -> None:
+    """a file that couldn't be written: it would be lost after the search. One of pages is made beside what is there"""
+    for it in written:
         there, folder = state_of(it.word), os.path.dirname(it.word) or "."
         what = f"{it.word} can't be written"
         if there is not None:
@@ -108,7 +118,9 @@ def refuse_unwritable(line: words.Line) -> None:
                 end(6, f"{what}: it is a folder. Name a file in it")
             if not os.access(it.word, os.W_OK):
                 end(6, f"{what}: you haven't the right to. Name another file")
-        elif not os.path.isdir(folder):
+        if there is not None and it.at >= 0:
+            continue
+        if not os.path.isdir(folder):
             where = f"{folder} is no folder" if os.path.lexists(folder) else f"{folder} isn't there"
             end(6, f"{what}: {where}. Make the folder, or name another file")
         elif not os.access(folder, os.W_OK | os.X_OK):
@@ -177,11 +189,13 @@ def lock_folder() -> str:
 
 
 def look(line: words.Line) -> None:
-    """refuses with 2 what would be written over, and with 6 what couldn't be written"""
-    refuse_one_file(line)
-    refuse_output(line)
-    refuse_other_kinds(line)
-    refuse_unwritable(line)
+    """refuses with 2 what would be written over, and with 6 what couldn't be written. Of words with a fault only pages are made"""
+    has_fault = words.fault(line.words) is not None
+    written = [it for it in line.files_written if it.at < 0 or not has_fault]
+    refuse_one_file(line.files_read, written)
+    refuse_output(written if has_fault else line.files_read + written)
+    refuse_other_kinds(written)
+    refuse_unwritable(written)
 
 
 def unread(line: words.Line) -> tuple[int, str] | None:

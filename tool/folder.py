@@ -8,13 +8,16 @@ from concurrent.futures import FIRST_COMPLETED, Future, ThreadPoolExecutor, wait
 from pathlib import Path
 from typing import NoReturn
 
-from tool import built, files, folder_index, words
+from tool import built, files, folder_index, running, words
 from tool.folder_station import ENDINGS, RECORDS, Jobs, Record, Setting, draw, read_record, whole
 from tool.progress import bar
-from tool.saying import Ended, called, end, is_terminal, say, why, write_error
+from tool.saying import called, end, is_terminal, say, why, write_error
 
 DRAW_OPTIONS = [it for it in words.COMMANDS["draw"].options if not words.OPTIONS[it].is_file]
 FORM = "folder IN OUT [-j N] [--certify] [--shard I/N] [--join] [options of draw]"
+ENDINGS_READ = (".xml", ".railml")
+# of so many files it is said that they are passed over
+LISTED = 5
 BEGINS = {"page": b"<!doctype html", "picture": b"<svg", "sheet": b"railplan ", "hints": b"railplan-hints"}
 
 
@@ -73,11 +76,19 @@ def stations(folder: Path) -> dict[str, Path]:
     """the railML files of a folder by the names of what is made of them, in the order of these"""
     if not folder.is_dir():
         end(5, f"{folder} " + ("is no folder" if folder.exists() else "isn't there") + ". Name a folder with railML files")
-    found = sorted(it for it in folder.iterdir() if it.suffix.lower() in (".xml", ".railml") and it.is_file())
+    found = sorted(it for it in folder.iterdir() if it.suffix.lower() in ENDINGS_READ and it.is_file())
     if not found:
         end(5, f"{folder} has no file *.xml or *.railml")
     stems = [it.stem for it in found]
     return {it.stem if stems.count(it.stem) == 1 else it.name: it for it in found}
+
+
+def passed_over(folder: Path) -> str:
+    """the files of a folder that aren't drawn, as their names don't end as those of railML files"""
+    found = sorted(it.name for it in folder.iterdir()
+                   if it.is_file() and it.suffix.lower() not in ENDINGS_READ and not it.name.startswith("."))
+    more = f" and {len(found) - LISTED} more" if len(found) > LISTED else ""
+    return f"passed over, as they don't end in .xml or .railml: {', '.join(found[:LISTED])}{more}" if found else ""
 
 
 def of_shard(names: list[str], part: tuple[int, int]) -> list[str]:
@@ -142,32 +153,46 @@ class Shown:
             write_error("\r\033[K")
 
 
-def draw_all(listed: dict[str, Path], setting: Setting, count: int) -> list[Record]:
-    """draws the stations, so many side by side; an interrupt ends all, and leaves those that are done"""
-    running, shown, found = Jobs(), Shown(len(listed)), []
-    with ThreadPoolExecutor(count) as pool:
-        left: set[Future[Record]] = {pool.submit(draw, path, name, setting, running) for name, path in listed.items()}
-        try:
-            while left:
-                done, left = wait(left, timeout=0.5, return_when=FIRST_COMPLETED)
-                for it in done:
-                    found.append(it.result())
-                    shown.take(found[-1])
-                shown.show()
-        except KeyboardInterrupt:
-            running.stop()
-            pool.shutdown(wait=True, cancel_futures=True)
-            shown.clear()
-            count_done = len(found) + sum(it.done() and not it.cancelled() and not it.exception() for it in left)
-            say(f"stopped; of {folder_index.stations(len(listed))} {count_done} {'is' if count_done == 1 else 'are'} done. The "
-                f"same line goes on from there")
-            raise Ended(130) from None
-        except OSError as error:
-            running.stop()
-            pool.shutdown(wait=True, cancel_futures=True)
-            end(6, f"{error.filename or setting.out}: {why(error)}")
-    shown.clear()
-    return found
+class Drawn:
+    """The stations of a run, as they are drawn; the first error that isn't a station's own ends the run."""
+
+    def __init__(self, listed: dict[str, Path]):
+        self.listed, self.found = listed, []
+        self.jobs, self.shown = Jobs(), Shown(len(listed))
+        self.pool: ThreadPoolExecutor | None = None
+        self.left: list[Future[Record]] = []
+
+    def draw(self, setting: Setting, count: int) -> None:
+        """draws the stations, so many side by side"""
+        self.pool = ThreadPoolExecutor(count)
+        for name, path in self.listed.items():
+            self.left.append(self.pool.submit(draw, path, name, setting, self.jobs))
+        while len(self.found) < len(self.listed):
+            wait(self.left, timeout=0.5, return_when=FIRST_COMPLETED)
+            for it in [it for it in self.left if it.done()]:
+                self.found.append(it.result())
+                self.left.remove(it)
+                self.shown.take(self.found[-1])
+            self.shown.show()
+        self.shown.clear()
+
+    def stop(self) -> int:
+        """ends all programs that run, and says how many stations are done"""
+        self.jobs.stop()
+        if self.pool:
+            self.pool.shutdown(wait=True, cancel_futures=True)
+        self.shown.clear()
+        return len(self.found) + sum(it.done() and not it.cancelled() and not it.exception() for it in self.left)
+
+
+def draw_all(drawn: Drawn, clone: built.Clone, asked: argparse.Namespace) -> None:
+    """draws the stations with the program, which is built where it isn't there"""
+    setting = setting_of(clone, asked)
+    try:
+        drawn.draw(setting, asked.j)
+    except OSError as error:
+        drawn.stop()
+        end(6, f"{error.filename or asked.OUT}: {why(error)}")
 
 
 def write_index(out: Path, title: str, records: list[Record]) -> None:
@@ -202,23 +227,49 @@ def words_behind(given: list[str]) -> list[str]:
     return given[1:]
 
 
-def run(clone: built.Clone, given: list[str]) -> int:
-    asked = read_words(words_behind(given))
+def summary(records: list[Record], asked: argparse.Namespace) -> str:
+    """how many stations ended how, how many of them on a larger grid, and how many with a certificate"""
+    given = dict(zip(asked.options[::2], asked.options[1::2]))
+    grid = [int(given.get(it, words.OPTIONS[it].usual)) for it in ("--width", "--height")]
+    larger, certified = sum(bool(it.values) and it.grid != grid for it in records), folder_index.certified(records)
+    said = f"{folder_index.stations(len(records))}: {folder_index.counts(records)}"
+    said += f", {larger} on a larger grid" if larger else ""
+    return said + (f", {certified} with a certificate" if certified else "")
+
+
+def make(clone: built.Clone, asked: argparse.Namespace, all_: dict[str, Path], drawn: Drawn) -> int:
+    """draws the stations, and makes the page of all; the status of the run"""
     out, began = Path(asked.OUT), time.monotonic()
-    all_ = stations(Path(asked.IN))
     refuse_one_folder(asked)
-    mine = {name: all_[name] for name in of_shard(list(all_), asked.shard)}
     refuse_others(out, list(all_))
     make_folder(out)
+    others = passed_over(Path(asked.IN))
+    if others:
+        say(others)
     if not asked.join:
-        found = draw_all(mine, setting_of(clone, asked), asked.j)
+        draw_all(drawn, clone, asked)
     is_part = asked.shard[1] > 1
     if is_part and not asked.join:
-        say(f"{folder_index.stations(len(found))}: {folder_index.counts(found)}, in {time.monotonic() - began:.0f} s. "
+        say(f"{summary(drawn.found, asked)}, in {time.monotonic() - began:.0f} s. "
             f"{called()} folder --join {asked.IN} {asked.OUT} makes the page of all parts")
-        return folder_index.worst(found)
+        return folder_index.worst(drawn.found)
     records = join(out, all_)
     write_index(out, f"Stations of {Path(asked.IN).name or asked.IN}", records)
-    say(f"{folder_index.stations(len(records))}: {folder_index.counts(records)}, in {time.monotonic() - began:.0f} s. Open "
-        f"{out / 'index.html'}")
+    say(f"{summary(records, asked)}, in {time.monotonic() - began:.0f} s. Open {out / 'index.html'}")
     return folder_index.worst(records)
+
+
+def run(clone: built.Clone, given: list[str]) -> int:
+    """draws a folder; an interrupt ends all programs, and leaves the stations that are done"""
+    asked = read_words(words_behind(given))
+    all_ = stations(Path(asked.IN))
+    drawn = Drawn({name: all_[name] for name in of_shard(list(all_), asked.shard)})
+    try:
+        return make(clone, asked, all_, drawn)
+    except KeyboardInterrupt:
+        running.leave_alone()
+        done = drawn.stop()
+        say("stopped; the page isn't written" if asked.join else
+            f"stopped; of {folder_index.stations(len(drawn.listed))} {done} {'is' if done == 1 else 'are'} done. The same line goes "
+            "on from there")
+        return 130

@@ -3,8 +3,8 @@ from __future__ import annotations
 
 from itertools import groupby
 
+from pages.markup import Element, document, element
 from tool.folder_station import Record
-from tool.markup import Element, document
 
 # statuses from the best to the worst; and what a run that ended so is called
 WORST = (0, 3, 4, 8, 5, 1, 2, 7, 6, 10)
@@ -51,7 +51,7 @@ def in_order(records: list[Record]) -> list[Record]:
 
 def link(record: Record) -> Element | str:
     page = f"{record.name}.html"
-    return Element("a", record.name, href=page) if page in record.files else record.name
+    return element("a", record.name, href=page) if page in record.files else record.name
 
 
 def badge(record: Record) -> Element | str:
@@ -65,7 +65,7 @@ def badge(record: Record) -> Element | str:
         return "claims nothing"
     else:
         text = f"certified: {count} of {len(record.order)}"
-    return Element("a", text, href=f"{record.name}.hints", class_="badge",
+    return element("a", text, href=f"{record.name}.hints", class_="badge",
                    title="what is left of the search's log was checked again")
 
 
@@ -78,30 +78,30 @@ def said(text: str) -> list[Element]:
     """sentences as text, and lines of files as they are"""
     found: list[Element] = []
     for is_code, lines in groupby(text.rstrip("\n").split("\n") if text else [], is_excerpt):
-        found += [Element("pre", "\n".join(lines))] if is_code else [Element("p", it) for it in lines]
+        found += [element("pre", "\n".join(lines))] if is_code else [element("p", it) for it in lines]
     return found
 
 
 def shown(record: Record) -> list[Element]:
     """the small drawing, and what is said of the run"""
     picture = f"{record.name}.svg"
-    found = [Element("img", src=picture, alt=f"the drawing of {record.name}", loading="lazy")] if picture in record.files else []
+    found = [element("img", src=picture, alt=f"the drawing of {record.name}", loading="lazy")] if picture in record.files else []
     return found + said(record.said)
 
 
 def ended(record: Record) -> list[Element | str]:
     """how the run ended, and the program's own line where that says more"""
-    return [called(record)] + ([Element("br"), Element("span", record.end, class_="line")]
+    return [called(record)] + ([element("br"), element("span", record.end, class_="line")]
                                if record.status not in (0, 3) and record.end else [])
 
 
 def row(record: Record) -> Element:
     kind = {0: "good", 3: "open", 4: "open"}.get(record.status, "fault")
     grid = f"columns 0 to {record.grid[0]}, rows 0 to {record.grid[1]}" if kind != "fault" and record.grid else ""
-    cells = [Element("td", link(record)), Element("td", *shown(record), class_="drawing"), Element("td", *ended(record)),
-             Element("td", ", ".join(map(str, record.values)), class_="number"), Element("td", grid, class_="number"),
-             Element("td", badge(record)), Element("td", f"{record.seconds:.1f} s" if record.seconds else "", class_="number")]
-    return Element("tr", *cells, class_=kind)
+    cells = [element("td", link(record)), element("td", *shown(record), class_="drawing"), element("td", *ended(record)),
+             element("td", ", ".join(map(str, record.values)), class_="number"), element("td", grid, class_="number"),
+             element("td", badge(record)), element("td", f"{record.seconds:.1f} s" if record.seconds else "", class_="number")]
+    return element("tr", *cells, class_=kind)
 
 
 def counts(records: list[Record]) -> str:
@@ -112,9 +112,17 @@ def counts(records: list[Record]) -> str:
     return ", ".join(f"{count} {kind}" for kind, count in kinds.items())
 
 
+def certified(records: list[Record]) -> int:
+    """how many have a certificate that claims something, and that recheck accepted"""
+    return sum(isinstance(badge(it), Element) for it in records)
+
+
 def text(title: str, records: list[Record]) -> str:
-    table = Element("table", Element("thead", Element("tr", *(Element("th", it) for it in HEADS))),
-                    Element("tbody", *(row(it) for it in in_order(records))))
-    certified = sum(isinstance(badge(it), Element) for it in records)
-    line = f"{counts(records)}." + (f" {certified} with a certificate that was checked again." if certified else "")
-    return document(title, RULES, Element("h1", stations(len(records))), Element("p", line), table)
+    table = element("table", element("thead", element("tr", *(element("th", it) for it in HEADS))),
+                    element("tbody", *(row(it) for it in in_order(records))))
+    count = certified(records)
+    line = f"{counts(records)}." + (f" {count} with a certificate that was checked again." if count else "")
+    head = element("head", element("meta", charset="utf-8"), element("meta", name="generator", content="railplan"),
+                   element("meta", name="viewport", content="width=device-width"), element("title", title), element("style", RULES))
+    body = element("body", element("h1", stations(len(records))), element("p", line), table)
+    return document(element("html", head, body, lang="en"))

@@ -72,6 +72,8 @@ class Jobs:
         job = subprocess.Popen(command, stdin=subprocess.DEVNULL, stdout=subprocess.PIPE, stderr=subprocess.DEVNULL,
                                env={**os.environ, **environment}, start_new_session=True)
         self.running.add(job)
+        if self.is_over:
+            self.stop()
         output = job.communicate()[0]
         self.running.discard(job)
         if self.is_over:

@@ -27,8 +27,6 @@ def is_ours(path: Path) -> bool:
 
 
 def prefix_of(line: words.Line) -> Path:
-    if len(line.words) > 2:
-        end(2, f"`{line.words[2]}` is one name too many: {line.command} takes one folder, or none")
     return Path(line.words[1] if len(line.words) > 1 else "~/.local").expanduser().absolute()
 
 

@@ -10,19 +10,6 @@ from tool import built, files, running, words
 from tool.saying import Ended, called, close_output, end, is_terminal, say, why, write_error, write_output
 
 
-def open_all() -> None:
-    """closed handles are opened on nothing, so that no file of the run is taken for one of them; without an output a run
-    ends with 6, as the program does"""
-    closed = []
-    for handle in (0, 1, 2):
-        try:
-            os.fstat(handle)
-        except OSError:
-            closed.append(os.open(os.devnull, os.O_RDWR))
-    if 1 in closed:
-        end(6, "standard output is closed, so nothing could be printed")
-
-
 def answer_unrun(clone: built.Clone, line: words.Line) -> None:
     """before anything is built: a fault of the words, or an input that can't be read, is answered as the program does"""
     fault = words.fault(line.words)
@@ -34,8 +21,12 @@ def answer_unrun(clone: built.Clone, line: words.Line) -> None:
 
 
 def tell(clone: built.Clone, line: words.Line, ran: running.Ran) -> None:
-    """says what a run's end means where that isn't what was asked for, and what a drawing doesn't show"""
-    if ran.status or line.command in ("draw", "signals", "redraw", "explain"):
+    """says what a run's end means where that isn't what was asked for, and what a drawing doesn't show; on a terminal also what a
+    certificate means. The reasons of an explanation are said by its page's run, behind the answer"""
+    if line.command == "explain" and not ran.status and "RAILPLAN_NAMES" in os.environ:
+        return
+    if ran.status or line.command in ("draw", "signals", "redraw", "explain") or \
+            line.command in ("check", "trim", "recheck") and is_terminal():
         from tool import telling
         telling.tell(clone.program, line, ran)
 
@@ -113,7 +104,8 @@ def page(clone: built.Clone, line: words.Line) -> NoReturn:
 
 
 def run(clone: built.Clone, given: list[str]) -> int:
-    open_all()
+    if not running.open_ends():
+        end(6, "standard output is closed, so nothing could be printed")
     running.listen()
     line = words.read(given)
     if line.asks_help or line.command in words.OWN or line.command == "--version":
@@ -128,10 +120,8 @@ def run(clone: built.Clone, given: list[str]) -> int:
     if line.lacking:
         given = shlex.join(line.words) if len(line.words) > 1 else f"{line.command or 'draw'} FILE"
         end(2, f"behind {line.lacking} its value is missing: {called()} {line.lacking} {words.PAGE_WORDS[line.lacking].value} {given}")
-    held = {}
-    if not words.fault(line.words):
-        files.look(line)
-        held = files.lock(line)
+    files.look(line)
+    held = files.lock(line) if not words.fault(line.words) else {}
     try:
         return run_words(clone, line)
     finally:
@@ -168,5 +158,6 @@ def main(given: list[str], top: str) -> int:
         say(f"this is a fault of the launcher itself, so nothing more is known: {type(error).__name__}: {error}")
         return 10
     except KeyboardInterrupt:
+        running.leave_alone()
         say("stopped")
         return 130

@@ -43,10 +43,7 @@ def kind_of(fault: str) -> dict[str, str]:
 def notes(name: str, table: str, fault: str, number: int, usage: str) -> list[Note]:
     """a fault of the text"""
     at = of_line(name, number)
-    wanted = "a log" if table == "log" else "hinted lines, as trim writes them,"
-    other = wrong_file(name, wanted, usage) if number == 1 else ""
-    if other.startswith("this is a log, and a log") or other.startswith("this is hinted lines, and hinted"):
-        other = ""
+    other = wrong_file(name, "a log" if table == "log" else "hinted lines", usage) if number == 1 else ""
     empty = "the file is empty" if number == 1 and not at.text else ""
     return [Note(empty or other or kind_of(table)[fault], at)]
 

@@ -61,7 +61,8 @@ def said_of(option: words.Option) -> str:
     if option.takes == "number":
         usual = option.usual if option.usual.isdigit() else f"without it {option.usual}"
         return f"{option.what}, {option.low} to {option.high} ({usual})"
-    return option.what + (f" ({option.usual})" if option.usual else "")
+    choices = f": {', '.join(option.choices[:-1])} or {option.choices[-1]}" if option.choices else ""
+    return option.what + choices + (f" ({option.usual})" if option.usual else "")
 
 
 def option_rows(options: list[words.Option]) -> list[tuple[str, str]]:

@@ -14,6 +14,19 @@ def show(text: str) -> int:
     return 0
 
 
+def refuse_more(line: words.Line, command: words.Command) -> None:
+    """words that this command doesn't take: those of pages, options, and names that are too many"""
+    before = [*line.pages, *[line.lacking] * bool(line.lacking), *["--unproved"] * line.is_unproved]
+    usage = f"{called()} {manual.usage(command)}"
+    if before:
+        end(2, f"{before[0]} doesn't go with {command.word}: {usage}")
+    for number, word in enumerate(line.words[1:]):
+        if word.startswith("-") and len(word) > 1:
+            end(2, f"{command.word} has no option {word}: {usage}")
+        if number >= len(command.names):
+            end(2, f"`{word}` is one name too many: {usage}")
+
+
 def help_of(line: words.Line) -> int:
     """the help, or that of the command that is named"""
     asked = line.words[1:] if line.command == "help" else line.words
@@ -23,6 +36,8 @@ def help_of(line: words.Line) -> int:
     if named not in manual.all_commands():
         from tool.word_faults import unknown_help
         end(2, unknown_help(named, called()))
+    if line.command == "help" and len(asked) > 1:
+        end(2, f"`{asked[1]}` is one name too many: {called()} {manual.usage(words.OWN['help'])}")
     return show(manual.of_command(named, called()))
 
 
@@ -45,6 +60,8 @@ def version(clone: built.Clone) -> int:
 def run(clone: built.Clone, line: words.Line, given: list[str]) -> int:
     if line.asks_help or line.command == "help":
         return help_of(line)
+    if line.command != "folder":
+        refuse_more(line, words.OWN[line.command.lstrip("-")])
     if line.command in ("version", "--version"):
         return version(clone)
     if line.command in ("install", "uninstall"):
@@ -53,5 +70,8 @@ def run(clone: built.Clone, line: words.Line, given: list[str]) -> int:
     if line.command == "prepare":
         from tool import prepare
         return prepare.run(line)
-    from tool import folder
+    try:
+        from tool import folder
+    except KeyboardInterrupt:
+        end(130, "stopped before a station was drawn")
     return folder.run(clone, given)

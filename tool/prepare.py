@@ -9,7 +9,6 @@ import codecs
 import os
 import re
 from decimal import Decimal, InvalidOperation
-from pathlib import Path
 from shlex import quote
 from xml.parsers import expat
 
@@ -270,15 +269,21 @@ def mended(name: str, data: bytes) -> Prepared:
 
 
 def refuse_other(out: str, source: str) -> None:
-    """no file but one that prepare wrote is written over"""
+    """no file but one that prepare wrote is written over, and no link, pipe, device or folder"""
     there = files.state_of(out)
     if there is None and not os.path.islink(out):
         return
     if os.path.islink(out) or not os.path.isfile(out):
-        end(2, f"{out} is {'a link' if os.path.islink(out) else 'no plain file'}, and prepare writes none. Name another file")
+        kind = "a link" if os.path.islink(out) else "a folder" if os.path.isdir(out) else "no plain file"
+        end(2, f"{out} is {kind}, and prepare replaces none. Name another file")
     if files.is_one_file(out, source):
         end(2, f"{source} and {out} are one file. Name another one for what is mended")
-    if there.st_size and MARK.encode() not in Path(out).read_bytes()[:400]:
+    try:
+        with open(out, "rb") as file:
+            begun = file.read(400)
+    except OSError as error:
+        end(6, f"{out} is there, and can't be read to see who wrote it: {why(error)}. Name another file")
+    if there.st_size and MARK.encode() not in begun:
         end(2, f"{out} is there, and prepare didn't write it. Name another file, or delete it")
 
 

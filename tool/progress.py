@@ -11,6 +11,7 @@ from tool import notes, running, words
 from tool.saying import called, say, write_error
 
 BAR = 16
+UNKNOWN_COLUMNS = 100
 # room that is left for a log that is only read for what it says of the search
 ROOM = 2 << 30
 # bytes of a log that are read at once, and for how long it is read each second
@@ -24,11 +25,11 @@ DOING = {"front": "looking for the pairs", "explain": "looking for laws that can
 
 
 def columns() -> int:
-    """how wide the terminal is on which progress is shown: that of standard error"""
+    """how wide the terminal is on which progress is shown: that of standard error; some say 0, as they don't know it"""
     try:
-        return os.get_terminal_size(2).columns
+        return os.get_terminal_size(2).columns or UNKNOWN_COLUMNS
     except OSError:
-        return 100
+        return UNKNOWN_COLUMNS
 
 
 @dataclass
@@ -124,6 +125,10 @@ def budget_of(line: words.Line) -> int:
     return int(line.options.get("--conflicts", words.OPTIONS["--conflicts"].usual))
 
 
+def duration(seconds: float) -> str:
+    return f"{seconds:.{1 if seconds < 9.95 else 0}f} s"
+
+
 def grouped(number: int) -> str:
     return f"{number:,}"
 
@@ -213,7 +218,7 @@ def stopped(line: words.Line, ran: running.Ran) -> None:
 
 def tell_stopped(watch: Watch, seconds: float, named: str) -> None:
     """what an interrupted run leaves, and how to have what it found"""
-    say(f"stopped after {seconds:.0f} s; nothing was printed")
+    say(f"stopped after {duration(seconds)}; nothing was printed")
     log = watch.log
     if log and log.has_model and watch.line.command != "redraw":
         asked = [it for it in watch.line.words]

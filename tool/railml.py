@@ -1,4 +1,5 @@
-"""The elements of a railML file with their places, to explain a fault that the program found, and to say what it passes over.
+"""The elements of a railML file with their places: to explain a fault that the program found, to say what it passes over, and for
+the names on pages.
 
 What is selected is what the program selects: names without a prefix along infrastructure, tracks, track, trackTopology.
 """
@@ -11,16 +12,19 @@ from xml.parsers import expat
 ENDS = ("trackBegin", "trackEnd")
 POINTS = ("switch", "crossing")
 ENDINGS = ("connection", "openEnd", "bufferStop", "macroscopicNode")
+# elements whose text is kept
+TITLES = ("title", "dc:title")
 
 
 @dataclass(eq=False)
 class Element:
-    """An element: the byte where its tag begins, its name, attributes, parent and children."""
+    """An element: the byte where its tag begins, its name, attributes, parent and children; of a title also its text."""
     place: int
     name: str
     attributes: dict[str, str]
     parent: "Element | None"
     children: list["Element"] = field(default_factory=list)
+    text: str = ""
 
     @property
     def id(self) -> str:
@@ -39,9 +43,10 @@ class Element:
 
 @dataclass
 class Document:
-    """The elements of a file in file order, and those that are open where reading stopped."""
+    """The elements of a file in file order, those that are open where reading stopped, and why it stopped before the end."""
     elements: list[Element] = field(default_factory=list)
     open: list[Element] = field(default_factory=list)
+    trouble: str = ""
 
     @property
     def root(self) -> Element | None:
@@ -50,12 +55,14 @@ class Document:
     def at(self, place: int) -> Element | None:
         return next((it for it in self.elements if it.place == place), None)
 
-    def tracks(self) -> list[Element]:
+    def stations(self) -> list[Element]:
         root = self.root
         if root is None:
             return []
-        stations = [root] if root.name == "infrastructure" else root.named("infrastructure") if root.name == "railml" else []
-        return [track for station in stations for tracks in station.named("tracks") for track in tracks.named("track")]
+        return [root] if root.name == "infrastructure" else root.named("infrastructure") if root.name == "railml" else []
+
+    def tracks(self) -> list[Element]:
+        return [track for station in self.stations() for tracks in station.named("tracks") for track in tracks.named("track")]
 
 
 def read(data: bytes) -> Document:
@@ -74,11 +81,16 @@ def read(data: bytes) -> Document:
     def end(name: str) -> None:
         stack.pop()
 
-    parser.StartElementHandler, parser.EndElementHandler = begin, end
+    def characters(text: str) -> None:
+        if stack and stack[-1].name in TITLES:
+            stack[-1].text += text
+
+    parser.StartElementHandler, parser.EndElementHandler, parser.CharacterDataHandler = begin, end, characters
+    parser.buffer_text = True
     try:
         parser.Parse(data, True)
-    except expat.ExpatError:
-        pass
+    except expat.ExpatError as error:
+        document.trouble = f"line {error.lineno}: {expat.ErrorString(error.code)}"
     return document
 
 
@@ -124,6 +136,11 @@ def mileage(it: Element) -> Decimal | None:
     if base is None or metres(it.attributes.get("pos")) is None or metres(begin.attributes.get("pos")) is None:
         return None
     return base + position(it) - position(begin)
+
+
+def signals(track: Element) -> list[Element]:
+    """the signals of a track, in file order"""
+    return [it for group in track.named("ocsElements") for listed in group.named("signals") for it in listed.named("signal")]
 
 
 def connections(document: Document) -> list[Element]:

@@ -3,6 +3,7 @@ from __future__ import annotations
 
 import os
 import signal
+import sys
 import time
 
 from tool.saying import end, why
@@ -10,9 +11,23 @@ from tool.saying import end, why
 TYPE_CHECKING = False
 if TYPE_CHECKING:
     from collections.abc import Callable
+    from types import FrameType
     from typing import NoReturn
 
 STOPPING = (signal.SIGINT, signal.SIGTERM, signal.SIGHUP)
+
+
+def open_ends() -> bool:
+    """opens what of the three streams is closed on nothing, so that no file of the run is taken for one of them; says whether the
+    output was open: without one a run ends with 6, as the program does"""
+    was_open = True
+    for handle in (0, 1, 2):
+        try:
+            os.fstat(handle)
+        except OSError:
+            was_open = was_open and handle != 1
+            os.open(os.devnull, os.O_RDWR)
+    return was_open
 
 
 class Ran:
@@ -93,18 +108,38 @@ def listen() -> None:
     """has an interrupt, an end and a lost terminal stop this run; under nohup a lost terminal doesn't"""
     for sign in STOPPING:
         if sign != signal.SIGHUP or signal.getsignal(sign) is not signal.SIG_IGN:
-            signal.signal(sign, signal.default_int_handler)
+            signal.signal(sign, interrupted)
+    signal.pthread_sigmask(signal.SIG_UNBLOCK, STOPPING)
+
+
+class Last:
+    """until when a further interrupt is the last one again: timeout sends it to a run and to the run's group"""
+    until = 0.0
+
+
+def interrupted(number: int, frame: FrameType | None) -> None:
+    now = time.monotonic()
+    if now >= Last.until:
+        Last.until = now + 1
+        raise KeyboardInterrupt
 
 
 def leave_alone() -> None:
     """no second interrupt disturbs the end"""
     for sign in STOPPING:
-        signal.signal(sign, signal.SIG_IGN)
+        if signal.getsignal(sign) is not signal.SIG_IGN:
+            signal.signal(sign, passed_over)
+
+
+def passed_over(number: int, frame: FrameType | None) -> None:
+    """in place of SIG_IGN: of a signal that comes in the moment at which that is set, Python would complain"""
 
 
 def become(program: str, words: list[str]) -> NoReturn:
-    """runs a program in the launcher's place"""
+    """runs a program in the launcher's place; where that is Python an interrupt waits until it listens"""
     signal.signal(signal.SIGPIPE, signal.SIG_DFL)
+    if program == sys.executable:
+        signal.pthread_sigmask(signal.SIG_BLOCK, STOPPING)
     try:
         os.execv(program, words)
     except OSError as error:

@@ -7,10 +7,10 @@ from tool.files import is_plain
 from tool.notes import Note
 from tool.places import Place, of_line
 
-# texts that are no sheet, by how their first line begins, and where they come from
+# the texts of a run, by how their first line begins
 FIRST_LINES = {"railgraph": "the answer of graph", "railplan-moved": "the answer of redraw", "railplan-log": "a log",
                "railplan-hints": "hinted lines", "railplan-front": "the answer of front", "railplan-why": "the answer of explain",
-               "<": "a railML file", "\ufeff<": "a railML file"}
+               "railplan ": "a sheet", "<": "a railML file", "\ufeff<": "a railML file"}
 
 MISSING = {5: "the line `nodes` is missing or has another form, or the search found no drawing (end none)"}
 
@@ -23,7 +23,10 @@ def wrong_file(name: str, wanted: str, usage: str) -> str:
     """that a file is of another kind than its place among the names"""
     begun = first_line(name)
     found = next((called for front, called in FIRST_LINES.items() if begun.startswith(front)), "")
-    return f"this is {found}, and {wanted} is read here: {usage}" if found else ""
+    if not found or found == wanted:
+        return ""
+    these = "these are" if found == "hinted lines" else "this is"
+    return f"{these} {found}, and {wanted} {'are' if wanted == 'hinted lines' else 'is'} read here: {usage}"
 
 
 def form(sheet: str, at: Place, usage: str) -> str:

@@ -92,7 +92,10 @@ class Ending:
         if data is None:
             return [Note(f"{name} has a fault, and can't be read again to show where: {' '.join(fields)}. Name a file")]
         if fields[0] == "text":
-            from tool import text_faults
+            from tool import sheet_faults, text_faults
+            other = sheet_faults.wrong_file(name, "a railML file", self.usage())
+            if other:
+                return [Note(other, of_line(name, 1))]
             return text_faults.notes(name, data, fault, int(fields[4]), called())
         if fields[0] in ("topology", "signal"):
             from tool import topology_faults

@@ -37,12 +37,12 @@ class Name:
 
 class Option:
     """An option: how help writes its value, what it is, and what it takes: a number (low, high, usual), an order, a file of a
-    kind that the run writes, a word, or nothing."""
+    kind that the run writes, one of a few words, or nothing."""
 
     def __init__(self, word: str, value: str, what: str, takes: str, low: int = 0, high: int = 0, usual: str = "",
-                 kind: str = ""):
+                 kind: str = "", choices: tuple[str, ...] = ()):
         self.word, self.value, self.what, self.takes = word, value, what, takes
-        self.low, self.high, self.usual, self.kind = low, high, usual, kind
+        self.low, self.high, self.usual, self.kind, self.choices = low, high, usual, kind, choices
 
     @property
     def is_file(self) -> bool:
@@ -93,9 +93,9 @@ PAGE_WORDS = {it.word: it for it in (
     Option("--html", "FILE", "a page with the drawing and what is said of it", "file", kind="page"),
     Option("--dxf", "FILE", "the drawing for a CAD program", "file", kind="dxf"),
     Option("--csv", "FILE", "the drawing's points as a table", "file", kind="csv"),
-    Option("--paper", "SIZE", "the paper that the page is for", "word"),
-    Option("--labels", "KIND", "what is written at nodes, tracks and signals: name or id", "word"),
-    Option("--side", "SIDE", "the side of the track on which signals are: right or left", "word"),
+    Option("--paper", "SIZE", "the paper that the page is for", "word", usual="A3", choices=("A4", "A3", "A2", "A1")),
+    Option("--labels", "KIND", "what is written at nodes, tracks and signals", "word", usual="name", choices=("name", "id")),
+    Option("--side", "SIDE", "the side of the track on which signals are", "word", usual="right", choices=("right", "left")),
 )}
 
 SEARCH = ("--width", "--height", "--least", "--conflicts")

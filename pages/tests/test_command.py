@@ -12,10 +12,13 @@ import time
 import unittest
 from pathlib import Path
 
+from pages.columns import PAPERS
 from pages.command import asked_of, pair_options
 from pages.files import Refused
+from pages.kinds import Settings
 from pages.tests.fixtures import SAMPLES, TOP
 from pages.texts import Front
+from tool import words as table
 
 LAUNCHER = """import os, sys, time
 from pathlib import Path
@@ -158,9 +161,9 @@ class Files(Case):
         os.mkfifo(self.base / "fifo.html")
         (self.base / "folder.html").mkdir()
         (self.base / "text.html").write_text("a letter")
-        for name in ("link.html", "fifo.html", "folder.html", "text.html", "/dev/null"):
+        for name, status in (("link.html", 2), ("fifo.html", 2), ("folder.html", 6), ("text.html", 2), ("/dev/null", 2)):
             ran = self.start(name, "draw", "a.xml")
-            self.assertEqual((ran.returncode, ran.stdout), (2, b""), name)
+            self.assertEqual((ran.returncode, ran.stdout), (status, b""), name)
             self.assertIn(b"railplan: ", ran.stderr)
         self.assertEqual((self.base / "victim").read_text(), "<!DOCTYPE html>\nkept")
         self.assertTrue(stat.S_ISFIFO(os.stat(self.base / "fifo.html").st_mode))
@@ -198,12 +201,12 @@ class Files(Case):
             ran = subprocess.run(self.command("p.html", "draw", "a.xml"), cwd=self.base, env=self.environment, stdout=out,
                                  stderr=subprocess.PIPE)
         self.assertEqual(ran.returncode, 2)
-        self.assertIn(b"standard output goes to p.html", ran.stderr)
+        self.assertIn(b"standard output goes into p.html, which this run writes", ran.stderr)
 
     def test_a_folder_that_lacks_is_seen_before_the_search(self) -> None:
         ran = self.start("none/p.html", "draw", "a.xml")
         self.assertEqual((ran.returncode, ran.stdout), (6, b""))
-        self.assertIn(b"couldn't write: none/p.html: No such file or directory", ran.stderr)
+        self.assertIn(b"none/p.html can't be written: none isn't there", ran.stderr)
         self.assertFalse((self.base / "seen").exists())
 
     def test_the_sheet_is_given_though_the_page_can_not_be_written(self) -> None:
@@ -235,10 +238,27 @@ class Ends(Case):
                 time.sleep(0.02)
             began = time.time()
             job.send_signal(number)
+            job.send_signal(signal.SIGINT)
             output, said = job.communicate(timeout=30)
             self.assertEqual((job.returncode, output, said), (130, b"", b"railplan: stopped; p.html isn't written\n"))
             self.assertLess(time.time() - began, 8)
             self.assertEqual(self.left(), [])
+
+    def test_an_interrupt_before_a_page_is_begun(self) -> None:
+        signal.pthread_sigmask(signal.SIG_BLOCK, (signal.SIGINT,))
+        try:
+            job = subprocess.Popen(self.command("p.html", "draw", "a.xml"), cwd=self.base, env=self.environment,
+                                   stdout=subprocess.PIPE, stderr=subprocess.PIPE)
+            job.send_signal(signal.SIGINT)
+        finally:
+            signal.pthread_sigmask(signal.SIG_UNBLOCK, (signal.SIGINT,))
+        self.assertEqual((job.communicate(timeout=30), job.returncode), ((b"", b"railplan: stopped; nothing is written\n"), 130))
+        self.assertEqual(self.left(), [])
+
+    def test_a_program_that_is_killed_leaves_no_page(self) -> None:
+        ran = self.start("p.html", "draw", "a.xml", environment={"STATUS": "137"})
+        self.assertEqual((ran.returncode, ran.stdout, ran.stderr), (137, b"", b"railplan: p.html isn't written\n"))
+        self.assertEqual(self.left(), [])
 
     def test_closed_outputs(self) -> None:
         for closing in (">&-", ">&- 2>&-", ">/dev/full"):
@@ -248,6 +268,26 @@ class Ends(Case):
             self.assertEqual((ran.returncode, ran.stdout), (6, b""), closing)
             self.assertNotIn(b"Traceback", ran.stderr)
             self.assertTrue(self.page().endswith("</html>\n"))
+
+    def test_a_reader_that_is_gone_hears_only_of_the_page(self) -> None:
+        reading, writing = os.pipe()
+        os.close(reading)
+        ran = subprocess.run(self.command("p.html", "draw", "a.xml"), cwd=self.base, env=self.environment, stdout=writing,
+                             stderr=subprocess.PIPE)
+        os.close(writing)
+        self.assertEqual((ran.returncode, ran.stderr), (6, b"railplan: p.html is written\n"))
+        self.assertTrue(self.page().endswith("</html>\n"))
+
+    def test_reasons_are_said_behind_the_answer(self) -> None:
+        program = self.base / "crates/railplan_main/out/railplan_main"
+        program.parent.mkdir(parents=True)
+        program.write_text('#!/bin/sh\ncat "$GRAPH"\n')
+        program.chmod(0o755)
+        (self.base / "out").write_text("railplan-why 1\nlaws 1\nlaw 5 node 0 node 1\n")
+        ran = subprocess.run(self.command("--dxf", "p.dxf", "explain", "a.xml"), cwd=self.base, stdout=subprocess.PIPE,
+                             env={**self.environment, "OUTPUT": str(self.base / "out")}, stderr=subprocess.STDOUT)
+        self.assertTrue(ran.stdout.startswith(b"railplan-why 1\nlaws 1\nlaw 5 node 0 node 1\nrailplan: no drawing on this grid meets "
+                                              b"these laws together:\n  law 5: A1 and "), ran.stdout)
 
     def test_a_reader_that_goes(self) -> None:
         ran = subprocess.run(["sh", "-c", '"$@"; echo $? >status', "sh", *self.command("p.html", "draw", "a.xml")],
@@ -264,6 +304,11 @@ class Words(unittest.TestCase):
         self.assertEqual((found.files, found.settings.paper, found.settings.labels, found.settings.side, found.is_unproved,
                           found.words),
                          ({"--html": "p", "--dxf": "d"}, "A1", "id", "left", True, ["draw", "f", "--width", "9"]))
+
+    def test_what_counts_without_a_word_is_what_the_help_says(self) -> None:
+        usual = {it.word[2:]: it.usual for it in table.PAGE_WORDS.values() if it.choices}
+        self.assertEqual(vars(Settings()), usual)
+        self.assertEqual({*table.PAGE_WORDS["--paper"].choices}, {*PAPERS})
 
     def test_words_that_are_none(self) -> None:
         for words in ([], ["p"], ["p", "graph", "f"], ["draw", "f"], ["p", "--paper", "A9", "draw", "f"], ["p", "--paper"],

@@ -143,6 +143,12 @@ class Explaining(unittest.TestCase):
             self.assertIn(f"It keeps numbers {kept[0]}, {kept[1]} and {kept[2]} of the list. Laws outside the list needn't be kept.",
                           caption)
 
+    def test_an_order_names_the_switch_from_which_it_comes(self) -> None:
+        words = [it for it in words_of(make(sample("explain_above")).lead).split(". ") if "lies above" in it]
+        self.assertTrue(words)
+        for it in words:
+            self.assertRegex(it, r"lies above .*, by the (switch|crossing) \S+ \(course=")
+
     def test_one_law_alone_and_other_answers(self) -> None:
         self.assertIn("A lawful drawing exists", words_of(make(sample("explain_exists")).lead))
         self.assertIn("The lines alone don't fit", words_of(make(sample("explain_nothing")).lead))
@@ -165,6 +171,18 @@ class Commands(unittest.TestCase):
         self.assertIn("Law 4 is broken. It asks: at the switch", words_of(page.lead))
         self.assertEqual(page.lead[0].attributes["data-parties"], "n2")
         self.assertEqual(make(sample("verify_lawful")).badge, ("settled", "lawful"))
+
+    def test_what_the_drawing_does_not_show(self) -> None:
+        xml = (TOP / "examples/station.xml").read_text(encoding="utf-8")
+        xml = xml.replace("<connections>", '<mileageChanges><mileageChange id="m"/></mileageChanges><connections>', 1)
+        xml = xml.replace("</tracks>", "<x:track/></tracks>").replace("<switch ", '<switch trackContinueCourse="right" ', 1)
+        page = page_of(["draw", "examples/station.xml"], (TOP / "examples/station.sheet").read_text(),
+                       files={"examples/station.xml": xml.encode()})
+        said = fact(page, "What the drawing doesn't show")
+        for piece in ("drawn straight.", "1 x:track has a prefix, so it is passed over.", "1 mileageChange"):
+            self.assertIn(piece, said)
+        plain = page_of(["draw", "examples/one.xml"], (TOP / "examples/one.sheet").read_text())
+        self.assertNotIn("What the drawing doesn't show", [title for title, _ in plain.facts])
 
     def test_redraw_lists_what_changed(self) -> None:
         page = make(sample("redraw_station"))

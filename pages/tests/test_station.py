@@ -1,6 +1,7 @@
 """What a page knows of a station comes from the program's graph and, by the program's path, from the file."""
 from __future__ import annotations
 
+import re
 import unittest
 
 from pages import infrastructure, texts
@@ -133,6 +134,19 @@ class Labels(unittest.TestCase):
         self.assertEqual([example(labels=it).label("track3") for it in ("name", "id")], ["loop", "track3"])
         self.assertEqual([example(labels=it).both("track3") for it in ("name", "id")], ["loop (track3)", "track3 (loop)"])
         self.assertEqual(example().label("W1"), "W1")
+
+    def test_a_name_that_two_have_is_no_label(self) -> None:
+        xml = (TOP / "examples/station.xml").read_text(encoding="utf-8")
+        for kind, one, other in (("track", "track1", "track2"), ("switch", "W1", "W2")):
+            with self.subTest(kind):
+                text = xml
+                for id in (one, other):
+                    text = re.sub(rf'<{kind} ([^>]*?)id="{id}"( name="[^"]*")?', rf'<{kind} \1id="{id}" name="same"', text)
+                self.assertEqual(text.count('name="same"'), 2)
+                station = station_of(text, (TOP / "examples/station.graph").read_text(encoding="utf-8"))
+                self.assertEqual((station.label(one), station.label(other), station.both(one)), (one, other, f"{one} (same)"))
+                text = text.replace('name="same"', 'name="other"', 1)
+                self.assertEqual(station_of(text).label(one), "other")
 
     def test_main_tracks(self) -> None:
         xml = (TOP / "examples/station.xml").read_text(encoding="utf-8").replace('id="track1"', 'id="track1" type="mainTrack"')

@@ -1,5 +1,8 @@
 """What is said of an answer that is no fault: pictures that other programs may refuse."""
+import tempfile
 import unittest
+from pathlib import Path
+from unittest import mock
 
 from tool import advice, words
 
@@ -17,6 +20,70 @@ class Pictures(unittest.TestCase):
 
     def test_nothing_without_a_picture(self):
         self.assertEqual(self.notes("draw", "f"), [])
+
+
+class Certificates(unittest.TestCase):
+    def certified(self, answer, order, ending, command="check"):
+        with tempfile.TemporaryDirectory() as folder:
+            sheet = Path(folder, "s")
+            sheet.write_text(f"railplan 2\ngrid 4 8 1\norder {order}\n{ending}\n")
+            return advice.certified(words.read([command, "f", str(sheet), "l"]), answer.split())
+
+    def test_what_is_certified(self):
+        for answer, order, ending, said in (
+                ("certified 0", "height", "end none", "the log certifies that no drawing on this grid is lawful"),
+                ("certified 0", "height", "end conflicts 0", "all lines are right, and the sheet claims nothing that they could certify"),
+                ("certified 1", "height", "nodes 2", "the log certifies that the sheet's height is least"),
+                ("certified 2", "width height bends", "nodes 2",
+                 "the log certifies that the sheet's width and height are least, in this order")):
+            with self.subTest(answer=answer, order=order, ending=ending):
+                self.assertEqual(self.certified(answer, order, ending), [said])
+        self.assertIn("the hinted lines certify", self.certified("certified 1", "height", "nodes 2", "recheck")[0])
+
+
+class Stopped(unittest.TestCase):
+    def said(self, *given, said):
+        note, = advice.stopped(words.read(list(given)), said)
+        return note.text
+
+    def test_what_is_true_of_a_front_that_stopped(self):
+        self.assertIn("The pairs are all up to the last one; more may follow. Ways on: more clauses, ",
+                      self.said("front", "f", "height,width", said=["pair 1 5", "end conflicts"]))
+        self.assertIn("No pair is known yet", self.said("front", "f", "height,width", said=["end conflicts"]))
+
+    def test_what_is_true_of_a_redrawing_that_stopped(self):
+        given = ["redraw", "f", "old", "s"]
+        said = self.said(*given, said=["values 1 2 3 4", "end conflicts"])
+        self.assertIn("The drawing is lawful, but one with fewer moved nodes may exist", said)
+        self.assertIn("redraw f old s --conflicts 200000; a smaller grid", said)
+        self.assertNotIn("fewer criteria", said)
+        self.assertIn("No drawing was found, and none is ruled out", self.said(*given, said=["end room"]))
+        self.assertIn("as there was no room for more clauses", self.said(*given, said=["end room"]))
+        self.assertNotIn("more clauses, ", self.said(*given, said=["end room"]))
+
+
+class Larger(unittest.TestCase):
+    def stack(self, count, mileage="5.000000"):
+        return [f"node {at} n{at} end {mileage}" for at in range(count)]
+
+    def test_the_tallest_stack(self):
+        self.assertEqual(advice.tallest_stack(self.stack(3) + self.stack(2, "6.000000")), (3, "5.000000"))
+        self.assertEqual(advice.tallest_stack([]), (0, ""))
+
+    def said(self, graph, *given):
+        with mock.patch("tool.advice.graph_of", lambda program, name: graph):
+            note, = advice.no_drawing("p", words.read(["draw", "f.xml", *given]), [])
+        return note.text
+
+    def test_nodes_of_one_mileage_need_so_many_rows(self):
+        said = self.said(self.stack(11))
+        self.assertIn("11 ends, switches or crossings are at 5.000000 m and lie one above another, which takes rows 0 to 10", said)
+        self.assertTrue(said.endswith("draw f.xml --width 40 --height 10"), said)
+        self.assertNotIn("takes rows", self.said(self.stack(9)))
+
+    def test_more_rows_than_a_grid_has(self):
+        self.assertTrue(self.said(self.stack(14)).endswith("and a grid has at most rows 0 to 12. Draw a part of the station"))
+        self.assertIn("--height 12", self.said(self.stack(13)))
 
 
 if __name__ == "__main__":

@@ -3,10 +3,20 @@ import os
 import signal
 import time
 import unittest
+from unittest import mock
 
+from tool import launch, progress, running
 from tool.tests.clones import InClone
 
 SLOW = "#!/bin/sh\necho $$ > begun\nexec sleep 60\n"
+
+
+class OwnFaults(unittest.TestCase):
+    def test_a_fault_of_the_launcher_is_one_line(self):
+        said = []
+        with mock.patch("tool.launch.run", side_effect=AttributeError("no such thing")), mock.patch("tool.launch.say", said.append):
+            self.assertEqual(launch.main(["draw", "x"], "/nosuch"), 10)
+        self.assertEqual(said, ["this is a fault of the launcher itself, so nothing more is known: AttributeError: no such thing"])
 
 
 class Stopped(InClone):
@@ -43,6 +53,40 @@ class Stopped(InClone):
                 self.assertNotIn("Traceback", err)
                 self.assertFalse(self.is_there(number))
                 (self.top / "begun").unlink()
+
+    def test_a_second_signal_does_not_disturb_the_end(self):
+        job = self.start("draw", "one.xml")
+        self.begun()
+        for _ in range(3):
+            job.send_signal(signal.SIGINT)
+            time.sleep(0.01)
+        out, err = job.communicate(timeout=20)
+        self.assertEqual((job.returncode, out), (130, ""))
+        self.assertRegex(err, r"^railplan: stopped after \d+\.\d s; nothing was printed\n$")
+
+    def test_an_interrupt_that_is_sent_twice_is_one(self):
+        with mock.patch("tool.running.Last.until", 0.0):
+            self.assertRaises(KeyboardInterrupt, running.interrupted, signal.SIGINT, None)
+            self.assertIsNone(running.interrupted(signal.SIGINT, None))
+            running.Last.until -= 1
+            self.assertRaises(KeyboardInterrupt, running.interrupted, signal.SIGINT, None)
+
+    def test_how_long_a_run_took(self):
+        for seconds, said in ((0.94, "0.9 s"), (9.94, "9.9 s"), (10.4, "10 s"), (75.2, "75 s")):
+            self.assertEqual(progress.duration(seconds), said)
+
+    def test_an_interrupt_while_the_launcher_is_read(self):
+        self.write("tool/launch.py", "import os, signal, time\nos.kill(os.getpid(), signal.SIGINT)\ntime.sleep(9)\n")
+        self.assertEqual(self.launch("draw", "one.xml"), (130, "", "railplan: stopped\n"))
+
+    def test_an_interrupt_before_the_launcher_listens(self):
+        signal.pthread_sigmask(signal.SIG_BLOCK, (signal.SIGINT,))
+        try:
+            job = self.start("draw", "one.xml")
+            job.send_signal(signal.SIGINT)
+        finally:
+            signal.pthread_sigmask(signal.SIG_UNBLOCK, (signal.SIGINT,))
+        self.assertEqual((job.communicate(timeout=20), job.returncode), (("", "railplan: stopped\n"), 130))
 
     def test_what_was_found_is_said_from_the_log(self):
         self.script("crates/railplan_main/out/railplan_main",

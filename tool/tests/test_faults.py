@@ -92,6 +92,26 @@ FILES = {
     "signal Crowded": (signals(*(b'id="s%d" pos="5"' % n for n in range(16))), "10:", "16th"),
 }
 
+CROSSED = (TOP / "cases/stations/crossed.xml").read_bytes()
+TWO = b"""<infrastructure><tracks>
+<track id="p"><trackTopology><trackBegin id="pb" pos="0" absPos="0"><openEnd/></trackBegin>
+<trackEnd id="pe" pos="100"><connection id="c" ref="d"/></trackEnd></trackTopology></track>
+<track id="q"><trackTopology><trackBegin id="qb" pos="0" absPos="100"><connection id="d" ref="c"/></trackBegin>
+<trackEnd id="qe" pos="100" absPos="20"><openEnd/></trackEnd></trackTopology></track></tracks></infrastructure>"""
+# further ways in which a file can have such a fault: the file, the fault, a piece of what is said, and where else it points
+FURTHER = (
+    ((TOP / "cases/stations/ring.xml").read_bytes(), "graph NotForward", "the track m is joined to itself", ""),
+    (TWO, "graph SideMismatch", "two tracks are joined, and both lie on one side of it", "it is joined to the begin of track q"),
+    (edited((b'"ki" ref="rd"', b'"ki" ref="sa"'), (b'"ko" ref="sa"', b'"ko" ref="rd"'), (b'"rd" ref="ki"', b'"rd" ref="ko"'),
+            (b'"sa" ref="ko"', b'"sa" ref="ki"'), text=CROSSED),
+     "graph SideMismatch", "Either incoming and outgoing are exchanged", "it is joined to the begin of track s"),
+    (edited((b'course="left"', b'course="lefft"')), "topology Course", "(did you mean left?)", ""),
+    (edited((b'course="right"', b'course="rigth"'), text=CROSSED), "topology Course", "(did you mean right?)", ""),
+    (edited((b'course="left"', b'course="up"')), "topology Course", "isn't left or right. Write", ""),
+    (edited((b'course="right"', b'course="left"')), "order Contradicts",
+     "the piece of track track2 from W3 to W4 and the piece track3 from W3 to W4 would each lie above the other", "by the switch W3"),
+)
+
 SHEET = (TOP / "examples/one.sheet").read_text(encoding="utf-8")
 
 
@@ -175,6 +195,14 @@ class Provoked(unittest.TestCase):
                 command = "signals" if fault.startswith("signal") else "graph"
                 self.hold("s.xml", fault, place, piece, [command, self.file("s.xml", data)])
 
+    def test_further_ways_to_have_a_fault(self):
+        for data, fault, piece, other in FURTHER:
+            with self.subTest(piece):
+                found, notes = self.told(["graph", self.file("s.xml", data)])
+                self.assertEqual(found, fault)
+                self.assertIn(piece, notes[0].text)
+                self.assertEqual(bool(other), any(other in it.text for it in notes[1:] if other))
+
     def test_files_of_other_kinds_are_called_what_they_are(self):
         for data, piece in ((b"PK\3\4zip", "a packed archive"), (b"%PDF-1.7", "a PDF"), (b'{"a": 1}', "JSON"),
                             (b"name;km\n", "no XML"), (b"text <railml>", "nothing but comments")):
@@ -239,6 +267,21 @@ class Colours(unittest.TestCase):
                 if not more:
                     os.environ.pop("NO_COLOR", None)
                 self.assertEqual(saying.has_colour(), due)
+
+
+class Refusals(unittest.TestCase):
+    """refusals that take a long log to provoke, as the program prints them"""
+
+    def said(self, status, answer):
+        line = words.read(["check", "s.xml", "s", "l"])
+        return [it.text for it in telling.of_answer("p", line, running.Ran(status, answer.encode() + b"\n", 0))]
+
+    def test_refusals_in_words(self):
+        for status, name in ((8, "NotNew"), (4, "Room")):
+            with self.subTest(name):
+                self.assertEqual(self.said(status, f"check {name} line 3"), [log_faults.REFUSALS[name]])
+        self.assertIn("nothing that isn't known by then", log_faults.REFUSALS["NotNew"])
+        self.assertIn("no room for this line", log_faults.REFUSALS["Room"])
 
 
 class Complete(unittest.TestCase):

@@ -2,9 +2,11 @@
 import json
 import signal
 import time
+from unittest import mock
 
-from tool import folder_index, folder_station
+from tool import folder, folder_index, folder_station
 from tool.folder_station import Record, Setting
+from tool.saying import Ended
 from tool.tests.clones import InClone
 
 # a program that answers by the name of the file: it says in `asked` what it was asked for
@@ -25,6 +27,16 @@ draw)
 trim) echo 'railplan-hints 1' > "$5"; echo 'trimmed 2 1' ;;
 recheck) echo 'certified 2' ;;
 esac
+"""
+# a program that says in `most` how many of it run at the same time
+SIDE_BY_SIDE = """#!/bin/sh
+case $1 in draw) ;; *) exit 1 ;; esac
+touch "$HERE/running.$$"
+sleep 0.6
+ls "$HERE" | grep -c '^running' >> "$HERE/most"
+sleep 0.2
+rm "$HERE/running.$$"
+printf 'railplan 2\\ngrid 40 8 1\\norder height\\nend none\\n'
 """
 RUN = """import subprocess, sys
 ran = subprocess.run([sys.executable, "-S", sys.argv[1], *sys.argv[3:]], stdout=subprocess.PIPE)
@@ -92,6 +104,17 @@ class Folders(InClone):
         grids = ["--width 40 --height 8", "--width 64 --height 8", "--width 64 --height 12"]
         self.assertEqual(sorted(self.drawn()), sorted(f"draw in/{name}.xml {it}" for name in ("large", "none") for it in grids))
         self.assertEqual(self.record("large")["grid"], [64, 12])
+        self.assertIn("2 stations: 1 best, 1 no drawing, 1 on a larger grid, in ", self.folder()[2])
+        self.assertNotIn("larger grid", self.folder("--width", "64", "--height", "12")[2])
+
+    def test_files_that_are_passed_over(self):
+        self.stations("a")
+        for name in ("in/b.txt", "in/c.xml.zip", "in/.hidden", "in/below/d.pdf"):
+            self.write(name, "x")
+        self.assertIn("railplan: passed over, as they don't end in .xml or .railml: b.txt, c.xml.zip\n", self.folder()[2])
+        for number in range(9):
+            self.write(f"in/n{number}", "x")
+        self.assertIn(": b.txt, c.xml.zip, n0, n1, n2 and 6 more\n", self.folder()[2])
 
     def test_what_has_not_changed_is_not_drawn_again(self):
         self.stations("a", "b", "refused")
@@ -117,13 +140,68 @@ class Folders(InClone):
 
     def test_certificates(self):
         self.stations("a", "none")
-        self.folder("--certify")
+        self.assertIn("2 stations: 1 best, 1 no drawing, 2 with a certificate, in ", self.folder("--certify")[2])
         self.assertEqual(self.record("a")["certified"], "certified 2")
         self.assertIn("a.hints", self.made())
         self.assertNotIn("a.log", self.made())
         page = (self.top / "out/index.html").read_text()
         self.assertIn(">certified: 2 of 2<", page)
         self.assertIn(">certified: no drawing<", page)
+
+    def test_a_certificate_that_is_refused(self):
+        refusing = PROGRAM.replace("recheck) echo 'certified 2' ;;", "recheck) echo 'check Lacks place 2'; exit 8 ;;")
+        self.assertNotEqual(refusing, PROGRAM)
+        self.script("crates/railplan_main/out/railplan_main", refusing)
+        self.stations("a", "b")
+        status, out, err = self.folder("--certify")
+        self.assertEqual((status, self.record("a")["status"], self.record("a")["certified"]), (8, 8, "check Lacks place 2"))
+        self.assertIn("the certificate of in/a.xml was refused: check Lacks place 2", err)
+        page = (self.top / "out/index.html").read_text()
+        self.assertIn("the certificate of in/a.xml was refused: check Lacks place 2", page)
+        self.assertNotIn("class=\"badge\"", page)
+        self.drawn()
+        self.script("crates/railplan_main/out/railplan_main", PROGRAM)
+        self.assertEqual(self.folder("--certify")[0], 0)
+
+    def test_so_many_are_drawn_side_by_side(self):
+        self.script("crates/railplan_main/out/railplan_main", SIDE_BY_SIDE)
+        self.stations("a", "b", "c", "d", "e")
+        for count in (1, 3):
+            (self.top / "most").write_text("0\n")
+            self.folder("-j", str(count), "--least", str(count))
+            self.assertEqual(max(map(int, (self.top / "most").read_text().split())), count)
+
+    def test_a_folder_that_cannot_be_made(self):
+        self.stations("a")
+        self.write("file", "mine")
+        for out in ("file", "file/below", "/proc/none"):
+            status, printed, err = self.launch("folder", "in", out)
+            with self.subTest(out):
+                self.assertEqual((status, printed), (6, ""))
+                self.assertEqual(err.count("\n"), 1)
+        self.assertEqual((self.top / "file").read_text(), "mine")
+
+    def test_rights_that_lack_are_said_before_a_run(self):
+        (self.top / "out").mkdir()
+        with mock.patch("os.access", lambda path, mode: False), mock.patch("tool.saying.write_error") as said, \
+                self.assertRaises(Ended) as ended:
+            folder.make_folder(self.top / "out")
+        self.assertEqual(ended.exception.status, 6)
+        self.assertIn("you haven't the right to make files in it", said.call_args[0][0])
+
+    def test_nothing_goes_through_a_link(self):
+        self.stations("a")
+        self.write("mine", "<svg mine")
+        (self.top / "out").mkdir()
+        for name in ("a.svg", "a.sheet", "index.html"):
+            (self.top / "out" / name).symlink_to("../mine")
+            with self.subTest(name):
+                status, out, err = self.folder()
+                self.assertEqual(status, 2)
+                self.assertIn(f"out/{name} is there, and railplan didn't make it", err)
+            (self.top / "out" / name).unlink()
+        self.assertEqual((self.top / "mine").read_text(), "<svg mine")
+        self.assertEqual(self.drawn(), [])
 
     def test_parts_and_their_page(self):
         self.stations("a", "b", "c", "d", "e")
@@ -158,10 +236,12 @@ class Folders(InClone):
         until = time.time() + 30
         while not (self.top / "out/records/a.json").exists() and time.time() < until:
             time.sleep(0.05)
-        job.send_signal(signal.SIGINT)
+        for _ in range(2):
+            job.send_signal(signal.SIGINT)
+            time.sleep(0.01)
         err = job.communicate(timeout=20)[1]
         self.assertEqual(job.returncode, 130)
-        self.assertIn("of 2 stations 1 is done", err)
+        self.assertEqual(err, "railplan: stopped; of 2 stations 1 is done. The same line goes on from there\n")
         self.drawn()
         self.stations("slow2")
         (self.top / "in/slow.xml").rename(self.top / "in/quick.xml")

@@ -37,6 +37,18 @@ class Help(InClone):
                 for line in text.splitlines():
                     self.assertLessEqual(len(line), 80)
 
+    def test_further_sentences_of_a_command(self):
+        for word, command in manual.all_commands().items():
+            with self.subTest(word):
+                self.assertIn(command.more, " ".join(manual.of_command(word, "railplan").split()))
+
+    def test_what_options_of_pages_take_and_what_counts_without_them(self):
+        text = " ".join(manual.of_command("draw", "railplan").split())
+        for said in ("A4, A3, A2 or A1 (A3)", "name or id (name)", "right or left (right)"):
+            self.assertIn(said, text)
+        for option in words.PAGE_WORDS.values():
+            self.assertTrue(not option.choices or option.usual in option.choices)
+
     def test_the_overview_names_all_and_is_80_columns_wide(self):
         text = manual.overview("./railplan")
         for word in [*manual.all_commands(), *words.OPTIONS, *words.PAGE_WORDS, "--unproved"]:
@@ -110,6 +122,32 @@ class Installed(InClone):
         status, out, err = self.prefix("install")
         self.assertEqual(status, 6)
         self.assertNotIn("Traceback", err)
+
+
+class Refused(InClone):
+    def test_words_that_are_too_many(self):
+        for given, said in ((["prepare", "a", "b", "c"], "`c` is one name too many: ./railplan prepare IN OUT"),
+                            (["prepare", "a", "--b", "c"], "prepare has no option --b: ./railplan prepare IN OUT"),
+                            (["install", "a", "b"], "`b` is one name too many: ./railplan install [PREFIX]"),
+                            (["install", "--prefix=here"], "install has no option --prefix=here: ./railplan install [PREFIX]"),
+                            (["uninstall", "a", "b"], "`b` is one name too many: ./railplan uninstall [PREFIX]"),
+                            (["version", "a"], "`a` is one name too many: ./railplan version"),
+                            (["--version", "a"], "`a` is one name too many: ./railplan version"),
+                            (["help", "draw", "graph"], "`graph` is one name too many: ./railplan help [COMMAND]")):
+            with self.subTest(given):
+                before = sorted(self.top.rglob("*"))
+                self.assertEqual(self.launch(*given, RAILPLAN_CALLED="./railplan"), (2, "", f"railplan: {said}\n"))
+                self.assertEqual([it for it in sorted(self.top.rglob("*")) if "__pycache__" not in str(it)],
+                                 [it for it in before if "__pycache__" not in str(it)])
+
+    def test_words_that_go_before_others(self):
+        for command in (["prepare", "one.xml", "b"], ["install", "a"], ["uninstall", "a"], ["version"], ["--version"]):
+            for before in (["--html", "p"], ["--paper", "A3"], ["--unproved"]):
+                with self.subTest(before + command):
+                    status, out, err = self.launch(*before, *command)
+                    self.assertEqual((status, out), (2, ""))
+                    self.assertIn(f"{before[0]} doesn't go with {command[0].lstrip('-')}: ", err)
+        self.assertEqual([it for it in ("b", "a", "p") if (self.top / it).exists()], [])
 
 
 class Made(unittest.TestCase):

@@ -1,7 +1,11 @@
 """prepare: what is mended, what stays to the byte, and where nothing is written."""
+import os
 import unittest
+from unittest import mock
 
 from tool import prepare
+from tool.saying import Ended
+from tool.tests.clones import InClone
 
 TRACK = ('<railml xmlns="x"><infrastructure><tracks>'
          '<track id="a"><trackTopology><trackBegin id="ab" pos="0" absPos="100"><openEnd/></trackBegin>'
@@ -118,6 +122,45 @@ class Mended(unittest.TestCase):
         self.assertIn('<!-- <switch pos="1,5"/> -->', found)
         self.assertIn('<bridge pos="1,5"/>', found)
         self.assertEqual((len(changes), guesses), (1, []))
+
+
+class Written(InClone):
+    def prepare(self, out):
+        return self.launch("prepare", "s.xml", out)
+
+    def setUp(self):
+        super().setUp()
+        self.write("s.xml", TRACK)
+        self.write("other.xml", "mine")
+
+    def test_what_prepare_wrote_is_written_over(self):
+        self.write("empty.xml", "")
+        for out in ("new.xml", "new.xml", "empty.xml"):
+            self.assertEqual(self.prepare(out)[0], 0)
+        self.assertIn(prepare.MARK, (self.top / "new.xml").read_text())
+
+    def test_what_is_not_replaced(self):
+        (self.top / "link.xml").symlink_to("other.xml")
+        (self.top / "open.xml").symlink_to("nosuch.xml")
+        os.mkfifo(self.top / "pipe.xml")
+        (self.top / "folder.xml").mkdir()
+        for out, said in (("link.xml", "is a link"), ("open.xml", "is a link"), ("pipe.xml", "is no plain file"),
+                          ("/dev/null", "is no plain file"), ("folder.xml", "is a folder"), ("s.xml", "are one file"),
+                          ("other.xml", "is there, and prepare didn't write it")):
+            with self.subTest(out):
+                status, printed, err = self.prepare(out)
+                self.assertEqual((status, printed), (2, ""))
+                self.assertIn(said, err)
+        self.assertEqual((self.top / "other.xml").read_text(), "mine")
+        self.assertTrue((self.top / "link.xml").is_symlink())
+        self.assertFalse((self.top / "nosuch.xml").exists())
+
+    def test_a_file_that_cannot_be_read(self):
+        with mock.patch("builtins.open", side_effect=PermissionError(13, "Permission denied")), \
+                mock.patch("tool.saying.write_error") as said, self.assertRaises(Ended) as ended:
+            prepare.refuse_other(str(self.top / "other.xml"), "s.xml")
+        self.assertEqual(ended.exception.status, 6)
+        self.assertIn("can't be read to see who wrote it", said.call_args[0][0])
 
 
 if __name__ == "__main__":

@@ -1,10 +1,16 @@
 """What is read from a log as it grows, and what is shown of it."""
+import contextlib
+import os
+import pty
 import subprocess
+import sys
 import tempfile
 import unittest
 from pathlib import Path
+from unittest import mock
 
 from tool import progress, words
+from tool.tests.clones import InClone
 from tool.tests.places import PROGRAM, TOP
 
 BEGUN = "railplan-log 1\nf 1 -2 0\nf 2 0\n"
@@ -86,9 +92,75 @@ class Shown(unittest.TestCase):
     def test_a_bar(self):
         self.assertEqual([progress.bar(n, 160).count("#") for n in (0, 9, 10, 80, 160, 200)], [0, 0, 1, 8, 16, 16])
 
+    def test_each_command_that_takes_long_says_what_it_does(self):
+        for word, command in words.COMMANDS.items():
+            if command.takes_long:
+                it = progress.Watch(words.read([word]), "l" if "--log" in command.options else "")
+                with self.subTest(word):
+                    self.assertNotIn("running", it.text(3, 200))
+        self.assertIn("fewer moved nodes", progress.Watch(words.read(["redraw"]), "l").text(3, 200))
+
+    def test_the_width_is_that_of_standard_error(self):
+        for width, due in ((57, 57), (0, progress.UNKNOWN_COLUMNS)):
+            with mock.patch("os.get_terminal_size", lambda handle: os.terminal_size((width if handle == 2 else 11, 20))):
+                self.assertEqual(progress.columns(), due)
+
     def test_other_commands_say_what_they_do(self):
         for command, said in progress.DOING.items():
             self.assertEqual(self.watch([command]).text(3, 200), f"railplan: {said} · 3 s")
+
+
+class Watched(InClone):
+    PROGRAM = """#!/bin/sh
+echo "$@" >> "$HERE/words"
+while test $# -gt 0; do case $1 in --log) printf 'railplan-log 1\\nq 0\\nl 1 0\\n' > "$2" ;; esac; shift; done
+sleep ${LASTS:-1.5}
+echo done
+"""
+
+    def watch(self, *given, **more):
+        """what a run says on a terminal, with the words that the program got"""
+        self.script("crates/railplan_main/out/railplan_main", self.PROGRAM)
+        (self.top / "tmp").mkdir(exist_ok=True)
+        reading, terminal = pty.openpty()
+        job = subprocess.Popen([sys.executable, "-SB", str(self.top / "railplan"), *given], cwd=self.top, stdin=subprocess.DEVNULL,
+                               stdout=subprocess.PIPE, stderr=terminal,
+                               env=self.environment(TMPDIR=str(self.top / "tmp"), **more))
+        os.close(terminal)
+        job.communicate(timeout=60)
+        said = b""
+        with contextlib.suppress(OSError):
+            while piece := os.read(reading, 4096):
+                said += piece
+        os.close(reading)
+        return said.decode(), (self.top / "words").read_text().split("\n")[-2]
+
+    def logs_left(self):
+        return [it.name for it in (self.top / "tmp").rglob("*.log")]
+
+    def test_what_the_log_says_so_far_is_shown_and_the_log_is_taken_away(self):
+        said, given = self.watch("draw", "one.xml")
+        self.assertIn("railplan: looking for a first drawing · [----------------] 1 of 50,000 · 1 s", said)
+        self.assertRegex(given, r"^draw one.xml --log \S+/tmp/railplan-\w+\.log$")
+        self.assertEqual(self.logs_left(), [])
+
+    def test_a_command_without_a_log(self):
+        said, given = self.watch("explain", "one.xml")
+        self.assertIn("railplan: looking for laws that can't be met together · 1 s", said)
+        self.assertEqual(given, "explain one.xml")
+
+    def test_a_log_that_is_asked_for_stays(self):
+        said, given = self.watch("draw", "one.xml", "--log", "l")
+        self.assertIn("looking for a first drawing", said)
+        self.assertEqual((given, self.logs_left(), (self.top / "l").exists()), ("draw one.xml --log l", [], True))
+
+    def test_no_log_is_kept_without_room(self):
+        for free, has_log in ((progress.ROOM - 1, False), (progress.ROOM, True)):
+            with mock.patch("shutil.disk_usage", lambda folder: mock.Mock(free=free)):
+                name = progress.own_log()
+                self.assertEqual(bool(name), has_log)
+                if name:
+                    os.unlink(name)
 
 
 if __name__ == "__main__":
