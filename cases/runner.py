@@ -420,7 +420,7 @@ def chosen(words: list[str]) -> list[Written]:
 def main(description: str) -> int:
     parser = argparse.ArgumentParser(description=description, formatter_class=argparse.RawDescriptionHelpFormatter)
     parser.add_argument("program", type=Path, help="the program")
-    parser.add_argument("words", nargs="*", help="only the cases whose place or title holds one of these words are run")
+    parser.add_argument("words", nargs="*", help="only the cases whose file, line, title or row has one of these words in it are run")
     asked = parser.parse_args()
     program = asked.program.resolve()
     if not os.access(program, os.X_OK):

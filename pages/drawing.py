@@ -1,7 +1,7 @@
 """A drawing as SVG: lines, signs, names, and a scale of kilometres below, in as many strips as the paper asks for.
 
-West is on the left. Letters have one height a class. A layout is tried, columns beside which a name stood badly are made wider,
-and the best of a few tries is taken.
+West is on the left. All texts of one class have letters of one height. A few layouts are tried, each with wider columns
+where a name had no good place; the best is taken.
 """
 from __future__ import annotations
 

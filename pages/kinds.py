@@ -17,7 +17,7 @@ from pages.texts import Drawing, Graph, Law, NoPage
 from tool import advice, explained, railml, words
 from tool.track_graph import TrackGraph
 
-CAPTION = "Not to scale: mileages rise from west to east, and upper is on the left seen in this direction."
+CAPTION = "Not to scale: mileages rise from west to east. At switches and crossings upper is on the left, seen eastwards."
 NO_LOG = "No log was kept. With --log NAME the search leaves one, which others can judge."
 ANSWERED = (0, 3, 4, 8)
 # of a paper's width: what a framed picture may have, and each of two side by side

@@ -1,6 +1,6 @@
 """The texts that the program prints, as records: graphs, sheets, verdicts, signals, explanations, pairs of values.
 
-What is read here was written by the program, or has passed it. So a text of another form isn't reported: it is NoPage.
+The program wrote these texts, or accepted them. So no fault of theirs is explained: a text of another form raises NoPage.
 """
 from __future__ import annotations
 

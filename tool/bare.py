@@ -1,6 +1,6 @@
-"""bare.py WORDS..    runs the program in its place, for pages that a folder's run makes
+"""bare.py WORDS..    becomes the program: `folder` gives this script to pages/run.py in place of the launcher
 
-RAILPLAN_PROGRAM is the program. RAILPLAN_MORE has further words for draw, a line each: files that are no business of the page.
+RAILPLAN_PROGRAM is the program. RAILPLAN_MORE has further words for draw, a line each: files that the page doesn't show.
 """
 import os
 import signal

@@ -1,9 +1,10 @@
 """Which program there is, and whether it is the one that these sources make.
 
-The launcher leaves a list beside the program that it built: the program and its sources as they were at the build. Of each it
-has the size, both times and the inode, and its SHA-256, which counts where one of these differs. So a source that was copied,
-restored, added or removed is seen, and so is another program. A program without a list was built by somebody else: it counts
-by its time, as of a build with `rt`, and nothing is said to be proved of it.
+The launcher leaves a list beside the program that it built: the program and its sources as they were at the build. Of each it has
+the size, both times, the inode and the SHA-256. Where the first four are as they were the file counts as unchanged; else the
+SHA-256 decides. So a source that was copied, restored, added or removed is seen, and so is another program. Sources are the .rt and
+.antt files of the program's crates, and crates.txt; Python and the kit are none. A program without a list was built by somebody else: it
+counts by its time, as of a build with `rt`, and nothing is said to be proved of it.
 """
 from __future__ import annotations
 

@@ -12,6 +12,7 @@ import sys
 import tempfile
 import time
 from dataclasses import asdict, dataclass, field
+from functools import cache
 from pathlib import Path
 
 from tool import advice, notes, running, telling, words
@@ -87,9 +88,18 @@ class Jobs:
                 os.killpg(job.pid, signal.SIGTERM)
 
 
+@cache
+def sum_of_pages(top: str) -> str:
+    """the SHA-256 of the code that makes pages"""
+    found = hashlib.sha256()
+    for path in sorted(it for it in Path(top, "pages").glob("**/*") if it.suffix in (".py", ".js", ".css") and "tests" not in it.parts):
+        found.update(path.read_bytes())
+    return found.hexdigest()
+
+
 def key_of(path: Path, setting: Setting) -> str:
-    """what a station's files are made of: its file, the words, the program and this version"""
-    known = json.dumps([setting.options, setting.certifies, setting.sha256, VERSION])
+    """what a station's files are made of: its file, the words, the program, the code of the pages and this version"""
+    known = json.dumps([setting.options, setting.certifies, setting.sha256, sum_of_pages(setting.top), VERSION])
     return hashlib.sha256(path.read_bytes() + b"\0" + known.encode()).hexdigest()
 
 

@@ -59,8 +59,9 @@ def at(it: Element) -> str:
 def mismatch_of_switch(station: Station, it: Element) -> str:
     way = next((c.attributes.get("orientation", "") for c in it.named("connection")), "")
     other = {"outgoing": "incoming", "incoming": "outgoing"}.get(way, "the other")
-    return f"at the switch {it.id}{at(it)} both legs don't lie on one side and the trunk on the other. Either " \
-           f"orientation=\"{way}\" is to be {other}, or the branching track's mileage (absPos) is counted otherwise than this " \
+    lacks = "" if "absPos" in it.attributes else "the switch lacks an absPos, which it needs where its track's mileage falls; "
+    return f"at the switch {it.id}{at(it)} both legs don't lie on one side and the trunk on the other. Either {lacks}" \
+           f"orientation=\"{way}\" is to be {other}; or the branching track's mileage (absPos) is counted otherwise than this " \
            "track's: one file has one mileage"
 
 

@@ -33,10 +33,10 @@ def prefix_of(line: words.Line) -> Path:
 def install(clone: built.Clone, prefix: Path) -> None:
     link, target = prefix / "bin/railplan", Path(clone.top, "railplan")
     listed = {prefix / name: text for name, text in texts().items()}
-    if (link.exists() or link.is_symlink()) and not is_our_link(link, target):
+    if os.path.lexists(link) and not is_our_link(link, target):
         end(2, f"{link} is there and isn't a link to this railplan. Name another folder, or delete it")
     for path in listed:
-        if path.exists() and not is_ours(path):
+        if os.path.lexists(path) and not is_ours(path):
             end(2, f"{path} is there, and railplan didn't make it. Name another folder, or delete it")
     link.parent.mkdir(parents=True, exist_ok=True)
     if not link.is_symlink():

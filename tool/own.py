@@ -70,8 +70,10 @@ def run(clone: built.Clone, line: words.Line, given: list[str]) -> int:
     if line.command == "prepare":
         from tool import prepare
         return prepare.run(line)
-    try:
-        from tool import folder
-    except KeyboardInterrupt:
-        end(130, "stopped before a station was drawn")
-    return folder.run(clone, given)
+    if line.command == "folder":
+        try:
+            from tool import folder
+        except KeyboardInterrupt:
+            end(130, "stopped before a station was drawn")
+        return folder.run(clone, given)
+    raise NotImplementedError(f"the command {line.command} isn't there")

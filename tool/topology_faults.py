@@ -136,8 +136,10 @@ def unknown_ref(station: Station, it: Element | None, tells: list[str]) -> str:
         return f"{said}. Besides, {kind_of_crossing(owner) if owner.name == 'crossing' else kind_of_switch(owner)}"
     if meant and meant[0] != tells[0]:
         return f"{said}. Did you mean {meant[0]}?"
-    return f"{said}. Was its track left out of the export? Where the line goes on, write <openEnd id=\"..\"/> in place of the " \
-           "connection"
+    lost = f"{said}. Was its track left out of the export?"
+    if owner and owner.name in railml.POINTS:
+        return f"{lost} Give {owner.name} {owner.id} a short track there, whose other end has an <openEnd id=\"..\"/>"
+    return f"{lost} Where the line goes on, write <openEnd id=\"..\"/> in place of the connection"
 
 
 def not_mutual(station: Station, it: Element | None, tells: list[str]) -> str:

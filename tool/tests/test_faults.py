@@ -1,4 +1,4 @@
-"""Every fault that the program has is said in a sentence, at its place: each is provoked, and what is said is looked at."""
+"""Every fault, refusal and law has a sentence. Faults of files are provoked, where there is a program, and what is said is looked at."""
 import os
 import re
 import subprocess
@@ -98,6 +98,12 @@ TWO = b"""<infrastructure><tracks>
 <trackEnd id="pe" pos="100"><connection id="c" ref="d"/></trackEnd></trackTopology></track>
 <track id="q"><trackTopology><trackBegin id="qb" pos="0" absPos="100"><connection id="d" ref="c"/></trackBegin>
 <trackEnd id="qe" pos="100" absPos="20"><openEnd/></trackEnd></trackTopology></track></tracks></infrastructure>"""
+FALLING = b"""<infrastructure><tracks>
+<track id="p"><trackTopology><trackBegin id="pb" pos="0" absPos="1000"><openEnd/></trackBegin>
+<trackEnd id="pe" pos="1000" absPos="0"><openEnd/></trackEnd><connections>
+<switch id="w" pos="300"><connection id="c" ref="d" course="left" orientation="outgoing"/></switch></connections></trackTopology></track>
+<track id="q"><trackTopology><trackBegin id="qb" pos="0" absPos="700"><connection id="d" ref="c"/></trackBegin>
+<trackEnd id="qe" pos="500" absPos="200"><openEnd/></trackEnd></trackTopology></track></tracks></infrastructure>"""
 # further ways in which a file can have such a fault: the file, the fault, a piece of what is said, and where else it points
 FURTHER = (
     ((TOP / "cases/stations/ring.xml").read_bytes(), "graph NotForward", "the track m is joined to itself", ""),
@@ -105,6 +111,9 @@ FURTHER = (
     (edited((b'"ki" ref="rd"', b'"ki" ref="sa"'), (b'"ko" ref="sa"', b'"ko" ref="rd"'), (b'"rd" ref="ki"', b'"rd" ref="ko"'),
             (b'"sa" ref="ko"', b'"sa" ref="ki"'), text=CROSSED),
      "graph SideMismatch", "Either incoming and outgoing are exchanged", "it is joined to the begin of track s"),
+    (FALLING, "graph SideMismatch", "Either the switch lacks an absPos, which it needs where its track's mileage falls; orientation=", ""),
+    (edited((b'id="W1.branch" ref="track4.west"', b'id="W1.branch" ref="elsewhere"'), (JOINED, b"<openEnd/>")), "topology UnknownRef",
+     "Give switch W1 a short track there, whose other end has an <openEnd", ""),
     (edited((b'course="left"', b'course="lefft"')), "topology Course", "(did you mean left?)", ""),
     (edited((b'course="right"', b'course="rigth"'), text=CROSSED), "topology Course", "(did you mean right?)", ""),
     (edited((b'course="left"', b'course="up"')), "topology Course", "isn't left or right. Write", ""),

@@ -138,6 +138,14 @@ class Folders(InClone):
         self.folder()
         self.assertEqual(len(self.drawn()), 1)
 
+    def test_other_code_of_pages_draws_anew(self):
+        self.stations("a")
+        self.folder()
+        self.drawn()
+        self.write("pages/run.py", RUN + "# other\n")
+        self.folder()
+        self.assertEqual(len(self.drawn()), 1)
+
     def test_certificates(self):
         self.stations("a", "none")
         self.assertIn("2 stations: 1 best, 1 no drawing, 2 with a certificate, in ", self.folder("--certify")[2])

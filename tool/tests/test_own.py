@@ -117,6 +117,12 @@ class Installed(InClone):
                 self.assertEqual((self.top / "prefix" / name).read_text(), "mine\n")
                 shutil.rmtree(self.top / "prefix")
 
+    def test_nothing_goes_through_a_link(self):
+        (self.top / "prefix/share/man/man1").mkdir(parents=True)
+        (self.top / "prefix/share/man/man1/railplan.1").symlink_to(self.top / "elsewhere")
+        self.assertEqual(self.prefix("install")[0], 2)
+        self.assertFalse((self.top / "elsewhere").exists())
+
     def test_a_folder_that_cannot_be_written(self):
         self.write("prefix", "")
         status, out, err = self.prefix("install")
