@@ -39,8 +39,9 @@ class Station:
 
 
 def near_hand(given: str) -> str:
-    """the hand that was meant, as far as it can be seen"""
-    found = difflib.get_close_matches(given.lower(), ("left", "right"), 1, 0.6)
+    """the hand that was meant, as far as it can be seen; straight is spelled much like right"""
+    found = difflib.get_close_matches(given.lower(), ("left", "right", "straight"), 1, 0.6)
+    found = [it for it in found if it != "straight"]
     return f" (did you mean {found[0]}?)" if found else ""
 
 

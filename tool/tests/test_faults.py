@@ -116,6 +116,7 @@ FURTHER = (
      "Give switch W1 a short track there, whose other end has an <openEnd", ""),
     (edited((b'course="left"', b'course="lefft"')), "topology Course", "(did you mean left?)", ""),
     (edited((b'course="right"', b'course="rigth"'), text=CROSSED), "topology Course", "(did you mean right?)", ""),
+    (edited((b'course="right"', b'course="straight"'), text=CROSSED), "topology Course", "isn't left or right. Write", ""),
     (edited((b'course="left"', b'course="up"')), "topology Course", "isn't left or right. Write", ""),
     (edited((b'course="right"', b'course="left"')), "order Contradicts",
      "the piece of track track2 from W3 to W4 and the piece track3 from W3 to W4 would each lie above the other", "by the switch W3"),
