@@ -17,7 +17,7 @@ from typing import Optional
 from pages import kinds, texts
 from pages.facts import Build
 from pages.files import Input, Output, Refused, hashed, read_once
-from pages.kinds import ANSWERED, INPUTS, Page, Run, Settings
+from pages.kinds import ANSWERED, INPUTS, Run, Settings
 from pages.texts import Graph, NoPage
 from pages.whole import page_text
 from tool import built, files, running, telling

@@ -328,7 +328,8 @@ def redraw_page(run: Run) -> Page:
     page.badge = sentences.badge_of([found.ending])
     if found.drawing and former.drawing:
         page.badge = ("settled", "none with fewer moved") if found.ending == "best" else ("open", "search stopped")
-        page.lead = [f"Of {found.of} nodes that the former drawing has too, {found.moved} moved."]
+        page.lead = [f"Of {found.of} nodes that the former drawing has too, {found.moved} moved. A grid little larger than the former "
+                     "drawing gives a narrower one."]
         add_versions(page, run, found.drawing, former.drawing)
         add_values(page, found.values, found.grid)
         add_not_shown(page, run)

@@ -6,7 +6,7 @@ from typing import Iterable, Union
 
 from pages.letters import spelled
 
-VOID = {"meta", "input", "br", "hr", "col"}
+VOID = {"meta", "input", "br", "hr", "col", "img"}
 # what stands in these elements is no markup: it is written as it is, and must not end the element
 BARE = {"script", "style"}
 # characters that no XML may have; U+000A and U+0009 are no such ones

@@ -7,7 +7,7 @@ from __future__ import annotations
 from collections import Counter
 from dataclasses import dataclass, field
 from decimal import Decimal
-from typing import Iterator, Optional
+from typing import Iterable, Iterator, Optional
 
 from pages.infrastructure import Infrastructure, SignalInFile
 from pages.letters import Letters
@@ -33,6 +33,11 @@ class Way:
     position: str = ""
 
 
+def twice(names: Iterable[str]) -> set[str]:
+    """those that are there more than once"""
+    return {name for name, number in Counter(it.strip() for it in names).items() if number > 1}
+
+
 @dataclass
 class Station:
     graph: Optional[Graph] = None
@@ -53,15 +58,15 @@ class Station:
     def names_of_two(self) -> set[str]:
         """the names that two tracks or two nodes have: they tell nothing apart"""
         nodes = [it.name for it in self.graph.nodes] if self.graph else [it for it in self.file.names if it not in self.file.tracks]
-        found: set[str] = set()
-        for ids in (self.file.tracks, nodes):
-            count = Counter(self.file.names[it].strip() for it in ids if it in self.file.names)
-            found |= {name for name, number in count.items() if number > 1}
-        return found
+        return {name for ids in (self.file.tracks, nodes) for name in twice(self.file.names[it] for it in ids if it in self.file.names)}
 
     def is_label(self, name: str, id: str, is_signal: bool) -> bool:
-        """whether a thing's name is written at it: where names are asked for, and it is the only one of its kind that has it"""
-        return self.labels == "name" and name != "" and (is_signal or self.file.names.get(id, "").strip() not in self.repeated)
+        """whether a thing's name is written at it: where names are asked for, and no two tracks, nodes or signals have it"""
+        if self.labels != "name" or name == "":
+            return False
+        if is_signal:
+            return self.file.signals[id].name.strip() not in twice(it.name for it in self.file.signals.values())
+        return self.file.names.get(id, "").strip() not in self.repeated
 
     def shown(self, text: str) -> str:
         return self.letters.shown(text)

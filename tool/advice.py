@@ -146,6 +146,8 @@ def certified(line: words.Line, fields: list[str]) -> list[str]:
         return [f"the log has {fields[1]} learnt lines, and {fields[2]} of them are left in {named['hints']}. They certify what the "
                 "sheet claims"]
     lines = "the hinted lines certify" if line.command == "recheck" else "the log certifies"
+    if not files.is_plain(named["sheet"]):
+        return []
     order, ending = (of_line(named["sheet"], number).text.split()[1:] for number in (3, 4))
     if ending == ["none"]:
         return [f"{lines} that no drawing on this grid is lawful"]
@@ -263,10 +265,12 @@ def fullest_piece(document: Document, count: int) -> str:
     """the piece of track with so many signals, where the answer doesn't say where signals are"""
     graph, on = TrackGraph(document), Counter()
     for track in document.tracks():
-        spots = sorted(railml.places_of(track), key=railml.position)
-        for signal in railml.signals(track):
-            west = [it for it in spots[:-1] if railml.position(it) <= railml.position(signal)] or spots[:1]
-            on.update(graph.pieces.get((it.place, 1)) for it in west[-1:])
+        spots = sorted(railml.places_of(track), key=railml.position)[:-1]
+        falls = len(spots) > 1 and railml.mileage(spots[1]) < railml.mileage(spots[0])
+        for signal in railml.signals(track) if spots else []:
+            at = railml.mileage(signal)
+            passed = [it for it in spots[1:] if (railml.mileage(it) >= at if falls else railml.mileage(it) <= at)]
+            on[graph.pieces.get((spots[len(passed)].place, 1))] += 1
     fullest = [number for number, found in on.items() if found == count and number is not None]
     return graph.piece_in_words(fullest[0]) if fullest else ""
 

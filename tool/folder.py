@@ -99,11 +99,20 @@ def refuse_others(out: Path, names: list[str]) -> None:
     """nothing that is something else is written over"""
     listed = [(out / f"{name}{ending}", BEGINS[kind]) for name in names for kind, ending in ENDINGS.items()]
     for path, begins in [*listed, (out / "index.html", BEGINS["page"])]:
-        there = files.state_of(str(path))
-        if there is None or not there.st_size:
-            continue
-        if not path.is_file() or path.is_symlink() or not path.read_bytes()[:32].lower().startswith(begins):
+        if os.path.lexists(path) and not may_replace(path, begins):
             end(2, f"{path} is there, and railplan didn't make it. Name another folder, or delete it")
+
+
+def may_replace(path: Path, begins: bytes) -> bool:
+    """whether a file that is there is empty, or begins as what is to be written"""
+    if path.is_symlink() or not path.is_file():
+        return False
+    try:
+        with path.open("rb") as text:
+            front = text.read(32).lower()
+    except OSError as error:
+        end(6, f"{path} can't be read: {why(error)}")
+    return not front or front.startswith(begins)
 
 
 def refuse_one_folder(asked: argparse.Namespace) -> None:
@@ -182,7 +191,8 @@ class Drawn:
         if self.pool:
             self.pool.shutdown(wait=True, cancel_futures=True)
         self.shown.clear()
-        return len(self.found) + sum(it.done() and not it.cancelled() and not it.exception() for it in self.left)
+        return len(self.found) + sum(it.done() and not it.cancelled() and not it.exception()
+                                     and it.result() not in self.found for it in self.left)
 
 
 def draw_all(drawn: Drawn, clone: built.Clone, asked: argparse.Namespace) -> None:
@@ -193,6 +203,9 @@ def draw_all(drawn: Drawn, clone: built.Clone, asked: argparse.Namespace) -> Non
     except OSError as error:
         drawn.stop()
         end(6, f"{error.filename or asked.OUT}: {why(error)}")
+    except Exception:
+        drawn.stop()
+        raise
 
 
 def write_index(out: Path, title: str, records: list[Record]) -> None:
@@ -227,11 +240,9 @@ def words_behind(given: list[str]) -> list[str]:
     return given[1:]
 
 
-def summary(records: list[Record], asked: argparse.Namespace) -> str:
+def summary(records: list[Record]) -> str:
     """how many stations ended how, how many of them on a larger grid, and how many with a certificate"""
-    given = dict(zip(asked.options[::2], asked.options[1::2]))
-    grid = [int(given.get(it, words.OPTIONS[it].usual)) for it in ("--width", "--height")]
-    larger, certified = sum(bool(it.values) and it.grid != grid for it in records), folder_index.certified(records)
+    larger, certified = sum(bool(it.values) and it.is_larger for it in records), folder_index.certified(records)
     said = f"{folder_index.stations(len(records))}: {folder_index.counts(records)}"
     said += f", {larger} on a larger grid" if larger else ""
     return said + (f", {certified} with a certificate" if certified else "")
@@ -250,12 +261,12 @@ def make(clone: built.Clone, asked: argparse.Namespace, all_: dict[str, Path], d
         draw_all(drawn, clone, asked)
     is_part = asked.shard[1] > 1
     if is_part and not asked.join:
-        say(f"{summary(drawn.found, asked)}, in {time.monotonic() - began:.0f} s. "
+        say(f"{summary(drawn.found)}, in {time.monotonic() - began:.0f} s. "
             f"{called()} folder --join {asked.IN} {asked.OUT} makes the page of all parts")
         return folder_index.worst(drawn.found)
     records = join(out, all_)
     write_index(out, f"Stations of {Path(asked.IN).name or asked.IN}", records)
-    say(f"{summary(records, asked)}, in {time.monotonic() - began:.0f} s. Open {out / 'index.html'}")
+    say(f"{summary(records)}, in {time.monotonic() - began:.0f} s. Open {out / 'index.html'}")
     return folder_index.worst(records)
 
 

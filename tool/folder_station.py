@@ -38,6 +38,7 @@ class Record:
     seconds: float = 0
     said: str = ""
     files: list[str] = field(default_factory=list)
+    is_larger: bool = False
 
     def is_refused(self) -> bool:
         """whether there is a certificate, and recheck doesn't accept it"""
@@ -90,9 +91,10 @@ class Jobs:
 
 @cache
 def sum_of_pages(top: str) -> str:
-    """the SHA-256 of the code that makes pages"""
+    """the SHA-256 of the code that makes pages and says what they don't show"""
     found = hashlib.sha256()
-    for path in sorted(it for it in Path(top, "pages").glob("**/*") if it.suffix in (".py", ".js", ".css") and "tests" not in it.parts):
+    listed = [it for part in ("pages", "tool") for it in Path(top, part).glob("**/*") if it.suffix in (".py", ".js", ".css")]
+    for path in sorted(it for it in listed if "tests" not in it.parts):
         found.update(path.read_bytes())
     return found.hexdigest()
 
@@ -197,6 +199,7 @@ class Drawing:
         status, output, given = self.draw()
         lines = output.decode("utf-8", "replace").splitlines()
         record = Record(self.name, key, status, lines[-1] if lines else "", grid=[int(given[3]), int(given[5])])
+        record.is_larger = record.grid != [self.setting.option("--width"), self.setting.option("--height")]
         if lines[:1] == ["railplan 2"]:
             self.path("sheet").write_bytes(output)
             record.order = next((line.split()[1:] for line in lines if line.startswith("order ")), [])

@@ -59,7 +59,9 @@ def at(it: Element) -> str:
 def mismatch_of_switch(station: Station, it: Element) -> str:
     way = next((c.attributes.get("orientation", "") for c in it.named("connection")), "")
     other = {"outgoing": "incoming", "incoming": "outgoing"}.get(way, "the other")
-    lacks = "" if "absPos" in it.attributes else "the switch lacks an absPos, which it needs where its track's mileage falls; "
+    ends = [railml.mileage(e) for e in (railml.end_of(it.above("track"), name) for name in railml.ENDS) if e]
+    falls = None not in ends and len(ends) == 2 and ends[1] < ends[0]
+    lacks = "the switch lacks an absPos, which it needs as its track's mileage falls; " if falls and "absPos" not in it.attributes else ""
     return f"at the switch {it.id}{at(it)} both legs don't lie on one side and the trunk on the other. Either {lacks}" \
            f"orientation=\"{way}\" is to be {other}; or the branching track's mileage (absPos) is counted otherwise than this " \
            "track's: one file has one mileage"

@@ -7,7 +7,7 @@ import sys
 from typing import NoReturn
 
 from tool import built, files, running, words
-from tool.saying import Ended, called, close_output, end, is_terminal, say, why, write_error, write_output
+from tool.saying import Ended, called, close_output, end, is_terminal, say, why, write_output
 
 
 def answer_unrun(clone: built.Clone, line: words.Line) -> None:

@@ -234,8 +234,7 @@ TOPOLOGY = {"NoTracks": no_tracks, "TooMany": too_many, "Missing": missing, "Id"
 
 def signals_of(document: Document) -> list[Element]:
     """the signals that are selected, in file order"""
-    return [it for track in document.tracks() for group in track.named("ocsElements") for signals in group.named("signals")
-            for it in signals.named("signal")]
+    return [it for track in document.tracks() for it in railml.signals(track)]
 
 
 def too_many_signals(station: Station, it: Element | None, tells: list[str]) -> str:

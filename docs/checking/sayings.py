@@ -150,6 +150,9 @@ SAYINGS = [
     ("run_draw_front/src/trialling.rt", "Order::new(&[Criterion::Height, Criterion::Width])", [(FORMATS, "in the order `height,width`")]),
     ("plan_core/src/limits.rt", "MAX_FILE_BYTES: usize = 4_194_304;", [(README, "4 MiB")]),
     # around the program
+    ("tool/advice.py", 'SLIPS = {"doubleSwitchCrossing": "a double slip", "simpleSwitchCrossing": "a single slip"}',
+     [(README, "A slip with two connections is drawn as a crossing without its slips, a Y switch with one straight leg; standard "
+               "error says each. Three-way switches are faults.")]),
     ("tool/launch.py", "this is a fault of the launcher itself, so nothing more is known: {type(error).__name__}: {error}\") return 10",
      [(FORMATS, "The launcher ends with 10 too"), ("THEOREM.md", "The launcher also ends with 10 and 130")]),
     ("tool/install.py", 'line.words[1] if len(line.words) > 1 else "~/.local"', [(README, "`~/.local` is usual")]),

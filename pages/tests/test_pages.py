@@ -216,6 +216,18 @@ class Commands(unittest.TestCase):
         page = make(example(files={"examples/station.xml": b"<railml>\n<"}))
         self.assertIn("line 2", fact(page, "Names and ends"))
 
+    def test_a_slip_is_said_on_the_page(self) -> None:
+        xml = (TOP / "examples/station.xml").read_text(encoding="utf-8")
+        xml = xml.replace("<connections>", '<connections><crossing id="k" type="doubleSwitchCrossing"/>', 1)
+        page = page_of(["draw", "examples/station.xml"], (TOP / "examples/station.sheet").read_text(),
+                       files={"examples/station.xml": xml.encode()})
+        self.assertIn("k is a double slip in the file; it is drawn as a crossing, without its slips",
+                      fact(page, "What the drawing doesn't show"))
+
+    def test_redraw_says_how_a_drawing_gets_narrower(self) -> None:
+        self.assertIn("A grid little larger than the former drawing gives a narrower one",
+                      words_of(make(sample("redraw_station")).lead))
+
 
 class Hostile(unittest.TestCase):
     NAMES = ["<script>alert(1)</script>", "\"onload='x()'", "</style><img/src=x>", "</script><b>", "]]>&lt;b&gt;",

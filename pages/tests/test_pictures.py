@@ -243,6 +243,14 @@ class Names(unittest.TestCase):
                            "</track></tracks></infrastructure>")
         self.assertEqual((named.label("a"), named.label("t"), named.label("b")), ("North", "1", "b"))
 
+    def test_names_or_ids_are_drawn_as_asked(self) -> None:
+        for labels, due in (("name", ["loop", "home signal"]), ("id", ["track3", "A"])):
+            settings = Settings(labels=labels)
+            pages = [make(run) for run in (example(settings=settings), sample("signals", settings=settings))]
+            found = {text.owner: text.text for page in pages for strip in page.figures[0].picture.strips
+                     for text in drawn.of_strip(strip).texts}
+            self.assertEqual([found["track track3"], found["signal 0"]], due)
+
 
 if __name__ == "__main__":
     unittest.main()

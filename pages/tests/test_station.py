@@ -156,6 +156,13 @@ class Labels(unittest.TestCase):
         self.assertEqual(len(graph_of("loop.xml").nodes), 4)
         self.assertTrue(page_of(["draw", "loop.xml"], (SAMPLES / "lawful.sheet").read_text()).objects)
 
+    def test_a_name_that_two_signals_have_is_no_label(self) -> None:
+        xml = (SAMPLES / "signals.xml").read_text(encoding="utf-8")
+        for id in ("N1", "N2"):
+            xml = xml.replace(f'id="{id}"', f'id="{id}" name="N"')
+        station = station_of(xml, (SAMPLES / "signals.graph").read_text(encoding="utf-8"))
+        self.assertEqual([station.label(it, True) for it in ("N1", "N2", "A")], ["N1", "N2", "home signal"])
+
 
 if __name__ == "__main__":
     unittest.main()

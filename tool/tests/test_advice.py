@@ -61,6 +61,10 @@ class Stopped(unittest.TestCase):
         self.assertIn("as there was no room for more clauses", self.said(*given, said=["end room"]))
         self.assertNotIn("more clauses, ", self.said(*given, said=["end room"]))
 
+    def test_a_drawing_of_which_nothing_is_settled(self):
+        said = self.said("draw", "f", said=["order height width", "values 1 2 3 4", "end conflicts 0"])
+        self.assertIn("was spent. The drawing is lawful, but a better one may exist. Ways on: more clauses, ", said)
+
 
 class Larger(unittest.TestCase):
     def stack(self, count, mileage="5.000000"):
@@ -84,6 +88,15 @@ class Larger(unittest.TestCase):
     def test_more_rows_than_a_grid_has(self):
         self.assertTrue(self.said(self.stack(14)).endswith("and a grid has at most rows 0 to 12. Draw a part of the station"))
         self.assertIn("--height 12", self.said(self.stack(13)))
+
+    def test_one_column_more_than_the_grid_has(self):
+        def row(count):
+            return [f"node {at} n{at} end {at}.000000" for at in range(count + 1)] + \
+                [f"edge {at} t {at} {at + 1}" for at in range(count)]
+        self.assertNotIn("one behind another", self.said(row(40)))
+        said = self.said(row(41))
+        self.assertIn("rows 0 to 8. 41 pieces of track lie one behind another, which takes 41 columns. A larger grid may do: ", said)
+        self.assertTrue(said.endswith("draw f.xml --width 64 --height 12"), said)
 
 
 if __name__ == "__main__":

@@ -8,7 +8,7 @@ import unittest
 from pathlib import Path
 from unittest import mock
 
-from tool import graph_faults, log_faults, running, saying, sheet_faults, telling, text_faults, topology_faults, word_faults, words
+from tool import graph_faults, log_faults, places, running, saying, sheet_faults, telling, text_faults, topology_faults, word_faults, words
 from tool.tests.places import PROGRAM, TOP
 
 sys.path.insert(0, str(TOP / "docs"))
@@ -111,7 +111,7 @@ FURTHER = (
     (edited((b'"ki" ref="rd"', b'"ki" ref="sa"'), (b'"ko" ref="sa"', b'"ko" ref="rd"'), (b'"rd" ref="ki"', b'"rd" ref="ko"'),
             (b'"sa" ref="ko"', b'"sa" ref="ki"'), text=CROSSED),
      "graph SideMismatch", "Either incoming and outgoing are exchanged", "it is joined to the begin of track s"),
-    (FALLING, "graph SideMismatch", "Either the switch lacks an absPos, which it needs where its track's mileage falls; orientation=", ""),
+    (FALLING, "graph SideMismatch", "Either the switch lacks an absPos, which it needs as its track's mileage falls; orientation=", ""),
     (edited((b'id="W1.branch" ref="track4.west"', b'id="W1.branch" ref="elsewhere"'), (JOINED, b"<openEnd/>")), "topology UnknownRef",
      "Give switch W1 a short track there, whose other end has an <openEnd", ""),
     (edited((b'course="left"', b'course="lefft"')), "topology Course", "(did you mean left?)", ""),
@@ -166,6 +166,14 @@ HINTS = {
     "hints Range": (b"railplan-hints 1\ncaps 9 0 0 0\n", "2:1", "cap"),
     "check BadHint": (b"railplan-hints 1\ncaps 1 0 0 0\nl 1 0 1 0\n", "3:1", "hints"),
 }
+
+
+class Excerpts(unittest.TestCase):
+    def test_a_long_line_is_cut_around_the_place(self):
+        at = places.of_byte("f", b"x" * 500 + b"<here>" + b"y" * 500, 500)
+        shown, mark = at.excerpt(False).splitlines()
+        self.assertLess(len(shown), 120)
+        self.assertEqual(shown[mark.index("^")], "<")
 
 
 class Provoked(unittest.TestCase):

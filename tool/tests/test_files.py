@@ -13,7 +13,6 @@ class Looked(unittest.TestCase):
         folder = tempfile.TemporaryDirectory()
         self.addCleanup(folder.cleanup)
         self.top = Path(folder.name)
-        (self.top / "s.xml").write_text("<railml/>")
 
     def look(self, *given, lacking=None):
         """the status and the sentence with which a run is refused, where the rights of one path lack"""

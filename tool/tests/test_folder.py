@@ -32,7 +32,7 @@ esac
 SIDE_BY_SIDE = """#!/bin/sh
 case $1 in draw) ;; *) exit 1 ;; esac
 touch "$HERE/running.$$"
-sleep 0.6
+sleep 2
 ls "$HERE" | grep -c '^running' >> "$HERE/most"
 sleep 0.2
 rm "$HERE/running.$$"
@@ -96,6 +96,7 @@ class Folders(InClone):
         places = [page.index(it) for it in (">refused<", ">a<", ">b<")]
         self.assertEqual(places, sorted(places))
         self.assertIn('<img src="a.svg"', page)
+        self.assertEqual(page.count(">1, 2, 3, 4<"), 2)
         self.assertEqual(self.record("a")["values"], [1, 2, 3, 4])
 
     def test_larger_grids_are_tried(self):
@@ -201,8 +202,8 @@ class Folders(InClone):
         self.stations("a")
         self.write("mine", "<svg mine")
         (self.top / "out").mkdir()
-        for name in ("a.svg", "a.sheet", "index.html"):
-            (self.top / "out" / name).symlink_to("../mine")
+        for name, target in (("a.svg", "../mine"), ("a.sheet", "../mine"), ("index.html", "../mine"), ("a.html", "../nowhere")):
+            (self.top / "out" / name).symlink_to(target)
             with self.subTest(name):
                 status, out, err = self.folder()
                 self.assertEqual(status, 2)
@@ -218,14 +219,18 @@ class Folders(InClone):
                 self.assertEqual(self.folder("--join")[0], 4)
                 self.assertIn("not drawn yet", (self.top / "out/index.html").read_text())
                 (self.top / "out/index.html").unlink()
-            status, out, err = self.folder("--shard", part)
+            status, out, err = self.folder("--shard", part, "--width", "20")
             self.assertEqual((status, out), (0, ""))
             self.assertIn("folder --join in out", err)
             self.assertEqual([it.split()[1] for it in sorted(self.drawn())], [f"in/{name}.xml" for name in names])
             self.assertNotIn("index.html", self.made())
-        self.assertEqual(self.folder("--join")[0], 0)
+        status, out, err = self.folder("--join")
+        self.assertEqual(status, 0)
+        self.assertNotIn("larger grid", err)
         self.assertEqual(self.drawn(), [])
-        self.assertIn("5 best", (self.top / "out/index.html").read_text())
+        page = (self.top / "out/index.html").read_text()
+        self.assertIn("5 best", page)
+        self.assertNotIn("</img", page)
 
     def test_files_of_others_stay(self):
         self.stations("a")

@@ -7,6 +7,7 @@ import unittest
 
 from tool import completions, manual, words
 from tool.tests.clones import InClone
+from tool.tests.places import TOP
 from tool.version import VERSION
 
 
@@ -59,6 +60,21 @@ class Help(InClone):
         status, out, err = self.launch("help", "drow")
         self.assertEqual((status, out), (2, ""))
         self.assertIn("Did you mean", err)
+
+    def test_the_help_says_what_users_lacked(self):
+        for word, said in (("redraw", "A grid little larger than the former drawing gives a narrower one."),
+                           ("redraw", "Its answer is no sheet for verify."),
+                           ("signals", "The lines from `signals` on are no part of the sheet"),
+                           ("check", "trim once and recheck often")):
+            with self.subTest(said):
+                self.assertIn(said, " ".join(manual.of_command(word, "railplan").split()))
+
+
+class Readme(unittest.TestCase):
+    def test_a_page_comes_before_values(self):
+        text = (TOP / "README.md").read_text(encoding="utf-8")
+        listed = ["./railplan --html station.html draw examples/station.xml", "Open `station.html`", "values 2 2 3 7"]
+        self.assertEqual(sorted(listed, key=text.index), listed)
 
 
 class Version(InClone):

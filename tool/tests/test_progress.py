@@ -9,7 +9,7 @@ import unittest
 from pathlib import Path
 from unittest import mock
 
-from tool import progress, words
+from tool import progress, running, words
 from tool.tests.clones import InClone
 from tool.tests.places import PROGRAM, TOP
 
@@ -109,6 +109,15 @@ class Shown(unittest.TestCase):
         for command, said in progress.DOING.items():
             self.assertEqual(self.watch([command]).text(3, 200), f"railplan: {said} · 3 s")
 
+    def test_a_long_check_says_what_trim_saves(self):
+        line = words.read(["check", "f.xml", "s", "l"])
+        for seconds, is_said in ((progress.LONG - 0.1, False), (progress.LONG, True)):
+            ran = running.Ran(0, b"certified 4\n", seconds)
+            with mock.patch("tool.running.run", lambda *given: ran), mock.patch("tool.progress.say") as said:
+                progress.run_watched("p", line)
+            self.assertEqual(said.called, is_said)
+        self.assertIn("trim f.xml s l HINTS once, and recheck of HINTS takes a fraction of it", said.call_args[0][0])
+
 
 class Watched(InClone):
     PROGRAM = """#!/bin/sh
@@ -161,6 +170,15 @@ echo done
                 self.assertEqual(bool(name), has_log)
                 if name:
                     os.unlink(name)
+
+    def test_certificates_are_watched_too(self):
+        for given, doing in ((["check", "one.xml", "s", "l"], "checking the log"),
+                             (["trim", "one.xml", "s", "l", "h"], "trimming the log"),
+                             (["recheck", "one.xml", "s", "h"], "checking the hinted lines")):
+            with self.subTest(given[0]):
+                said, asked = self.watch(*given)
+                self.assertIn(f"railplan: {doing} · 1 s", said)
+                self.assertEqual(asked, " ".join(given))
 
 
 if __name__ == "__main__":
