@@ -11,7 +11,7 @@ import subprocess
 import sys
 import tempfile
 import time
-from dataclasses import asdict, dataclass, field
+from dataclasses import asdict, dataclass, field, replace
 from functools import cache
 from pathlib import Path
 
@@ -116,9 +116,9 @@ def read_record(out: Path, name: str) -> Record | None:
         return None
 
 
-def is_done(record: Record | None, key: str, out: Path) -> bool:
+def is_done(record: Record | None, keys: set[str], out: Path) -> bool:
     """whether what is there was made of the same, and is there still; a refused certificate is tried again"""
-    return record is not None and record.key == key and not record.is_refused() and all((out / it).is_file() for it in record.files)
+    return record is not None and record.key in keys and not record.is_refused() and all((out / it).is_file() for it in record.files)
 
 
 def grids(setting: Setting, chain: int) -> list[tuple[int, int]]:
@@ -224,7 +224,9 @@ def draw(station: Path, name: str, setting: Setting, jobs: Jobs) -> Record:
     """the record of a station; its files are where they belong when the record is"""
     key = key_of(station, setting)
     known = read_record(setting.out, name)
-    if known and is_done(known, key, setting.out):
+    # one with a certificate serves without --certify too, so none is taken away
+    keys = {key, key_of(station, replace(setting, certifies=True))}
+    if known and is_done(known, keys, setting.out):
         return known
     with tempfile.TemporaryDirectory(prefix="railplan-") as folder:
         drawing = Drawing(station, name, setting, jobs, Path(folder))

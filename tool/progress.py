@@ -228,4 +228,4 @@ def tell_stopped(watch: Watch, seconds: float, named: str) -> None:
         notes.show([notes.Note(f"found so far: a drawing; {log.in_words()}. This gives the best drawing found so far: "
                                f"{called()} {shlex.join(asked)} --conflicts {max(1, log.learnt)}")])
     if named and log and log.place:
-        say(f"{named} holds the first {log.place} bytes of a log, which certify nothing")
+        say(f"{named} holds the beginning of a log, which certifies nothing")

@@ -98,7 +98,7 @@ class Stopped(InClone):
         err = job.communicate(timeout=20)[1]
         self.assertIn("found so far: a drawing; height: at most 1 found, looking for 0.", err)
         self.assertIn("railplan draw one.xml --log l --conflicts 2\n", err)
-        self.assertIn("l holds the first ", err)
+        self.assertIn("l holds the beginning of a log, which certifies nothing", err)
 
     def test_a_program_that_is_killed(self):
         job = self.start("draw", "one.xml")

@@ -156,6 +156,10 @@ class Folders(InClone):
         page = (self.top / "out/index.html").read_text()
         self.assertIn(">certified: 2 of 2<", page)
         self.assertIn(">certified: no drawing<", page)
+        self.drawn()
+        self.assertIn("2 with a certificate", self.folder()[2])
+        self.assertEqual(self.drawn(), [])
+        self.assertIn("a.hints", self.made())
 
     def test_a_certificate_that_is_refused(self):
         refusing = PROGRAM.replace("recheck) echo 'certified 2' ;;", "recheck) echo 'check Lacks place 2'; exit 8 ;;")
