@@ -115,7 +115,8 @@ def larger(program: str, line: words.Line, said: list[str]) -> Note:
                     f"column {width}")
     if width < WIDEST or height < HIGHEST:
         options = ["--width", str(WIDEST), "--height", str(HIGHEST)] + (["--least", str(least)] if least > 1 else [])
-        return Note(f"a larger grid may do: {called()} draw {shlex.join([line.names[0], *options])}")
+        return Note(f"this speaks of the grid that was asked for, and need be no fault of the file. A larger grid may do: {called()} "
+                    f"draw {shlex.join([line.names[0], *options])}. Where none lies there either, look at the places that these laws name")
     return Note("no grid is larger. Look at the places that these laws name")
 
 

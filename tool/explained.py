@@ -29,7 +29,6 @@ class Named:
         track, west, east = self.edges[number]
         return f"{track} from {self.nodes[west]} to {self.nodes[east]}"
 
-
     def law(self, number: int, parties: list[tuple[str, str]]) -> str:
         """what a law asks of its parties"""
         names = [self.party(*it) for it in parties]

@@ -244,7 +244,7 @@ def summary(records: list[Record]) -> str:
     """how many stations ended how, how many of them on a larger grid, and how many with a certificate"""
     larger, certified = sum(bool(it.values) and it.is_larger for it in records), folder_index.certified(records)
     said = f"{folder_index.stations(len(records))}: {folder_index.counts(records)}"
-    said += f", {larger} on a larger grid" if larger else ""
+    said += f" ({larger} of them on a larger grid)" if larger else ""
     return said + (f", {certified} with a certificate" if certified else "")
 
 

@@ -98,6 +98,7 @@ def ended(record: Record) -> list[Element | str]:
 def row(record: Record) -> Element:
     kind = {0: "good", 3: "open", 4: "open"}.get(record.status, "fault")
     grid = f"columns 0 to {record.grid[0]}, rows 0 to {record.grid[1]}" if kind != "fault" and record.grid else ""
+    grid += ", larger than asked for" if grid and record.is_larger else ""
     cells = [element("td", link(record)), element("td", *shown(record), class_="drawing"), element("td", *ended(record)),
              element("td", ", ".join(map(str, record.values)), class_="number"), element("td", grid, class_="number"),
              element("td", badge(record)), element("td", f"{record.seconds:.1f} s" if record.seconds else "", class_="number")]

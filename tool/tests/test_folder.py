@@ -105,7 +105,8 @@ class Folders(InClone):
         grids = ["--width 40 --height 8", "--width 64 --height 8", "--width 64 --height 12"]
         self.assertEqual(sorted(self.drawn()), sorted(f"draw in/{name}.xml {it}" for name in ("large", "none") for it in grids))
         self.assertEqual(self.record("large")["grid"], [64, 12])
-        self.assertIn("2 stations: 1 best, 1 no drawing, 1 on a larger grid, in ", self.folder()[2])
+        self.assertIn("2 stations: 1 best, 1 no drawing (1 of them on a larger grid), in ", self.folder()[2])
+        self.assertIn(">columns 0 to 64, rows 0 to 12, larger than asked for<", (self.top / "out/index.html").read_text())
         self.assertNotIn("larger grid", self.folder("--width", "64", "--height", "12")[2])
 
     def test_files_that_are_passed_over(self):
