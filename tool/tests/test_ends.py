@@ -22,6 +22,9 @@ class OwnFaults(unittest.TestCase):
 class Stopped(InClone):
     def setUp(self):
         super().setUp()
+        # these tests may run under nohup, where a lost terminal stops nothing
+        before = signal.signal(signal.SIGHUP, signal.SIG_DFL)
+        self.addCleanup(signal.signal, signal.SIGHUP, before)
         self.script("crates/railplan_main/out/railplan_main", SLOW)
 
     def begun(self):
