@@ -1,7 +1,7 @@
-"""Plain English: how long the sentences of the pages are, words that they don't use, and how much there is to read."""
+"""Plain English: how long the sentences of pages, heads and `///` are, words that they don't use, and how much there is to read."""
 import re
 
-from checking.crates import DOCUMENTS, TOP, read, show
+from checking.crates import DOCUMENTS, TOP, crates, read, show, sources
 
 MOST_WORDS = 20
 WORDS_NOT_USED = ("due", "told", "stands", "is put", "was put", "are put", "were put")
@@ -43,17 +43,52 @@ def too_much():
     return [f"docs: {bytes_by_hand} bytes are written by hand, and {MOST_BYTES} are the most"] * (bytes_by_hand > MOST_BYTES)
 
 
+def words_not_used(text):
+    """The words of the list that a text has outside of its code, each with where it begins and the text without code."""
+    plain = re.sub(r"`[^`]*`", lambda code: "`code`" + "\n" * code.group().count("\n"), text)
+    found = [(place.start(), word, plain) for word in WORDS_NOT_USED
+             for place in re.finditer(rf"(?<![`\w]){word.replace(' ', chr(92) + 's+')}(?![`\w])", plain, re.I)]
+    return sorted(found)
+
+
+def comments_of(path, mark):
+    """A file's blocks of comment lines with this mark, each with the number of its first line."""
+    found, inside = [], False
+    for number, line in enumerate(read(path).splitlines(), 1):
+        comment = line.strip()
+        if not comment.startswith(mark):
+            inside = False
+            continue
+        if not inside:
+            found.append((number, []))
+        found[-1][1].append(comment[len(mark):].strip())
+        inside = True
+    return [(number, "\n".join(lines)) for number, lines in found]
+
+
+def comment_failures():
+    """The crates whose heads (`//!`) or `///` have sentences that are too long, and the words that they don't use."""
+    found = []
+    for crate in crates():
+        for mark, name in (("//!", "heads"), ("///", "`///`")):
+            blocks = [(path, number, text) for path in sources(crate) for number, text in comments_of(path, mark)]
+            count = words_a_sentence("\n\n".join(text for _, _, text in blocks))
+            if count > MOST_WORDS:
+                found.append(f"crates/{crate}: {count:.5g} words a sentence in {name}, and {MOST_WORDS} are the most")
+            found += [f"{show(path)}:{number + plain[:start].count(chr(10))}: the word `{word}`"
+                      for path, number, text in blocks for start, word, plain in words_not_used(text)]
+    return found
+
+
 def all_failures():
-    found = too_much()
+    found = too_much() + comment_failures()
     for path in pages():
         text = read(path)
         most_words, most_lines, most_bytes = OWN_BOUNDS.get(path, (None, None, None))
         counts = [(words_a_sentence(text), most_words or MOST_WORDS, "words a sentence")]
         counts += [(len(text.splitlines()), most_lines, "lines"), (len(text.encode()), most_bytes, "bytes")]
         found += [f"{show(path)}: {count:.5g} {unit}, and {most} are the most" for count, most, unit in counts if most and count > most]
-        prose = "\n".join(prose_of(text))
-        for word in WORDS_NOT_USED:
-            for place in re.finditer(rf"(?<![`\w]){word}(?![`\w])", re.sub(r"`[^`]*`", "`code`", prose), re.I):
-                around = prose[max(0, place.start() - 30):place.end() + 20].replace("\n", " ")
-                found.append(f"{show(path)}: the word `{word}` in `{around}`")
+        for start, word, plain in words_not_used("\n".join(prose_of(text))):
+            around = plain[max(0, start - 30):start + len(word) + 20].replace("\n", " ")
+            found.append(f"{show(path)}: the word `{word}` in `{around}`")
     return found
