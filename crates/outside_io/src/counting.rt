@@ -2,7 +2,7 @@
 ghost use Rattle.std.specs.Prelude.{◌≡◌};
 ghost use Rattle.outside_io.specs.Counts.{IsCount, next_count};
 
-/// How often something happened. It never falls, and stands still at its end.
+/// How often something happened. It never falls. At its end it stays there.
 #[derive(Drop)]
 pub struct Count {
     pub value: u64,

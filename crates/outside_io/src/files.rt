@@ -65,8 +65,8 @@ pub trait Files {
         ensures reads_err { OnErr result ((at self.new).reads ≡ (at self.old).reads) }
         ensures write_faults { (at self.new).write_faults ≡ (at self.old).write_faults };
 
-    /// Leaves an empty file under the name, whether it was there or not. After an error the file
-    /// stands as it stood, or is there and empty. No other file is changed.
+    /// Leaves an empty file under the name, whether it was there or not. After an error the file is as it was, or is
+    /// there and empty. No other file is changed.
     fn create(&mut self, name: &str) -> Result<(), FileFault>
         ensures ok { OnOk result (WhereTold (at self.old).contents (at self.new).contents (Creates name.now)) }
         ensures err { OnErr result (WhereTold (at self.old).contents (at self.new).contents (MayCreate name.now)) }
@@ -75,8 +75,8 @@ pub trait Files {
         ensures read_faults { (at self.new).read_faults ≡ (at self.old).read_faults }
         ensures reads { (at self.new).reads ≡ (at self.old).reads };
 
-    /// Adds the bytes at the end of the file. A name that isn't there is a fault. After an error some
-    /// of the bytes may stand there, from the first on. No other file is changed.
+    /// Adds the bytes at the end of the file. A name that isn't there is a fault. After an error some of the bytes
+    /// may be there, from the first on. No other file is changed.
     fn append(&mut self, name: &str, bytes: &[u8]) -> Result<(), FileFault>
         ensures ok { OnOk result (WhereTold (at self.old).contents (at self.new).contents
             (AppendsTo name.now bytes.now)) }
@@ -91,8 +91,8 @@ pub trait Files {
     ghost counts_end: { (s : Self) → IsCount (at s).read_faults × IsCount (at s).write_faults × IsCount (at s).reads };
 }
 
-/// Leaves a file of these bytes under the name, whether it was there or not. After an error the file stands as it
-/// stood, or has some of the bytes, from the first on. No other file is changed.
+/// Leaves a file of these bytes under the name, whether it was there or not. After an error the file is as it was, or
+/// has some of the bytes, from the first on. No other file is changed.
 pub fn write_file<F: Files>(files: &mut F, name: &str, bytes: &[u8]) -> Result<(), FileFault>
     ensures ok { OnOk result (WhereTold (F.at files.old).contents (F.at files.new).contents (Sets name.now bytes.now)) }
     ensures err { OnErr result (WhereTold (F.at files.old).contents (F.at files.new).contents

@@ -1,15 +1,16 @@
 //! The files that a run reads and writes, the sink of its answer, and the lines of fields that every text is made of.
 //!
-//! `Files` and `Sink` are traits. Their ghost members say what each name holds and what a sink was given, known or not,
-//! and count faults: a call may answer that it failed only where its count rose. `specs/Contents` says what a call does
-//! to files, `specs/Given` what a put does to a sink, `specs/Counts` how counts rise. `MemoryFiles` and `MemorySink`
-//! fail at calls of given numbers, `SureFiles` and `SureSink` never. `HostFiles` and `HostOut` are the edge to the
-//! system: no proof can say what a system does, so their contents aren't known.
+//! `Files` and `Sink` are traits. Their ghost members say what each name holds and what a sink was given, known or
+//! not. They count faults too: a call may answer that it failed only where its count rose. `specs/Contents` says what
+//! a call does to files, `specs/Given` what a put does to a sink, `specs/Counts` how counts rise. `MemoryFiles` and
+//! `MemorySink` fail at calls of given numbers, `SureFiles` and `SureSink` never. `HostFiles` and `HostOut` are the
+//! edge to the system. No proof can say what a system does, so their contents aren't known. A further place to read
+//! from or write to is a further implementation of these traits.
 //!
-//! A line ends with a line feed; one space parts its fields. `cutting` cuts bytes into lines and fields, `numbers`
-//! reads and writes decimals, `criteria` the words of the criteria, `appending` joins fields. `specs/Fields`,
-//! `specs/Numbers` and `specs/Criteria` define them. Reading takes no memory. Every crate that reads, writes or prints
-//! uses this one.
+//! A line ends with a line feed; one space parts its fields. `cutting` cuts bytes into lines and fields. `numbers`
+//! reads and writes decimals, `criteria` the words of the criteria. `appending` joins fields. `specs/Fields`,
+//! `specs/Numbers` and `specs/Criteria` define them. Reading takes no memory. Every crate that reads, writes or
+//! prints uses this one.
 #![tactic(auto)]
 
 mod appending;

@@ -24,8 +24,7 @@ pub struct MemoryFiles {
 }
 
 impl MemoryFiles {
-    /// No file is there. Calls of the trait `Files` are numbered from 1 on, and those whose number
-    /// stands in `fail` fail.
+    /// No file is there. Calls of the trait `Files` are numbered from 1 on, and those whose number is in `fail` fail.
     pub fn new(alloc: Global, fail: &[u32]) -> Result<Self, OutOfMemory>
         ensures contents { IfOk result (λ s. (⟦<MemoryFiles as Files>⟧.at s).contents ≡ Some (λ _. None)) }
         ensures read_faults { IfOk result (λ s. (⟦<MemoryFiles as Files>⟧.at s).read_faults ≡ 0) }
@@ -42,8 +41,8 @@ impl MemoryFiles {
         })
     }
 
-    /// Sets the bytes under the name, whether it was there or not. It isn't a call of the trait, so
-    /// no number stands for it, and no fault can come of it.
+    /// Sets the bytes under the name, whether it was there or not. It isn't a call of the trait, so it has no number,
+    /// and no fault can come of it.
     pub fn add(&mut self, name: &str, bytes: &[u8]) -> Result<(), OutOfMemory>
         ensures ok { OnOk result (WhereTold (⟦<MemoryFiles as Files>⟧.at self.old).contents
             (⟦<MemoryFiles as Files>⟧.at self.new).contents (Sets name.now bytes.now)) }
@@ -78,7 +77,7 @@ impl Files for MemoryFiles {
 
     ghost counts_end = { λ s. (s.read_faults.in_range, s.write_faults.in_range, s.reads.in_range) };
 
-    /// Fails exactly where the call's number stands in the list or the name isn't there.
+    /// Fails exactly where the call's number is in the list or the name isn't there.
     fn read_front(&mut self, name: &str, limit: usize, into: &mut Vec<u8>) -> Result<(), FileFault>
         requires { 1 ≤ limit }
         ensures ok { OnOk result
@@ -98,7 +97,7 @@ impl Files for MemoryFiles {
         Ok(())
     }
 
-    /// Fails exactly where the call's number stands in the list.
+    /// Fails exactly where the call's number is in the list.
     fn create(&mut self, name: &str) -> Result<(), FileFault>
         ensures ok { OnOk result (Creates name.now (files_told self.old) (files_told self.new)) }
         ensures err { OnErr result (MayCreate name.now (files_told self.old) (files_told self.new)) }
@@ -114,7 +113,7 @@ impl Files for MemoryFiles {
         Ok(())
     }
 
-    /// Fails exactly where the call's number stands in the list or the name isn't there.
+    /// Fails exactly where the call's number is in the list or the name isn't there.
     fn append(&mut self, name: &str, bytes: &[u8]) -> Result<(), FileFault>
         ensures ok { OnOk result (AppendsTo name.now bytes.now (files_told self.old) (files_told self.new)) }
         ensures err { OnErr result (MayAppendTo name.now bytes.now (files_told self.old) (files_told self.new)) }

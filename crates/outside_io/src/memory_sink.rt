@@ -19,8 +19,7 @@ pub struct MemorySink {
 }
 
 impl MemorySink {
-    /// A sink that was given nothing yet. Puts are numbered from 1 on, and those whose number stands in
-    /// `fail` fail.
+    /// A sink that was given nothing yet. Puts are numbered from 1 on, and those whose number is in `fail` fail.
     pub fn new(alloc: Global, fail: &[u32]) -> Result<Self, OutOfMemory>
         ensures given { IfOk result (λ s. ⟦<MemorySink as Sink>⟧.given s ≡ Some []) }
         ensures faults { IfOk result (λ s. ⟦<MemorySink as Sink>⟧.faults s ≡ 0) }
@@ -48,7 +47,7 @@ impl Sink for MemorySink {
 
     ghost count_ends = { λ s. s.faults.in_range };
 
-    /// Fails exactly where the call's number stands in the list.
+    /// Fails exactly where the call's number is in the list.
     fn put(&mut self, bytes: &[u8]) -> Result<(), SinkFault>
         ensures ok { OnOk result (sink_bytes self.new ≡ sink_bytes self.old ++ bytes.now) }
         ensures err { OnErr result (AppendsPrefix (Some (sink_bytes self.old)) (Some (sink_bytes self.new)) bytes.now) }

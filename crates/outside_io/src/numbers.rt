@@ -49,8 +49,8 @@ pub fn read_long_number(field: &[u8], least: u64, greatest: u64) -> Option<u64>
     }
 }
 
-/// The number of 32 bits that the field is the decimal of, without a sign and without a zero in front, if it is one
-/// from `least` to `greatest`.
+/// The number of 32 bits whose decimal the field is, if it is one from `least` to `greatest`. It has no sign and no
+/// zero in front.
 pub fn read_number(field: &[u8], least: u32, greatest: u32) -> Option<u32>
     ensures { MatchOption result ((n : ℕ) → IsNumberIn least greatest field.now n → ⊥)
         (IsNumberIn least greatest field.now) }

@@ -45,8 +45,8 @@ impl From<OutOfMemory> for SinkFault {
     }
 }
 
-/// A place that bytes are put to, one after the other. What a clause says of them holds where the
-/// sink tells what it was given. A clause on an error holds for both errors.
+/// A place that takes bytes, one after the other. What a clause says of them holds where the sink tells what it was
+/// given. A clause on an error holds for both errors.
 pub trait Sink {
     /// The bytes put so far, where the sink tells them.
     ghost given: { Self → Option (List ℕ) };

@@ -12,8 +12,8 @@ use std::io::{self, ErrorKind, Read, Write};
 /// How many bytes one read asks for at most.
 const PIECE: usize = 65_536;
 
-/// Reads from where the source stands to its end, but no more than `limit` bytes, and appends to
-/// `into` what came. `Failed` where a read failed; `into` then has what came before.
+/// Reads from where the source is to its end, but no more than `limit` bytes, and appends to `into` what came.
+/// `Failed` where a read failed; `into` then has what came before.
 pub fn read_up_to<S: Read>(
     source: &mut S,
     limit: usize,

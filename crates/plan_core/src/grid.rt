@@ -5,8 +5,8 @@ ghost use Rattle.plan_core.specs.Grid.{IsGrid, grid_size, grid_with};
 use crate::{MAX_HEIGHT, MAX_LEAST, MAX_WIDTH};
 use std::marker::Model;
 
-/// A grid of 1 to 64 columns beside column 0, and of 0 to 12 rows above row 0, and over how many columns each
-/// edge goes at the least, 1 to 16.
+/// A grid: 1 to 64 columns beside column 0, and 0 to 12 rows above row 0. It says too over how many columns each edge
+/// goes at the least, 1 to 16.
 #[derive(Clone, Copy, Debug, PartialEq, Eq)]
 pub struct Grid {
     width: u16,

@@ -12,14 +12,14 @@ fn is_id_character(c: char) -> bool
     c > ' ' && (c < '\u{7f}' || c > '\u{a0}')
 }
 
-/// Whether each character of a text may stand in an id.
+/// Whether each character of a text may be in an id.
 fn has_id_characters(text: &str) -> bool
     ensures { result ≡ list_all id_character (chars text.now) }
 {
     text.chars().all(|c| is_id_character(c))
 }
 
-/// Whether a text is an id as a file may have it: 1 to 64 bytes of characters that may stand in one.
+/// Whether a text is an id as a file may have it: 1 to 64 bytes of characters that may be in one.
 #[tactic(auto, using(crate::proofs::CharacterLemmas::characters_told, crate::proofs::CharacterLemmas::characters_tell))]
 pub fn is_id(text: &str) -> bool
     ensures { IsTrue result ↔ IsId text.now }

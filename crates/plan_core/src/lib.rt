@@ -1,13 +1,19 @@
 //! The words that every crate of railplan shares, and what a lawful drawing is.
 //!
-//! `src/` has the limits, the numbers, the grid, the order of criteria, texts and lists, and the rows of a
-//! topology. `specs/` has the definitions that the whole product is judged by, over plain lists:
-//! `Graph` (nodes, edges and ports), `Line` (the eleven shapes), `Drawing`, `Laws` (each law's
-//! sentence for its parties), `Lawful` (all laws for all parties), `Values` (what a drawing measures,
-//! and which of two is better) and `Topology` (what was resolved from a file). Of these, `Examples`,
-//! `Breaches` and `Readings` have examples and other words; `cases_text` states what holds of them.
-//! `docs/definitions.md` states each definition in plain words.
-//! Every other crate stands on this one, and it stands on none.
+//! `src/` has the limits, the numbers, the grid and the order of criteria. It has texts, lists and the rows of a
+//! topology too. `specs/` has the definitions by which the whole product is judged. They speak of plain lists.
+//! `Graph` has nodes, edges and ports, `Line` the eleven shapes. `Laws` has each law's sentence for its parties,
+//! `Lawful` all laws for all parties of a `Drawing`. `Values` says what a drawing measures, and which of two is
+//! better. `Topology` says what was resolved from a file. `Examples`, `Breaches` and `Readings` have examples of
+//! these, and other words for them; `cases_text` states what holds of them. `docs/definitions.md` says each
+//! definition in plain words.
+//!
+//! `proofs/` has what crates above cite. `ListFacts`, `Listing`, `PlaceFacts`, `OptionFacts` and `TruthFacts` are on
+//! lists, places of a topology, options and tests. `ExactlyLemmas`, `SearchLemmas` and `OrderLemmas` are on exact
+//! answers, on the first of a list and on criteria. `LineLemmas`, `PieceLemmas`, `JoinLemmas`, `DiagonalLemmas`,
+//! `LimitLemmas` and `BetterLemmas` are on lines and values. `LawTests` and `Deciding` have a test of each law.
+//!
+//! Every other crate uses this one. It uses none of them.
 #![tactic(auto)]
 
 mod criterion;

@@ -24,14 +24,14 @@ impl Model for Order {
     ghost invariant = { λ o. IsOrder o.list.items };
 }
 
-/// Whether the criterion stands in the list.
+/// Whether the criterion is in the list.
 fn stands_in(c: Criterion, list: &[Criterion]) -> bool
     ensures { IsTrue result ↔ Contains list.now c }
 {
     list.iter().any(|d| *d == c)
 }
 
-/// Whether no criterion stands twice.
+/// Whether no criterion is there twice.
 fn are_distinct(list: &[Criterion]) -> bool
     ensures { IsTrue result ↔ AllPairs (λ c d. c ≢ d) list.now }
 {
@@ -44,7 +44,7 @@ fn are_distinct(list: &[Criterion]) -> bool
 }
 
 impl Order {
-    /// The order of these criteria, or `None` exactly where there is none or one stands twice.
+    /// The order of these criteria, or `None` exactly where there is none or one is there twice.
     pub fn new(list: &[Criterion]) -> Option<Order>
         ensures { SomeIff result (IsOrder list.now) list.now }
     {

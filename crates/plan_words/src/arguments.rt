@@ -5,7 +5,7 @@ ghost use Rattle.plan_words.specs.Arguments.{is_option as begins_option, texts_o
 use plan_core::{OutOfMemory, Text};
 use std::alloc::Global;
 
-/// What stands behind the command. Each position is that of a word, counted from 1 at the command.
+/// What follows the command. Each position is that of a word, counted from 1 at the command.
 #[derive(Drop)]
 pub(crate) enum Argument {
     /// A name.
@@ -44,7 +44,7 @@ fn split_value(alloc: Global, words: &[String]) -> Result<(Option<Text>, &[Strin
     }
 }
 
-/// The names and options of the words, the first of which stands at position 2.
+/// The names and options of the words, the first of which is at position 2.
 pub(crate) fn arguments_in(alloc: Global, words: &[String]) -> Result<Vec<Argument>, OutOfMemory>
     ensures { IfOk result (λ list. list.items ≡ arguments_from 2 (texts_of words.now)) }
 {

@@ -64,8 +64,8 @@ impl CommandWord {
 /// What the program is asked to do. Each text is a file's name.
 #[derive(Drop)]
 pub enum Command {
-    /// Draws the railML file `input` on the grid, best in the order, with at most so many learnt
-    /// clauses as the budget says; writes a picture and a log where names are given for them.
+    /// Draws the railML file `input` on the grid, best in the order. The budget says how many learnt clauses it may
+    /// have at most. It writes a picture and a log where names are given for them.
     Draw {
         input: Text,
         grid: Grid,
@@ -97,8 +97,8 @@ pub enum Command {
     Trial {
         n: u32,
     },
-    /// Draws `input` as `Draw` does, with each edge as long at least as the most signals of one need, and says where
-    /// the signals stand on the drawing. There is no picture, and the grid's least length is 1 until the signals are
+    /// Draws `input` as `Draw` does, and says where the signals are on the drawing. Each edge is as long at least as
+    /// the most signals of one need. There is no picture, and the grid's least length is 1 until the signals are
     /// read.
     Signals {
         input: Text,
@@ -107,9 +107,9 @@ pub enum Command {
         budget: u32,
         log: Option<Text>,
     },
-    /// Finds each pair of values of the two criteria that lawful drawings of `input` on the grid have, and of which
-    /// none has less in one without more in the other, with at most so many learnt clauses as the budget says. The
-    /// criteria differ.
+    /// Finds each pair of values of the two criteria that lawful drawings of `input` on the grid have, without those
+    /// that another beats: less in one and not more in the other. The budget says how many learnt clauses it may have
+    /// at most. The criteria differ.
     Front {
         input: Text,
         first: Criterion,
@@ -117,9 +117,9 @@ pub enum Command {
         grid: Grid,
         budget: u32,
     },
-    /// Draws `input` on the grid with as few nodes as can be at other points than in the drawing of `sheet`, which is
-    /// one of the railML file `former`, with at most so many learnt clauses as the budget says; writes a log where a
-    /// name is given for it.
+    /// Draws `input` on the grid with as few nodes as can be at other points than in the drawing of `sheet`. That
+    /// drawing is one of the railML file `former`. The budget says how many learnt clauses it may have at most. It
+    /// writes a log where a name is given for it.
     Redraw {
         input: Text,
         former: Text,
@@ -128,15 +128,15 @@ pub enum Command {
         budget: u32,
         log: Option<Text>,
     },
-    /// Finds laws that say why `input` has no lawful drawing on the grid, or a lawful drawing, with at most so many
-    /// learnt clauses as the budget says.
+    /// Finds laws that say why `input` has no lawful drawing on the grid, or a lawful drawing. The budget says how
+    /// many learnt clauses it may have at most.
     Explain {
         input: Text,
         grid: Grid,
         budget: u32,
     },
-    /// Decides as `Check` does; where `log` certifies what `sheet` claims of `input`, writes those of its lines that
-    /// certify it, with their hints, into the file `hints`.
+    /// Decides as `Check` does. Where `log` certifies what `sheet` claims of `input`, it writes those of its lines
+    /// that certify it, with their hints, into the file `hints`.
     Trim {
         input: Text,
         sheet: Text,

@@ -11,7 +11,7 @@ use crate::command::CommandWord;
 use plan_core::{OutOfMemory, Text};
 use std::alloc::Global;
 
-/// A word that names a file, and where it stands, counted from 1 at the command.
+/// A word that names a file, and where it is, counted from 1 at the command.
 #[derive(Drop)]
 pub(crate) struct FileWord {
     pub(crate) position: u32,

@@ -1,13 +1,13 @@
 //! The words of the command line: which command they ask for, or which fault they have.
 //!
-//! `read_words` answers the command, or the one fault that counts. `specs/Arguments` says how words
-//! are cut into names and options with their values, `specs/OptionValues` which values are allowed,
-//! `specs/WordFaults` what each fault is and which one counts, and `specs/Words` which command words
-//! without a fault ask for. `specs/Soundness` is what code keeps from left to right, for private
-//! contracts alone. `laws` says that words have one answer.
+//! `read_words` answers the command, or the one fault that counts. `specs/Arguments` says how words are cut into
+//! names and options with their values. `specs/OptionValues` says which values are allowed. `specs/WordFaults` says
+//! what each fault is and which one counts. `specs/Words` says which command words without a fault ask for.
+//! `specs/Soundness` is what code keeps from left to right, for private contracts alone. `laws` says that words have
+//! one answer.
 //!
-//! The crate stands on `plan_core`, for grids, orders and texts, and on `outside_io`, for numbers and the
-//! words of criteria. It is made for the program.
+//! The crate uses `plan_core` for grids, orders and texts, and `outside_io` for numbers and the words of criteria. It
+//! is made for the program.
 #![tactic(auto)]
 
 mod arguments;

@@ -53,12 +53,12 @@ fn read_line(alloc: Global, words: &[String]) -> Result<Command, WordFault>
     }
 }
 
-/// The command that the words ask for, or the one fault of them that counts. The words are those of
-/// the command line, without the program's own name.
+/// The command that the words ask for, or the one fault of them that counts. The words are those of the command line,
+/// without the program's own name.
 ///
-/// Positions count from 1 at the command. The leftmost fault of a name or an option counts; where
-/// there is none, that a name is missing; and then that a file which is written, of `draw`, `signals`, `redraw` or
-/// `trim`, has the name of another.
+/// Positions count from 1 at the command. The leftmost fault of a name or an option counts. Where there is none, a
+/// missing name counts. Where no name is missing, it counts that a file which is written has the name of another, for
+/// `draw`, `signals`, `redraw` or `trim`.
 pub fn read_words(alloc: Global, words: &[String]) -> Result<Command, WordFault>
     ensures { AnswersExactly result WordFault.Memory (IsCommandOf (texts_of words.now))
         (IsWordFault (texts_of words.now)) }
