@@ -44,7 +44,7 @@ fn split_digits(text: &[u8]) -> (&[u8], &[u8])
     (&text[..text.len() - rest.len()], rest)
 }
 
-/// Whether a minus stands at the front, and what follows the sign, if any.
+/// Whether a minus is at the front, and what follows the sign, if any.
 fn split_sign(text: &[u8]) -> (bool, &[u8])
     ensures sign { result.0 ≡ is_minus (sign_at text.now) }
     ensures rest { result.1.now ≡ past_sign text.now }
@@ -120,9 +120,9 @@ fn read_parts(text: &[u8]) -> Option<Micro>
     Some(Micro(signed(negative, size_in(whole, fraction))))
 }
 
-/// The mileage in micrometres that a text gives in metres, or `None` exactly where the text is no
-/// number of metres: white space around it, a sign or none, up to nine digits, and a point with up to
-/// six digits or none, with at least one digit in all. It takes no memory.
+/// The mileage in micrometres that a text gives in metres, or `None` exactly where the text is no number of metres.
+/// Such a number may have white space around it, and a sign. It has up to nine digits, and then it may have a point
+/// with up to six digits. It has at least one digit in all. Reading takes no memory.
 pub fn read_metres(text: &[u8]) -> Option<Micro>
     ensures reads { (parts : MetresParts) → IsMetres text.now parts → result ≡ Some (mileage_told parts) }
     ensures only { IfSome result (λ m. (parts : MetresParts) × IsMetres text.now parts × (m ≡ mileage_told parts)) }

@@ -8,31 +8,30 @@ ghost use Rattle.railml_faults.specs.Faults.{number_of, word_of};
 pub enum TopologyWhat {
     /// There is no track.
     NoTracks,
-    /// There are more than 128 tracks; told of the 129th.
+    /// There are more than 128 tracks. The place is that of the 129th.
     TooMany,
-    /// A required attribute is missing; told with its name.
+    /// A required attribute is missing. The text is its name.
     Missing,
     /// An id is too short, too long, or has a character that none may have.
     Id,
-    /// An id stands at an earlier element too; told with the id.
+    /// An earlier element has the id too. The text is the id.
     RepeatedId,
-    /// A `pos` or an `absPos` is no number of metres; told with the element's id and the attribute's
-    /// name.
+    /// A `pos` or an `absPos` is no number of metres. The texts are the element's id and the attribute's name.
     Number,
-    /// A connection refers to no connection; told with its id.
+    /// A connection refers to no connection. The text is its id.
     UnknownRef,
-    /// A connection refers to one that refers to another; told with both ids.
+    /// A connection refers to one that refers to another. The texts are both ids.
     NotMutual,
-    /// A connection refers to itself; told with its id.
+    /// A connection refers to itself. The text is its id.
     SelfRef,
-    /// A track, a begin, an end, a switch or a crossing lacks one of its parts, or has one too many;
-    /// told with its id.
+    /// A track, a begin, an end, a switch or a crossing lacks one of its parts, or has one too many. The text is its
+    /// id.
     EndKind,
-    /// A course is none that its connection may have; told with the connection's id.
+    /// A course is none that its connection may have. The text is the connection's id.
     Course,
-    /// An orientation is neither `incoming` nor `outgoing`; told with the connection's id.
+    /// An orientation is neither `incoming` nor `outgoing`. The text is the connection's id.
     Orientation,
-    /// An end, a switch or a crossing lies outside of its track; told with its id.
+    /// An end, a switch or a crossing lies outside of its track. The text is its id.
     OutsideTrack,
 }
 

@@ -38,15 +38,15 @@ const IN_ORDER: [TopologyWhat; 13] = [
     TopologyWhat::OutsideTrack,
 ];
 
-/// A fault, and the number of the row that it is told of.
+/// A fault, and the number of the row that has it.
 #[derive(Clone, Copy, Debug, PartialEq, Eq)]
 pub(crate) struct Finding {
     pub(crate) what: TopologyWhat,
     pub(crate) row: usize,
 }
 
-/// The first row that has a fault of this kind, where no row has one of a kind before it. That there is
-/// no track is told of no row.
+/// The first row that has a fault of this kind, where no row has one of a kind before it. That there is no track is a
+/// fault of no row.
 fn first_with(
     alloc: Global,
     rows: &[Elem],
@@ -75,7 +75,7 @@ fn first_with(
     }
 }
 
-/// The first fault that is told of a row.
+/// The first fault of a row.
 pub(crate) fn first_finding(
     alloc: Global,
     rows: &[Elem],

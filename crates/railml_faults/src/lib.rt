@@ -1,13 +1,13 @@
 //! What is wrong with a document's rows: the first of their faults, or that they have none.
 //!
-//! Thirteen things can be wrong with rows. `specs/Rows` has the words that all speak in (a row's
-//! children, ids, attributes and positions), and `specs/Faults` says of each of the thirteen exactly
-//! where it holds and which texts are told with it; the fault that is told is the first by kind and
-//! then by place. `first_fault` answers it, by tables that are made of the rows once: `specs/Tables` says
-//! what they hold, and `specs/Telling` what is told. `specs/Ids` is for private contracts alone.
+//! Thirteen things can be wrong with rows. `specs/Rows` has the words that all speak in: a row's children, ids,
+//! attributes and positions. `specs/Faults` says of each of the thirteen exactly where it holds, and which texts its
+//! fault has. The first by kind, and then by place, is the one that counts. `first_fault` answers it, by tables that
+//! are made of the rows once. `specs/Tables` says what they hold, `specs/Telling` what the answer has. `specs/Ids` is
+//! for private contracts alone.
 //!
-//! It stands on `railml_read`, which gives the rows, and on `rail_mileage`, which reads positions and
-//! mileages; `railml_topology` builds the topology of rows without a fault.
+//! The crate uses `railml_read`, which gives the rows, and `rail_mileage`, which reads positions and mileages.
+//! `railml_topology` builds the topology of rows without a fault.
 #![tactic(auto)]
 
 mod attributes;

@@ -10,8 +10,9 @@ use plan_core::{Micro, OutOfMemory};
 use railml_read::{Elem, ElemKind};
 use std::alloc::Global;
 
-/// Tables with an entry for each row: its children, its only topology, begin, end and connection if it
-/// has just one, the connection that it refers to, each by its row's number, and its position in micrometres.
+/// Tables with an entry for each row. They have its children, and its only topology, begin, end and connection, if it
+/// has just one. They have the connection that it refers to. Each of these is a row's number. They have the row's
+/// position too, in micrometres.
 #[derive(Drop)]
 pub struct Tables {
     pub children: Vec<Vec<u32>>,

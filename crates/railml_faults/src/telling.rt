@@ -17,8 +17,8 @@ use plan_core::{OutOfMemory, Text};
 use railml_read::Elem;
 use std::alloc::Global;
 
-/// A fault with the place and the texts that are told. `at` is the byte of the start tag that it is told of,
-/// 0 where there is no track, and the texts are those that its kind tells, empty where it tells none.
+/// A fault with its place and its texts. `at` is the byte of the start tag that has the fault, 0 where there is no
+/// track. The texts are those of the fault's kind, empty where the kind has none.
 #[derive(Drop)]
 pub struct Told {
     pub what: TopologyWhat,
@@ -27,7 +27,7 @@ pub struct Told {
     pub second: Text,
 }
 
-/// The text that is told first of a row with this fault.
+/// The first text of a row's fault.
 fn first_text<'a>(rows: &[Elem], row: &'a Elem, what: TopologyWhat) -> &'a str
     ensures { result.now ≡ first_told rows.now row.now what }
 {
@@ -41,7 +41,7 @@ fn first_text<'a>(rows: &[Elem], row: &'a Elem, what: TopologyWhat) -> &'a str
     }
 }
 
-/// The text that is told second of a row with this fault.
+/// The second text of a row's fault.
 fn second_text(row: &Elem, what: TopologyWhat) -> &str
     ensures { IsSecond row.now what result.now }
 {
@@ -65,7 +65,7 @@ fn copy(alloc: Global, text: &str) -> Result<Text, OutOfMemory>
     Ok(Text::from_string(String::from_str(alloc, text)?))
 }
 
-/// What is told of a fault that was found.
+/// A fault that was found, with its place and its texts.
 fn tell(alloc: Global, rows: &[Elem], found: Finding) -> Result<Told, OutOfMemory>
     requires { IsFindingOf rows.now found }
     ensures { IfOk result (λ told. IsToldOf rows.now found told) }
@@ -81,7 +81,7 @@ fn tell(alloc: Global, rows: &[Elem], found: Finding) -> Result<Told, OutOfMemor
     })
 }
 
-/// What is told where there is no track.
+/// The fault where there is no track.
 fn no_tracks(alloc: Global) -> Result<Told, OutOfMemory>
     ensures { IfOk result TellsNoTracks }
 {

@@ -5,8 +5,8 @@ ghost use Rattle.railml_read.specs.Contexts.{below_selected as context_below_sel
 
 use crate::ElemKind;
 
-/// Where an element stands: outside of the root, at the root `railml`, at an element of the paths that
-/// gives no row, at a signal, at an element that gives a row, or off the paths, where everything is skipped.
+/// Where an element is. It is outside of the root, at the root `railml`, or at an element of the paths that gives no
+/// row. It is at a signal, at an element that gives a row, or off the paths, where everything is skipped.
 #[derive(Clone, Copy, Debug, PartialEq, Eq)]
 pub(crate) enum Context {
     Outside,
@@ -21,7 +21,7 @@ pub(crate) enum Context {
     Skipped,
 }
 
-/// Where a child of this name stands below a track's begin or end.
+/// Where a child of this name is below a track's begin or end.
 fn below_end(name: &str) -> Context
     ensures { result ≡ context_below_end name.now }
 {
@@ -34,7 +34,7 @@ fn below_end(name: &str) -> Context
     }
 }
 
-/// Where a child of this name stands below a selected element.
+/// Where a child of this name is below a selected element.
 fn below_selected(kind: ElemKind, name: &str) -> Context
     ensures { result ≡ context_below_selected kind name.now }
 {
@@ -52,7 +52,7 @@ fn below_selected(kind: ElemKind, name: &str) -> Context
     }
 }
 
-/// Where an element of this name stands whose parent stands here.
+/// Where an element of this name is whose parent is here.
 pub(crate) fn below(context: Context, name: &str) -> Context
     ensures { result ≡ context_below context name.now }
 {

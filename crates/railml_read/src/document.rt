@@ -142,9 +142,9 @@ fn signals_or_fault(alloc: Global, bytes: &[u8]) -> Result<SignalRows, ReadFault
 
 /// The rows of the document's selected elements, or the fault of its text.
 ///
-/// The text is cut into items from left to right, and the fault is that of the first item that has
-/// one. `NotUtf8` comes before all others, at the length of the longest front that is UTF-8;
-/// `Unfinished` of the whole text and `NoInfrastructure` come after all items, at its length.
+/// The text is cut into items from left to right, and the fault is that of the first item that has one. `NotUtf8`
+/// comes before all others, at the length of the longest front that is UTF-8. `Unfinished` of the whole text and
+/// `NoInfrastructure` come after all items, at the text's length.
 pub fn read(alloc: Global, bytes: &[u8]) -> Result<Records, ReadFault>
     requires { length bytes.now ≤ MAX_FILE_BYTES }
     ensures answers { AnswersExactly result ReadFault.Memory (GivesRows bytes.now) (IsReadFault bytes.now) }

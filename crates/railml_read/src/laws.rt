@@ -18,7 +18,7 @@ pub fn one_fault()
         IsTextFault bytes a at → IsTextFault bytes b place → (a ≡ b) × (at ≡ place) }
 {}
 
-/// Each signal of a tree stands on one of the tracks among the tree's rows.
+/// Each signal of a tree is on one of the tracks among the tree's rows.
 pub fn signals_stand_on_tracks()
     ensures { (tree : XmlTree) (i : ℕ) (x : ASignal) → slice_get (signals_of tree) i ≡ Some x →
         x.track < track_count (rows_of tree) }

@@ -1,14 +1,13 @@
 //! The rows of a railML document, and its signals: the elements that are selected along its paths, in file order.
 //!
-//! `read` goes over the document's items once, with a stack of open names, and answers the rows or the
-//! fault of the text; `read_signals` does the same and answers the signals (`specs/Signals`). Their
-//! contracts speak of a tree that is never built: `specs/Tree` (elements and the tags that spell them),
-//! `specs/Contexts` and `specs/Rows` (which elements of a tree are rows), `specs/Places` (where an item
-//! may stand), `specs/Document` (which tree the bytes spell, and which fault a text has) and
-//! `specs/Formed` (how the rows are formed). `specs/Progress` and `specs/Passing` are what the pass
-//! keeps, for private contracts alone.
+//! `read` goes over the document's items once, with a stack of open names. It answers the rows, or the fault of the
+//! text. `read_signals` does the same and answers the signals (`specs/Signals`). Their contracts speak of a tree that
+//! is never built. `specs/Tree` has elements and the tags that spell them. `specs/Contexts` and `specs/Rows` say
+//! which elements of a tree are rows, `specs/Places` where an item may be. `specs/Document` says which tree the bytes
+//! spell, and which fault a text has. `specs/Formed` says how the rows are formed. `specs/Progress` and
+//! `specs/Passing` are what the pass keeps, for private contracts alone.
 //!
-//! It stands on `railml_text`, which reads one item; the reader of a topology stands on it.
+//! The crate uses `railml_text`, which reads one item. The reader of a topology uses it.
 #![tactic(auto)]
 
 mod contexts;

@@ -20,7 +20,7 @@ use std::alloc::Global;
 /// The greatest depth of an element, that of the root being 1.
 pub(crate) const MAX_DEPTH: usize = 64;
 
-/// An open element: its name, where it stands, and the number of the nearest row at or above it.
+/// An open element: its name, where it is, and the number of the nearest row at or above it.
 #[derive(Drop)]
 pub(crate) struct Frame {
     pub(crate) name: Text,
@@ -28,9 +28,8 @@ pub(crate) struct Frame {
     pub(crate) row: Option<u32>,
 }
 
-/// The open elements, the outermost first, the rows and the signals so far, how many tracks have begun, and whether the
-/// root
-/// and an `infrastructure` of the path have.
+/// The open elements, the outermost first; the rows and the signals so far; and how many tracks have begun. It says
+/// too whether the root and an `infrastructure` of the path have begun.
 #[derive(Drop)]
 pub(crate) struct Progress {
     pub(crate) stack: Vec<Frame>,
@@ -47,7 +46,7 @@ fn is_root_name(name: &str) -> bool
     name == "railml" || name == "infrastructure"
 }
 
-/// Where the innermost open element stands, and the nearest row at or above it.
+/// Where the innermost open element is, and the nearest row at or above it.
 fn innermost(stack: &[Frame]) -> (Context, Option<u32>)
     ensures context { result.0 ≡ context_in (top_frame stack.now) }
     ensures row { result.1 ≡ row_in (top_frame stack.now) }
@@ -121,7 +120,7 @@ fn frame_in(stack: &[Frame], name: Text, number: u32) -> Frame
     Frame { name, context, row }
 }
 
-/// 1 for an element that stands here, if it is a track.
+/// 1 for an element that is here, if it is a track.
 fn own_track(context: Context) -> u32
     ensures { result ≡ track_here context }
 {
@@ -197,7 +196,7 @@ impl Progress {
         }
     }
 
-    /// Adds the row of an element that stands here, if it is selected.
+    /// Adds the row of an element that is here, if it is selected.
     fn add_row(
         &mut self,
         at: usize,
@@ -221,7 +220,7 @@ impl Progress {
         Ok(())
     }
 
-    /// Adds the signal that an element is, if it stands where signals do.
+    /// Adds the signal that an element is, if it is where signals are.
     fn add_signal(
         &mut self,
         alloc: Global,

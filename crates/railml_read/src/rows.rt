@@ -16,8 +16,8 @@ pub enum ElemKind {
     MacroNode,
 }
 
-/// The texts of an element's attributes that are read, each where it stands: `id`, `pos`, `absPos`,
-/// `ref`, `course`, `orientation` and `trackContinueCourse`.
+/// The texts of an element's attributes that are read, each where the element has it: `id`, `pos`, `absPos`, `ref`,
+/// `course`, `orientation` and `trackContinueCourse`.
 #[derive(Drop)]
 pub struct Attrs {
     pub id: Option<Text>,
@@ -42,9 +42,8 @@ pub struct Elem {
 /// Selected elements in file order.
 pub type Records = Items<Elem>;
 
-/// A signal. `at` is the byte of its start tag's `<`, `track` the number of its track, from 0 in file order; and the
-/// texts of
-/// its attributes `id`, `pos` and `absPos`, each where it stands.
+/// A signal. `at` is the byte of its start tag's `<`, `track` the number of its track, from 0 in file order. The
+/// texts are those of its attributes `id`, `pos` and `absPos`, each where the signal has it.
 #[derive(Drop)]
 pub struct SignalElem {
     pub at: usize,

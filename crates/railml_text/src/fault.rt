@@ -17,7 +17,7 @@ pub enum TextWhat {
     Encoding,
     /// A document type declaration.
     Doctype,
-    /// A `<` that begins no item, or an item before the root that may not stand there.
+    /// A `<` that begins no item, or an item before the root that may not be there.
     Markup,
     /// An `&` that begins no reference.
     Entity,
@@ -29,7 +29,7 @@ pub enum TextWhat {
     Root,
     /// The input ends within an item, or within an element, or has no root.
     Unfinished,
-    /// An item after the root that may not stand there.
+    /// An item after the root that may not be there.
     AfterRoot,
     /// Elements are nested too deep.
     Depth,

@@ -89,7 +89,7 @@ fn start_kind(
     }
 }
 
-/// What is told of the markup, or its own fault.
+/// What the markup is, or its own fault.
 pub(crate) fn kind_of(alloc: Global, markup: Markup) -> Result<ItemKind, ItemFault>
     requires { IsUtf8Found (found_of markup) }
     ensures kind { IfOk result (λ kind. IsFoundKind (found_of markup.entry) kind) }

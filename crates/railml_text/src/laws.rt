@@ -13,7 +13,7 @@ pub fn one_item()
         HasItem first rest t b → (s ≡ t) × (a ≡ b) }
 {}
 
-/// What is told of the item at a place is one.
+/// The item at a place is one.
 pub fn one_sound_item()
     ensures { (first : Bool) (rest : List ℕ) (k l : ItemKind) (a b : List ℕ) → HasSoundItem first rest k a →
         HasSoundItem first rest l b → (k ≡ l) × (a ≡ b) }

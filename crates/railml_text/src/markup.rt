@@ -104,7 +104,7 @@ fn start_tag_at(alloc: Global, bytes: &[u8]) -> Result<(Markup, &[u8]), Stop>
     }
 }
 
-/// What stands after a `<`, and what follows it.
+/// What the markup behind a `<` is, and what follows it.
 #[tactic(auto, unfolding(crate::specs::Reading::closing_tag_at))]
 pub(crate) fn markup_at(alloc: Global, bytes: &[u8], first: bool) -> Result<(Markup, &[u8]), Stop>
     ensures { AnswersReading (λ x. (found_of x.0, x.1.now)) result (MarkupRead first bytes.now) }

@@ -116,7 +116,7 @@ fn by_number_at(bytes: &[u8]) -> Option<(char, &[u8])>
     }
 }
 
-/// The character that the reference at the front stands for, and what follows it.
+/// The character that the reference at the front means, and what follows it.
 #[tactic(auto, unfolding(crate::specs::Reading::reference_at))]
 pub(crate) fn reference_at(bytes: &[u8]) -> Option<(char, &[u8])>
     ensures { option_map (λ x. (x.0, x.1.now)) result ≡ reference bytes.now }

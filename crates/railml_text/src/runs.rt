@@ -17,7 +17,7 @@ pub(crate) fn begins_name(b: u8) -> bool
     b.is_ascii_alphabetic() || b == b'_' || b == b':' || 128 <= b
 }
 
-/// Most bytes of names are small letters, which are told by one test.
+/// Most bytes of names are small letters, which one test finds.
 fn goes_on_name(b: u8) -> bool
     ensures { result ≡ goes_on b }
 {

@@ -10,7 +10,7 @@ use crate::{ItemFault, TextWhat};
 use plan_core::Text;
 use std::alloc::{AllocError, Global};
 
-/// What a piece of a value stands for.
+/// What a piece of a value means.
 #[derive(Clone, Copy, Debug)]
 enum Meaning {
     Byte(u8),
@@ -28,8 +28,8 @@ fn past_line_feed(bytes: &[u8]) -> &[u8]
     }
 }
 
-/// What the first piece of a value stands for, and what follows it; `None` where the bytes begin
-/// with an `&` that begins no reference, or are none.
+/// What the first piece of a value means, and what follows it. `None` where the bytes are none, or begin with an `&`
+/// that begins no reference.
 fn piece_at(bytes: &[u8]) -> Option<(Meaning, &[u8])>
     ensures { option_map (λ x. (bytes_of x.0, x.1.now)) result ≡ piece bytes.now }
 {
@@ -45,7 +45,7 @@ fn piece_at(bytes: &[u8]) -> Option<(Meaning, &[u8])>
     }
 }
 
-/// Adds what a piece stands for.
+/// Adds what a piece means.
 fn push(text: &mut Vec<u8>, meaning: Meaning) -> Result<(), AllocError>
     ensures { OnOk result (text.new.items ≡ text.old.items ++ bytes_of meaning) }
 {
@@ -60,7 +60,7 @@ fn push(text: &mut Vec<u8>, meaning: Meaning) -> Result<(), AllocError>
     Ok(())
 }
 
-/// Whether a byte stands for itself wherever it is in a value: no reference, no tab and no line end begins with it.
+/// Whether a byte means itself wherever it is in a value: no reference, no tab and no line end begins with it.
 fn is_plain(b: u8) -> bool
     ensures { result ≡ plain_byte b }
 {

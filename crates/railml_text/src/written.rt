@@ -14,7 +14,7 @@ pub(crate) enum Closing {
     Declaration,
 }
 
-/// What stands next in a tag: an attribute, or the closing, and whether it is `/>`.
+/// What is next in a tag: an attribute, or the closing, and whether it is `/>`.
 #[derive(Clone, Copy, Debug)]
 pub(crate) enum TagStep<'a> {
     Attribute(WrittenAttr<'a>),

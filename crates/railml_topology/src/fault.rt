@@ -10,8 +10,8 @@ use thiserror::Error;
 /// Why rows give no topology.
 #[derive(Debug, Drop, Error)]
 pub enum ResolveFault {
-    /// The rows have a fault. `at` is the byte of the start tag that it is told of, 0 where there is no
-    /// track, and the texts are those that its kind tells, empty where it tells none.
+    /// The rows have a fault. `at` is the byte of the start tag that has the fault, 0 where there is no track. The
+    /// texts are those of the fault's kind, empty where the kind has none.
     #[error("a fault in the topology")]
     Topology {
         what: TopologyWhat,

@@ -1,11 +1,11 @@
 //! The track topology that a document's rows give, or the fault that they have.
 //!
-//! `specs/Resolved` says which topology rows resolve to of which nothing is wrong, and `specs/Answers` that
-//! `resolve` answers exactly that topology, or exactly the first fault. The other files of `specs/` are for
-//! private contracts alone.
+//! `specs/Resolved` says which topology rows resolve to where nothing is wrong with them. `specs/Answers` says that
+//! `resolve` answers exactly that topology, or exactly the first fault. The other files of `specs/` are for private
+//! contracts alone.
 //!
-//! It stands on `railml_faults`, which finds what is wrong with the rows, and has the words in which rows
-//! are spoken of; the track graph is built from its topology.
+//! The crate uses `railml_faults`, which finds what is wrong with the rows, and has the words that speak of rows. The
+//! track graph is built from its topology.
 #![tactic(auto)]
 
 mod building;

@@ -14,7 +14,7 @@ use railml_faults::is_of_kind;
 use railml_read::{Elem, ElemKind};
 use std::alloc::Global;
 
-/// A row with its position in micrometres. Rows stand in the order of these.
+/// A row with its position in micrometres. Rows are in the order of these.
 #[derive(Clone, Copy, PartialEq, Eq, PartialOrd, Ord)]
 pub(crate) struct Standing {
     position: i64,
