@@ -12,7 +12,7 @@ use crate::{GraphFault, Run, Site, Spot};
 use plan_core::{EdgeNo, NodeNo, OutOfMemory};
 use std::alloc::Global;
 
-/// How many of these nodes stand before a place of the file; there are at most 128.
+/// How many of these nodes are before a place of the file; there are at most 128.
 fn node_number(sites: &[Site], at: usize) -> NodeNo
     requires { length sites.now ≤ MAX_NODES }
     ensures { result.0 ≡ number_among sites.now at }

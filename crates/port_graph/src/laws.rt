@@ -20,8 +20,8 @@ pub fn one_graph_or_one_fault()
     ensures fault { (t : ATopology) (e f : AFault) → IsResolved t → IsGraphFault t e → IsGraphFault t f → e ≡ f }
 {}
 
-/// The columns of a graph are the one list that rises and has just the mileages of its nodes; and the
-/// columns of two nodes compare as their mileages do.
+/// The columns of a graph are the one list that rises and has just the mileages of its nodes. The columns of two
+/// nodes compare as their mileages do.
 pub fn columns_are_the_distinct_mileages()
     ensures are { (g : Graph) → AreColumns g (columns_of g) }
     ensures only { (g : Graph) (columns : List ℤ) → AreColumns g columns → columns ≡ columns_of g }

@@ -1,14 +1,15 @@
 //! The track graph of a station: nodes, edges, ports and columns.
 //!
-//! A `PortGraph` has a node for each end of the railway, each joint of two tracks, each switch and
-//! each crossing, and an edge for each piece of track between two of them. `build` makes it of a
-//! topology, or answers the first fault. Contracts see it as `plan_core`'s plain `Graph`, which is an
-//! `IsStationGraph` by its type: a track graph within the limits, with names and mileages as a file
-//! has them. `specs/` has what the graph of a topology is (`TopologyGraph`, over `Sites`, `Runs` and
-//! the side rule in `PortRule`), the columns, which are the distinct mileages of the nodes in rising
-//! order (`Columns`), and the station seen from its other end (`Turned`), of which `laws` speaks.
-//! The crate stands on `plan_core`. The track order, the lawful checker, the clause encoding and the
-//! texts stand on it.
+//! A `PortGraph` has a node for each end of the railway, each joint of two tracks, each switch and each crossing. It
+//! has an edge for each piece of track between two of them. `build` makes it of a topology, or answers the first
+//! fault. Contracts see it as `plan_core`'s plain `Graph`, which is an `IsStationGraph` by its type: a track graph
+//! within the limits, with names and mileages as a file has them.
+//!
+//! `specs/TopologyGraph` says what the graph of a topology is, over `Sites`, `Runs` and the side rule in `PortRule`.
+//! `specs/Columns` has the columns, which are the distinct mileages of the nodes in rising order. `specs/Turned` has
+//! the station seen from its other end, of which `laws` speaks.
+//!
+//! The crate uses `plan_core`. The track order, the lawful checker, the formula and the texts use it.
 #![tactic(auto)]
 
 mod columns;

@@ -64,7 +64,7 @@ pub(crate) fn last_piece(t: &Topology, numbering: &Numbering, track: usize) -> E
     piece_number(t, numbering, track, last)
 }
 
-/// The number of the join whose first connection stands at this place of the file.
+/// The number of the join whose first connection is at this place of the file.
 fn join_number(t: &Topology, numbering: &Numbering, at: usize) -> EdgeNo
     requires { IsNumbering t.now numbering.now }
     ensures { result ≡ edge_no (number_of_join t.now at) }

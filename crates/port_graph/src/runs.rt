@@ -1,8 +1,7 @@
 // Runs of track from one node to another, as a topology has them.
 use plan_core::{Micro, Text};
 
-/// Where a node stands: the byte of its element's start tag in the file, by which nodes are numbered,
-/// and its mileage.
+/// Where a node is: the byte of its element's start tag in the file, by which nodes are numbered, and its mileage.
 #[derive(Clone, Copy)]
 pub(crate) struct Spot {
     pub(crate) at: usize,

@@ -110,8 +110,8 @@ struct Legs {
     diverging: EdgeNo,
 }
 
-/// A switch's trunk is the piece before it where its branch is outgoing, else the one after it; of
-/// the other piece and the branch one is the straight leg, the other the diverging one.
+/// A switch's trunk is the piece before it where its branch is outgoing, else the one after it. Of the other piece
+/// and the branch one is the straight leg, the other the diverging one.
 fn trunk_and_legs(
     outgoing: bool,
     track_diverges: bool,

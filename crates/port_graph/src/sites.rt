@@ -2,7 +2,7 @@
 use crate::Spot;
 use plan_core::{EdgeNo, Hand, Text};
 
-/// A node to be: its element's id, where it stands, and what meets there.
+/// A node to be: its element's id, where it is, and what meets there.
 #[derive(Drop)]
 pub(crate) struct Site {
     pub(crate) id: Text,

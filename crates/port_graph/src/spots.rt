@@ -7,7 +7,7 @@ ghost use Rattle.port_graph.specs.Spots.{spot_on as spot_on_track, joined_spot a
 use crate::Spot;
 use plan_core::{End, Inner, Part, Place, Topology, Track};
 
-/// Where a track's end stands.
+/// Where a track's end is.
 pub(crate) fn end_spot(end: &End) -> Spot
     ensures { result ≡ spot_of_end end.now }
 {
@@ -17,7 +17,7 @@ pub(crate) fn end_spot(end: &End) -> Spot
     }
 }
 
-/// Where a switch or a crossing stands.
+/// Where a switch or a crossing is.
 pub(crate) fn inner_spot(inner: &Inner) -> Spot
     ensures { result ≡ spot_of_inner inner.now }
 {
@@ -34,7 +34,7 @@ pub(crate) fn is_track_end(part: Part) -> bool
     matches!(part, Part::Begin | Part::End)
 }
 
-/// Where the track's end, the switch or the crossing at a place stands.
+/// Where the track's end, the switch or the crossing at a place is.
 pub(crate) fn spot_at(t: &Topology, place: Place) -> Option<Spot>
     ensures { result ≡ spot_there t.now place }
 {
@@ -44,7 +44,7 @@ pub(crate) fn spot_at(t: &Topology, place: Place) -> Option<Spot>
     }
 }
 
-/// Where the track's end, the switch or the crossing at a part of a track stands.
+/// Where the track's end, the switch or the crossing at a part of a track is.
 fn spot_on(track: &Track, part: Part) -> Option<Spot>
     ensures { result ≡ spot_on_track track.now part }
 {
@@ -60,7 +60,7 @@ fn spot_on(track: &Track, part: Part) -> Option<Spot>
     }
 }
 
-/// Where what an end is joined to stands, if it is joined.
+/// The spot that an end is joined to, if it is joined.
 fn joined_spot(t: &Topology, end: &End) -> Option<Spot>
     ensures { result ≡ spot_joined t.now end.now }
 {
