@@ -11,7 +11,7 @@ use plan_geometry::Drawing;
 use port_graph::PortGraph;
 use track_order::TrackOrder;
 
-/// Whether the node is an end of the edge and stands in the column.
+/// Whether the node is an end of the edge and lies in the column.
 fn ends_in(g: &PortGraph, d: &Drawing, f: EdgeNo, n: NodeNo, x: u16) -> bool
     requires fitting { HasSizeOf g.now d.now }
     requires there { f.0 < length g.now.edges }

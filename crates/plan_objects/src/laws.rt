@@ -37,7 +37,7 @@ pub fn read_from_one_file()
 {}
 
 /// Mileages rise or fall along a track throughout. So a signal whose mileage lies between those of the nodes to which
-/// its track's two ends lead stands between the two nodes of its edge.
+/// its track's two ends lead is between the two nodes of its edge.
 pub fn signals_lie_on_their_edges()
     ensures { (s : AStation) (signal : ASignal) (p : APlace) → IsResolved s.topology →
         IsStationGraphOf s.topology s.graph → (is : IsPlaceOf s signal p) →

@@ -59,8 +59,8 @@ impl Placed {
         self.places.len() as u16
     }
 
-    /// Over how many columns each edge's line must go, so that all signals can stand on it: 1 more than the
-    /// greatest number of signals on one edge, at most 16.
+    /// Over how many columns each edge's line must go, so that all signals have room on it: 1 more than the greatest
+    /// number of signals on one edge, at most 16.
     pub fn need(&self) -> u16
         ensures value { result ≡ need_of self.now }
         ensures limit { result ≤ 16 }
@@ -84,7 +84,7 @@ impl Placed {
         self.places[i as usize].mile
     }
 
-    /// The column in which a signal stands on its edge's line.
+    /// The column in which a signal is on its edge's line.
     pub fn column(&self, i: u16, d: &Drawing) -> u16
         requires there { i < length self.now }
         requires room { HasRoomFor self.now d.now i }

@@ -14,7 +14,7 @@ pub const MAX_SIGNALS: usize = 512;
 /// The most signals of one edge.
 pub const SIGNALS_OF_AN_EDGE: u16 = 15;
 
-/// Where a signal stands along the railway: its edge, and its mileage.
+/// Where a signal is along the railway: its edge, and its mileage.
 #[derive(Clone, Copy, Debug, PartialEq, Eq)]
 pub struct SignalPlace {
     pub edge: EdgeNo,
@@ -31,7 +31,7 @@ fn comes_before(signals: &[SignalPlace], i: usize, j: usize) -> bool
     a < b || (a == b && i < j)
 }
 
-/// Whether signal `i` stands on the edge of signal `j` and comes before it.
+/// Whether signal `i` is on the edge of signal `j` and comes before it.
 fn is_ahead(signals: &[SignalPlace], j: usize, i: usize) -> bool
     requires first { j < length signals.now }
     requires second { i < length signals.now }
@@ -47,7 +47,7 @@ fn one_if(holds: bool) -> u16
     if holds { 1 } else { 0 }
 }
 
-/// How many of the first `n` signals stand on an edge.
+/// How many of the first `n` signals are on an edge.
 #[tactic(auto, using(crate::proofs::CountLemmas::counted_next, crate::proofs::CountLemmas::counted_most))]
 fn number_among(signals: &[SignalPlace], n: usize, edge: EdgeNo) -> u16
     requires few { length signals.now ≤ MAX_SIGNALS }
@@ -61,7 +61,7 @@ fn number_among(signals: &[SignalPlace], n: usize, edge: EdgeNo) -> u16
     number
 }
 
-/// How many signals stand on an edge.
+/// How many signals are on an edge.
 pub(crate) fn number_on(signals: &[SignalPlace], edge: EdgeNo) -> u16
     requires { length signals.now ≤ MAX_SIGNALS }
     ensures { result ≡ how_many_on signals.now edge.0 }
@@ -69,7 +69,7 @@ pub(crate) fn number_on(signals: &[SignalPlace], edge: EdgeNo) -> u16
     number_among(signals, signals.len(), edge)
 }
 
-/// The first signal before which, in file order, just as many stand on its edge as may.
+/// The first signal before which, in file order, just as many are on its edge as may be.
 pub(crate) fn first_crowded(signals: &[SignalPlace]) -> Option<usize>
     requires { length signals.now ≤ MAX_SIGNALS }
     ensures { FindsFirst (λ i _. earlier_on_edge signals.now i ≡ SIGNALS_OF_AN_EDGE) signals.now result }

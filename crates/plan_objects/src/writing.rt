@@ -14,7 +14,7 @@ use plan_core::{OutOfMemory, Point};
 use plan_geometry::Drawing;
 use railml_read::{SignalElem, SignalRows};
 
-/// The point of its edge's line at which a signal stands.
+/// The point of its edge's line at which a signal is.
 fn point_of(placed: &Placed, i: u16, d: &Drawing) -> Point
     requires there { i < length placed.now }
     requires room { HasRoomFor placed.now d.now i }
