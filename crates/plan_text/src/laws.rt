@@ -69,8 +69,8 @@ fn lines(found: &Option<Drawing>)
     }
 }
 
-/// What `write_sheet` may write is read again as the same sheet: its text, of either edition, is that of the
-/// sheet, with a drawing also where one is due. The first edition stands for least length 1. And what is written
+/// What `write_sheet` may write is read again as the same sheet. Its text, of either edition, is that of the sheet,
+/// with a drawing also where one is wanted. A sheet of the first edition has least length 1. And what is written
 /// isn't too long to be read.
 pub fn written_is_read(g: &PortGraph, s: &Sheet)
     requires draws_all { DrawsAll g.now s.now }

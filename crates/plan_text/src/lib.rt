@@ -1,11 +1,12 @@
-//! The texts that tell what a station is and how it is drawn: they are written by `plan_write`, and a sheet is read.
+//! The texts that say what a station is and how it is drawn: `plan_write` writes them, and a sheet is read.
 //!
-//! `read_sheet` and `read_drawing` read a sheet of either edition again, or answer the first line with a fault. `laws`
-//! says that a text is that of one sheet or has one first fault, that a sheet's text is never too long to be read, and
-//! that what is written is read again. `specs/SheetFaults` has the faults of a sheet's lines and `specs/SheetWhats` the
-//! faults' numbers and words; `specs/SheetReading` is for private contracts. The calls of `plan_write` and its
-//! `specs/`, with the texts and the forms of a sheet's lines, are handed out here too. The crate stands on
-//! `plan_write` and on `outside_io`; the top call stands on it.
+//! `read_sheet` and `read_drawing` read a sheet of either edition again, or answer the first line with a fault.
+//! `laws` says that a text is that of one sheet or has one first fault. It says too that a sheet's text is never too
+//! long to be read, and that what is written is read again. `specs/SheetFaults` has the faults of a sheet's lines,
+//! `specs/SheetWhats` the faults' numbers and words. `specs/SheetReading` is for private contracts. The calls of
+//! `plan_write` and its `specs/`, with the texts and the forms of a sheet's lines, are handed out here too.
+//!
+//! The crate uses `plan_write` and `outside_io`. The commands use it.
 #![tactic(auto)]
 
 mod laws;

@@ -28,7 +28,7 @@ use port_graph::PortGraph;
 use rail_mileage::write_metres;
 use std::alloc::Global;
 
-/// The edition that the title tells, and what stands behind it.
+/// The edition that the title says, and what follows it.
 pub(crate) fn title(text: &[u8]) -> Result<(Edition, &[u8]), SheetFault>
     ensures { MatchResult result (λ p. IsLineTo text.now (Title p.0) p.1.now)
         (λ fault. (g : Graph) (before : List SheetLine) (needs_drawing : Bool) →
@@ -46,7 +46,7 @@ pub(crate) fn title(text: &[u8]) -> Result<(Edition, &[u8]), SheetFault>
     }
 }
 
-/// The grid, and what stands behind its line.
+/// The grid, and what follows its line.
 pub(crate) fn grid(edition: Edition, text: &[u8]) -> Result<(Grid, &[u8]), SheetFault>
     ensures { MatchResult result (λ p. IsGrid p.0 × IsLineTo text.now (GridLine edition p.0) p.1.now)
         (λ fault. (g : Graph) (before : List SheetLine) (needs_drawing : Bool) →
@@ -67,7 +67,7 @@ pub(crate) fn grid(edition: Edition, text: &[u8]) -> Result<(Grid, &[u8]), Sheet
     }
 }
 
-/// The order of criteria, and what stands behind its line.
+/// The order of criteria, and what follows its line.
 pub(crate) fn order(text: &[u8]) -> Result<(Order, &[u8]), SheetFault>
     ensures { MatchResult result (λ p. IsOrder p.0 × IsLineTo text.now (OrderLine p.0) p.1.now)
         (λ fault. (g : Graph) (before : List SheetLine) (edition : Editions) (needs : Bool) →
@@ -88,7 +88,7 @@ pub(crate) fn order(text: &[u8]) -> Result<(Order, &[u8]), SheetFault>
     }
 }
 
-/// What stands behind the number of nodes.
+/// What follows the number of nodes.
 pub(crate) fn nodes<'a>(g: &PortGraph, text: &'a [u8]) -> Result<&'a [u8], SheetFault>
     ensures { MatchResult result (λ rest. IsLineTo text.now (NodesLine (length g.now.nodes)) rest.now)
         (λ fault. (edition : Editions) (before : List SheetLine) →
@@ -159,7 +159,7 @@ fn is_node(
     Ok(told.number == n && told.name == g.name(NodeNo(n)).bytes() && is_mileage)
 }
 
-/// The point of a node, and what stands behind its line.
+/// The point of a node, and what follows its line.
 pub(crate) fn node<'a>(
     alloc: Global,
     g: &PortGraph,
@@ -190,7 +190,7 @@ pub(crate) fn node<'a>(
     }
 }
 
-/// What stands behind the number of edges.
+/// What follows the number of edges.
 pub(crate) fn edges<'a>(g: &PortGraph, text: &'a [u8], line: u32) -> Result<&'a [u8], SheetFault>
     ensures { MatchResult result (λ rest. IsLineTo text.now (EdgesLine (length g.now.edges)) rest.now)
         (λ fault. (edition : Editions) (before : List SheetLine) →
@@ -239,7 +239,7 @@ fn is_edge(g: &PortGraph, edition: Edition, e: u16, told: &EdgeTold<'_>) -> bool
         && told.east == g.east(EdgeNo(e)).0
 }
 
-/// The line of an edge as it is drawn, and what stands behind the line of the sheet.
+/// The line of an edge as it is drawn, and what follows the line of the sheet.
 pub(crate) fn edge<'a>(
     g: &PortGraph,
     edition: Edition,
@@ -273,7 +273,7 @@ pub(crate) fn edge<'a>(
     }
 }
 
-/// What stands behind the values of a drawing.
+/// What follows the values of a drawing.
 pub(crate) fn measured<'a>(d: &Drawing, text: &'a [u8], line: u32) -> Result<&'a [u8], SheetFault>
     ensures { MatchResult result (λ rest. IsLineTo text.now (ValuesLine (values_of d.now)) rest.now)
         (λ fault. (g : Graph) (before : List SheetLine) → drawing_told before ≡ d.now →
@@ -325,7 +325,7 @@ fn drawn_ending(order: &Order, told: EndTold) -> Result<Ending, SheetWhat>
     }
 }
 
-/// The ending of a sheet with a drawing, and what stands behind its line.
+/// The ending of a sheet with a drawing, and what follows its line.
 pub(crate) fn ending<'a>(
     order: &Order,
     text: &'a [u8],

@@ -10,9 +10,9 @@ use thiserror::Error;
 /// the lowest number counts.
 #[derive(Clone, Copy, Debug, PartialEq, Eq)]
 pub enum SheetWhat {
-    /// The line isn't of the form that is due, or is missing, or has no line feed, or follows the ending;
-    /// or a number isn't canonical or is above 65,535; or a mileage isn't `-` or nothing, a canonical number
-    /// of at most ten digits, a point and six digits.
+    /// The line isn't of the form that is wanted, is missing, has no line feed, or follows the ending. Or a number
+    /// isn't canonical, or is above 65,535. Or a mileage isn't of its form: a `-` or nothing, a canonical number of
+    /// at most ten digits, a point and six digits.
     Form,
     /// Width, height and least length are no grid, the criteria are no order, or more criteria are settled
     /// than may be.

@@ -12,7 +12,7 @@ use arrayvec::ArrayVec;
 use outside_io::{MAX_NUMBER, behind, front_field, read_criterion, read_number};
 use plan_core::{Criterion, Point};
 
-/// The field in front of the text, after one space, and what stands behind it, if a space is in front.
+/// The field in front of the text, after one space, and what follows it, if a space is in front.
 pub(crate) fn next_field(text: &[u8]) -> Option<(&[u8], &[u8])>
     ensures { MatchOption result ((rest : List ℕ) → text.now ≢ 32 ∷ rest) (λ p. IsFieldAt text.now p.0.now p.1.now) }
 {
@@ -29,7 +29,7 @@ fn number_of(field: &[u8]) -> Option<u16>
     Some(number as u16)
 }
 
-/// The number in front of the text, after one space, and what stands behind it, if one is in front.
+/// The number in front of the text, after one space, and what follows it, if one is in front.
 pub(crate) fn next_number(text: &[u8]) -> Option<(u16, &[u8])>
     ensures { MatchOption result ((n : ℕ) (rest : List ℕ) → IsNumberAt text.now n rest → ⊥)
         (λ p. IsNumberAt text.now p.0 p.1.now) }
@@ -39,7 +39,7 @@ pub(crate) fn next_number(text: &[u8]) -> Option<(u16, &[u8])>
     Some((number, rest))
 }
 
-/// The name in front of the text, after one space, and what stands behind it, if one is in front.
+/// The name in front of the text, after one space, and what follows it, if one is in front.
 pub(crate) fn next_name(text: &[u8]) -> Option<(&[u8], &[u8])>
     ensures { MatchOption result ((name rest : List ℕ) → IsNameAt text.now name rest → ⊥)
         (λ p. IsNameAt text.now p.0.now p.1.now) }
@@ -51,8 +51,8 @@ pub(crate) fn next_name(text: &[u8]) -> Option<(&[u8], &[u8])>
     Some((name, rest))
 }
 
-/// The point whose coordinates are in front of the text, each after one space, and what stands behind them,
-/// if two numbers are in front.
+/// The point whose coordinates are in front of the text, each after one space, and what follows them, if two numbers
+/// are in front.
 pub(crate) fn next_point(text: &[u8]) -> Option<(Point, &[u8])>
     ensures { MatchOption result ((p : Told) (rest : List ℕ) → IsPointAt text.now p rest → ⊥)
         (λ p. IsPointAt text.now p.0 p.1.now) }
@@ -62,8 +62,7 @@ pub(crate) fn next_point(text: &[u8]) -> Option<(Point, &[u8])>
     Some((Point { x, y }, rest))
 }
 
-/// The numbers up to the line feed, each after one space, and what stands behind it, if there are no more
-/// than eleven.
+/// The numbers up to the line feed, each after one space, and what follows it, if there are no more than eleven.
 pub(crate) fn numbers(text: &[u8]) -> Option<(ArrayVec<u16, 11>, &[u8])>
     ensures { MatchOption result ((ns rest : List ℕ) → AreSmall ns → length ns ≤ 11 → text.now ≢ spaced (map decimal ns)
         ++ (10 ∷ rest))
@@ -84,8 +83,7 @@ pub(crate) fn numbers(text: &[u8]) -> Option<(ArrayVec<u16, 11>, &[u8])>
     Some((numbers, left))
 }
 
-/// The criteria up to the line feed, each after one space, and what stands behind it, if there are no more
-/// than four.
+/// The criteria up to the line feed, each after one space, and what follows it, if there are no more than four.
 pub(crate) fn criteria(text: &[u8]) -> Option<(ArrayVec<Criterion, 4>, &[u8])>
     ensures { MatchOption result ((cs : List Measure) (rest : List ℕ) → length cs ≤ 4 →
         text.now ≢ spaced (map criterion_word cs) ++ (10 ∷ rest))

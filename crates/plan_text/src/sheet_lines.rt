@@ -50,7 +50,7 @@ pub(crate) enum EndTold {
     Room(u16),
 }
 
-/// The numbers of a line that begins so, and what stands behind the line.
+/// The numbers of a line that begins so, and what follows the line.
 fn numbered<'a>(text: &'a [u8], front: &[u8]) -> Option<(ArrayVec<u16, 11>, &'a [u8])>
     ensures { MatchOption result ((ns rest : List ℕ) → AreSmall ns → length ns ≤ 11 →
         text.now ≢ line_text front.now (map decimal ns) ++ rest)
@@ -107,7 +107,7 @@ fn first_two(numbers: &[u16]) -> Option<(u16, u16, &[u16])>
     }
 }
 
-/// The one number of a line that begins so, and what stands behind the line.
+/// The one number of a line that begins so, and what follows the line.
 pub(crate) fn one_number<'a>(text: &'a [u8], front: &[u8]) -> Option<(u16, &'a [u8])>
     ensures { MatchOption result ((n : ℕ) (rest : List ℕ) → IsSmall n → text.now ≢ line_text front.now (decimal n ∷ [])
         ++ rest)
@@ -133,7 +133,7 @@ fn grid_of(edition: Edition, numbers: &[u16]) -> Option<(u16, u16, u16)>
     }
 }
 
-/// The width, height and least length that the line of the grid tells, and what stands behind it.
+/// The width, height and least length that the line of the grid says, and what follows it.
 pub(crate) fn grid_line(edition: Edition, text: &[u8]) -> Option<(u16, u16, u16, &[u8])>
     ensures { MatchOption result ((needs_drawing : Bool) →
         IsMisformed (GridDue edition needs_drawing) text.now)
@@ -144,7 +144,7 @@ pub(crate) fn grid_line(edition: Edition, text: &[u8]) -> Option<(u16, u16, u16,
     Some((width, height, least, rest))
 }
 
-/// The criteria that the line of the order tells, and what stands behind it.
+/// The criteria that the line of the order says, and what follows it.
 pub(crate) fn order_line(text: &[u8]) -> Option<(ArrayVec<Criterion, 4>, &[u8])>
     ensures { MatchOption result ((edition : Editions) (needs_drawing : Bool) →
         IsMisformed (OrderDue edition needs_drawing) text.now)
@@ -157,7 +157,7 @@ pub(crate) fn order_line(text: &[u8]) -> Option<(ArrayVec<Criterion, 4>, &[u8])>
     Some((criteria, rest))
 }
 
-/// The number and the name behind this word, and what stands behind them.
+/// The number and the name behind this word, and what follows them.
 fn named<'a>(text: &'a [u8], word: &[u8]) -> Option<(u16, &'a [u8], &'a [u8])>
     ensures { MatchOption result ((n : ℕ) (name rest : List ℕ) → IsNamedAt text.now word.now n name rest → ⊥)
         (λ p. IsNamedAt text.now word.now p.0 p.1.now p.2.now) }
@@ -168,7 +168,7 @@ fn named<'a>(text: &'a [u8], word: &[u8]) -> Option<(u16, &'a [u8], &'a [u8])>
     Some((number, name, rest))
 }
 
-/// The mileage up to the line feed, after one space, and what stands behind it.
+/// The mileage up to the line feed, after one space, and what follows it.
 fn mileage_end(text: &[u8]) -> Option<(&[u8], &[u8])>
     ensures { MatchOption result ((mileage rest : List ℕ) → IsMileageText mileage → text.now ≢ 32
         ∷ (mileage ++ 10 ∷ rest))
@@ -182,7 +182,7 @@ fn mileage_end(text: &[u8]) -> Option<(&[u8], &[u8])>
     Some((mileage, rest))
 }
 
-/// The mileage at the end of a node's line, if the edition tells it, and what stands behind the line.
+/// The mileage at the end of a node's line, if the edition has it, and what follows the line.
 fn node_end(edition: Edition, text: &[u8]) -> Option<(Option<&[u8]>, &[u8])>
     ensures { MatchOption result ((mileage : Option (List ℕ)) (rest : List ℕ) →
         IsNodeEnd edition text.now mileage rest → ⊥)
@@ -200,7 +200,7 @@ fn node_end(edition: Edition, text: &[u8]) -> Option<(Option<&[u8]>, &[u8])>
     }
 }
 
-/// What the line of a node tells, and what stands behind it.
+/// What the line of a node says, and what follows it.
 pub(crate) fn node_line(edition: Edition, text: &[u8]) -> Option<(NodeTold<'_>, &[u8])>
     ensures { MatchOption result ((n : ℕ) → IsMisformed (NodeDue edition n) text.now)
         (λ p. IsToldIn edition (option_copied p.0.mileage) × IsLineTo text.now
@@ -241,7 +241,7 @@ fn points_of(numbers: &[u16]) -> Option<ArrayVec<Point, 4>>
     Some(points)
 }
 
-/// The number of an edge and its track, if the edition tells it, and what stands behind them.
+/// The number of an edge and its track, if the edition has it, and what follows them.
 fn numbered_edge(edition: Edition, text: &[u8]) -> Option<(u16, Option<&[u8]>, &[u8])>
     ensures { MatchOption result ((n : ℕ) (track : Option (List ℕ)) (rest : List ℕ) →
         IsNumberedAt edition text.now n track rest → ⊥)
@@ -260,7 +260,7 @@ fn numbered_edge(edition: Edition, text: &[u8]) -> Option<(u16, Option<&[u8]>, &
     }
 }
 
-/// What the line of an edge tells, and what stands behind it.
+/// What the line of an edge says, and what follows it.
 pub(crate) fn edge_line(edition: Edition, text: &[u8]) -> Option<(EdgeTold<'_>, &[u8])>
     ensures { MatchOption result ((e : ℕ) → IsMisformed (EdgeDue edition e) text.now)
         (λ p. let track = option_copied p.0.track in IsToldIn edition track
@@ -280,7 +280,7 @@ pub(crate) fn edge_line(edition: Edition, text: &[u8]) -> Option<(EdgeTold<'_>, 
     Some((told, rest))
 }
 
-/// What the line of the values tells, and what stands behind it.
+/// What the line of the values says, and what follows it.
 pub(crate) fn values_line(text: &[u8]) -> Option<(Values, &[u8])>
     ensures { MatchOption result ((line : SheetLine) → BeginsWithLine ValuesDue text.now line → ⊥)
         (λ p. HasForm (ValuesLine p.0) × (text.now ≡ text_of_line (ValuesLine p.0) ++ p.1.now)) }
@@ -296,7 +296,7 @@ pub(crate) fn values_line(text: &[u8]) -> Option<(Values, &[u8])>
     Some((values, rest))
 }
 
-/// The ending that the last line tells, and what stands behind it.
+/// The ending that the last line says, and what follows it.
 pub(crate) fn end_line(text: &[u8]) -> Option<(EndTold, &[u8])>
     ensures { MatchOption result ((e : Ending) (rest : List ℕ) → IsSmallEnding e → text.now ≢ text_of_line (EndLine e)
         ++ rest)

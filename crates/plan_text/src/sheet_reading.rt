@@ -27,7 +27,7 @@ use plan_write::{Edition, Ending, Sheet};
 use port_graph::PortGraph;
 use std::alloc::Global;
 
-/// The edition, the grid and the order of criteria, and what stands behind their lines.
+/// The edition, the grid and the order of criteria, and what follows their lines.
 fn head(text: &[u8]) -> Result<(Edition, Grid, Order, &[u8]), SheetFault>
     ensures { MatchResult result
         (λ p. IsOrder p.2 × IsHeadTo text.now p.0 p.1 p.2 p.3.now) (IsHeadFault text.now) }
@@ -42,7 +42,7 @@ fn head(text: &[u8]) -> Result<(Edition, Grid, Order, &[u8]), SheetFault>
     }
 }
 
-/// The points of the nodes, and what stands behind their lines.
+/// The points of the nodes, and what follows their lines.
 fn places<'a>(
     alloc: Global,
     g: &PortGraph,
@@ -63,7 +63,7 @@ fn places<'a>(
     Ok((places, rest))
 }
 
-/// The points of the nodes, and what stands behind the line of their number and theirs.
+/// The points of the nodes, and what follows the line of their number and theirs.
 fn all_places<'a>(
     alloc: Global,
     g: &PortGraph,
@@ -78,7 +78,7 @@ fn all_places<'a>(
     places(alloc, g, edition, rest)
 }
 
-/// The lines of the edges, and what stands behind the lines of the sheet.
+/// The lines of the edges, and what follows the lines of the sheet.
 fn lines<'a>(
     alloc: Global,
     g: &PortGraph,
@@ -100,7 +100,7 @@ fn lines<'a>(
     Ok((lines, rest))
 }
 
-/// The lines of the edges, and what stands behind the line of their number and theirs.
+/// The lines of the edges, and what follows the line of their number and theirs.
 fn all_lines<'a>(
     alloc: Global,
     g: &PortGraph,
@@ -115,7 +115,7 @@ fn all_lines<'a>(
     lines(alloc, g, edition, rest)
 }
 
-/// The drawing, and what stands behind its points and lines.
+/// The drawing, and what follows its points and lines.
 fn picture<'a>(
     alloc: Global,
     g: &PortGraph,
@@ -130,7 +130,7 @@ fn picture<'a>(
     Ok((Drawing::new(alloc, &places, &lines)?, rest))
 }
 
-/// Nothing stands here.
+/// Nothing is here.
 fn nothing(text: &[u8], line: u32) -> Result<(), SheetFault>
     ensures { MatchResult result (λ _. text.now ≡ []) (λ fault. (g : Graph) (before : List SheetLine) →
         IsFaultHere g before NoneDue text.now line fault) }
@@ -145,7 +145,7 @@ fn nothing(text: &[u8], line: u32) -> Result<(), SheetFault>
     }
 }
 
-/// The ending of a sheet with this drawing, of which the lines from the values on stand here.
+/// The ending of a sheet with this drawing, of which the lines from the values on are here.
 fn closing(g: &PortGraph, order: &Order, d: &Drawing, text: &[u8]) -> Result<Ending, SheetFault>
     ensures { MatchResult result (λ e. MayEnd true e × IsClosing g.now order.now d.now text.now e)
         (IsFaultAfter g.now order.now d.now ValuesDue text.now (length g.now.nodes + length g.now.edges + 6)) }
@@ -158,7 +158,7 @@ fn closing(g: &PortGraph, order: &Order, d: &Drawing, text: &[u8]) -> Result<End
 }
 
 /// The drawing and the ending of a sheet in this order, of which the lines from the number of nodes on
-/// stand here.
+/// are here.
 fn body(
     alloc: Global,
     g: &PortGraph,
@@ -175,8 +175,8 @@ fn body(
     Ok((d, ending))
 }
 
-/// Reads the sheet of a station with this graph, where a drawing is due: its grid and its drawing. The
-/// ending of a sheet without a drawing isn't of the form that is due.
+/// Reads the sheet of a station with this graph, where a drawing is wanted: its grid and its drawing. The ending of a
+/// sheet without a drawing isn't of the form that is wanted.
 pub fn read_drawing(
     alloc: Global,
     g: &PortGraph,
@@ -190,7 +190,7 @@ pub fn read_drawing(
     Ok((grid, d))
 }
 
-/// The ending of a sheet without a drawing, and what stands behind its line, if it stands here.
+/// The ending of a sheet without a drawing, and what follows its line, if it is here.
 fn undrawn(text: &[u8]) -> Option<(EndTold, &[u8])>
     ensures { MatchOption result (IsNoUndrawnEnding text.now)
         (λ p. IsSmallEnding (ending_told p.0) × MayEnd false (ending_told p.0)
@@ -217,8 +217,7 @@ fn none_settled(told: EndTold) -> Result<Ending, SheetWhat>
     }
 }
 
-/// The ending of a sheet without a drawing, of which the last line stands here, or none if another line
-/// does.
+/// The ending of a sheet without a drawing, of which the last line is here, or none if another line is.
 fn undrawn_ending(text: &[u8]) -> Result<Option<Ending>, SheetFault>
     ensures { MatchResult result (λ o. MatchOption o (IsNoUndrawnEnding text.now)
         (λ e. MayEnd false e × IsUndrawnEnding text.now e)) (IsUndrawnFault text.now) }

@@ -261,9 +261,9 @@ fn push_ending(ending: Ending, into: &mut Vec<u8>) -> Result<(), OutOfMemory>
     }
 }
 
-/// Appends the text of a sheet, of the second edition: its grid and order, the points and mileages of all
-/// nodes and the tracks and lines of all edges, both by number, what the drawing measures, and how the search
-/// ended.
+/// Appends the text of a sheet, of the second edition. It has the grid and the order, the points and mileages of all
+/// nodes, and the tracks and lines of all edges, both by number. Then it has what the drawing measures, and how the
+/// search ended.
 pub fn write_sheet(
     alloc: Global,
     g: &PortGraph,
