@@ -16,8 +16,8 @@ use std::marker::Model;
 #[derive(Clone, Copy, Debug, PartialEq, Eq)]
 pub struct ClauseNo(pub u32);
 
-/// Variables 1 to `vars` and a list of clauses over them, whose words are at most `room`. The
-/// literals of all clauses stand in one vector, and a second one says where each clause ends.
+/// Variables 1 to `vars` and a list of clauses over them, whose words are at most `room`. The literals of all clauses
+/// are in one vector, and a second one says where each clause ends.
 #[derive(Drop)]
 pub struct Formula {
     alloc: Global,

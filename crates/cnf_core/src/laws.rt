@@ -48,8 +48,8 @@ pub fn distinct_literals_make_their_clause()
         clause_of unless (map OfLit literals) ≡ (unless ++ literals) ∷ [] }
 {}
 
-/// Where each literal's variable is above the one before it, no two are the same; so a long list is
-/// shown to be distinct without a comparison of all pairs, and block by block.
+/// Where each literal's variable is above the one before it, no two are the same. So a long list is shown to be
+/// distinct without a comparison of all pairs, and block by block.
 pub fn rising_variables_are_distinct()
     ensures distinct { (low high : ℕ) (c : List Literal) → AreRising low high c → AreDistinct c }
     ensures blocks { (low middle high : ℕ) (c d : List Literal) → AreRising low middle c → AreRising middle high d →

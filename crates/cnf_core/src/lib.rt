@@ -1,19 +1,21 @@
 //! Literals, clauses and formulas: what is satisfied, in how many words, and by which assignments.
 //!
-//! `Lit` is one word that contracts see as a variable and a sign, `Clause` a list of literals of
-//! distinct variables, `Formula` a number of variables and a list of clauses within a room of
-//! words, and `Truths` a truth value for each variable. `specs/` has the definitions: `Lit`,
-//! `Clause` (distinct variables, words), `Assignment` (satisfaction, and assignments that differ
-//! in a block of variables alone), `LitOrTruth` (the clause that literals and truth values make),
-//! `Formula`, `Added` (what a call that adds clauses leaves), `Truths`, `Propagation` (the closure,
-//! reasons, falsified clauses, and clauses that follow or are new), and `Trail` (the table that marks
-//! a trail's literals, and how a trail grows). `laws` and `unit_laws` state what follows from them.
-//! `proofs/` has the lemmas that the crates above cite: `ClauseLemmas` and `GatherLemmas` on
-//! satisfaction, `StepLemmas` and `BlockLemmas` on calls that add clauses, `SettingLemmas` on blocks
-//! of variables that are set one after another, `PropagationLemmas`, `GreatestLemmas` on the greatest
-//! variable, `TrailLemmas` on lists of distinct variables, `MarkLemmas` and `GrowthLemmas` on trails.
-//! `lengthen` makes a table longer, whole or not at all. It is the base for integers and sums, for
-//! the drawing's formula, the log, its checker and the solver.
+//! `Lit` is one word that contracts see as a variable and a sign. `Clause` is a list of literals of distinct
+//! variables. `Formula` is a number of variables and a list of clauses within a room of words. `Truths` is a truth
+//! value for each variable. `lengthen` makes a table longer, whole or not at all.
+//!
+//! `specs/` has the definitions. `Lit` and `Clause` have literals, distinct variables and words. `Assignment` has
+//! satisfaction, and assignments that differ in a block of variables alone. `LitOrTruth` has the clause that literals
+//! and truth values make. `Formula` and `Truths` have these two. `Added` says what a call that adds clauses leaves.
+//! `Propagation` has the closure, reasons, falsified clauses, and clauses that follow or are new. `Trail` has the
+//! table that marks a trail's literals, and how a trail grows. `laws` and `unit_laws` state what follows from them.
+//!
+//! `proofs/` has the lemmas that the crates above cite. `ClauseLemmas` and `GatherLemmas` are on satisfaction,
+//! `StepLemmas` and `BlockLemmas` on calls that add clauses. `SettingLemmas` is on blocks of variables that are set
+//! one after another. `PropagationLemmas` is on propagation, `GreatestLemmas` on the greatest variable. `TrailLemmas`
+//! is on lists of distinct variables, `MarkLemmas` and `GrowthLemmas` on trails.
+//!
+//! Integers and sums, the drawing's formula, the log, its checker and the solver use this crate.
 #![tactic(auto)]
 
 mod clause;

@@ -84,7 +84,7 @@ impl Lit {
     }
 }
 
-/// A literal, or a truth value that stands in its place.
+/// A literal, or a truth value in its place.
 #[derive(Clone, Copy, Debug, PartialEq, Eq)]
 pub enum LitOrTruth {
     /// A literal.

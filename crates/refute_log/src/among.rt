@@ -4,7 +4,7 @@ ghost use Rattle.cnf_core.specs.Lit.{has};
 
 use cnf_core::Lit;
 
-/// Whether the literal stands among the others.
+/// Whether the literal is among the others.
 fn is_among(lits: &[Lit], l: Lit) -> bool
     ensures { result ≡ has lits.now l }
 {

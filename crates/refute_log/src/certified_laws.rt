@@ -15,9 +15,8 @@ ghost use Rattle.refute_log.specs.Certified.{Settled};
 ghost use Rattle.refute_log.specs.Least.{CertifiedAreLeast, CertifiedAreBest};
 ghost use Rattle.refute_log.specs.Expected.{caps};
 
-/// Values that meet a log that derives are not better than those it certifies, on the criteria it
-/// certifies; and none meet one that certifies that there is no drawing. Two of them that are both
-/// certified are the same there.
+/// Values that meet a log that derives are not better than those it certifies, on the criteria it certifies. None
+/// meet one that certifies that there is no drawing. Two of them that are both certified are the same there.
 pub fn certified_values_are_least()
     ensures least { (greatest : Criterion → ℕ) (lines : Lines) (order : List Criterion) (v w : Values) (s : ℕ) →
         MeetsLog lines w → Derives lines → Certifies greatest lines order v s → Better (take s order) w v → ⊥ }
@@ -27,9 +26,9 @@ pub fn certified_values_are_least()
         AreSameAt (take s order) v w }
 {}
 
-/// Whoever wrote the log: where it covers the lawful drawings and derives, none of them is better on
-/// the criteria that it certifies, and there is none where it certifies that. A lawful drawing whose
-/// values it certifies on the whole order is best.
+/// This holds whoever wrote the log. Where it covers the lawful drawings and derives, none of them is better on the
+/// criteria that it certifies. Where it certifies that there is none, there is none. A lawful drawing whose values it
+/// certifies on the whole order is best.
 pub fn certified_drawings_are_least()
     ensures least { (g : Graph) (above : ℕ → ℕ → Bool) (grid : GridSize) (greatest : Criterion → ℕ) (lines : Lines)
         (order : List Criterion) → CoversDrawings g above grid lines → Derives lines →

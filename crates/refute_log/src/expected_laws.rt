@@ -13,9 +13,9 @@ ghost use Rattle.refute_log.specs.Least.{IsLogOf, CertifiedAreLeast};
 ghost use Rattle.refute_log.specs.Expected.{Problem, HasAllBounds, caps, expected_lines, expected_vars};
 ghost use Rattle.refute_log.specs.Expected.{IsNextToCap, StandsOnce, EndsWithSum, EndsWithSumVars};
 
-/// Whoever wrote the log: where the expected lines cover the lawful drawings, with whatever caps, and
-/// the log's Formula and Bound lines begin those for its own caps, and it derives, no lawful drawing is better on
-/// the criteria that it certifies, and there is none where it certifies that.
+/// This holds whoever wrote the log, and with whatever caps. Let the expected lines cover the lawful drawings. Let
+/// the log derive, and let its Formula and Bound lines begin those that are expected for its own caps. Then no lawful
+/// drawing is better on the criteria that it certifies. Where it certifies that there is none, there is none.
 pub fn certified_over_expected_lines_is_least()
     ensures least { (g : Graph) (above : ℕ → ℕ → Bool) (grid : GridSize) (e : Problem) (greatest : Criterion → ℕ)
         (ls : Lines) (order : List Criterion) → IsLogOf g above grid e greatest ls order →

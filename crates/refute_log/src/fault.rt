@@ -17,7 +17,7 @@ pub enum LogWhat {
     Form,
     /// A number isn't canonical or is out of its range.
     Number,
-    /// A variable stands twice in the line.
+    /// A variable is twice in the line.
     Twice,
 }
 

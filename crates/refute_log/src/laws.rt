@@ -42,16 +42,15 @@ pub fn written_is_read_again(line: &LogLine)
     }
 }
 
-/// The text of a line that may be told is the text of this line alone, and has no line feed but the one
-/// that ends it.
+/// The text of a line that a log may take is the text of this line alone. It has no line feed but the one that ends
+/// it.
 pub fn told_lines_are_read_alone()
     ensures read { (line : Line) → MayBeTold line → IsTextOf (log_line_text line) line }
     ensures one_line { (line : Line) → MayBeTold line → LacksByte 10 (log_line_text line) }
     ensures ended { (line : Line) → ended_text line ≡ log_line_text line ++ codes "\n" }
 {}
 
-/// A text has one fault at most, and none where it is that of a line in which no variable stands
-/// twice.
+/// A text has one fault at most, and none where it is that of a line in which no variable is twice.
 pub fn one_line_or_one_fault()
     ensures fault { (text : List ℕ) (a b : What) → HasLineFault text a → HasLineFault text b → a ≡ b }
     ensures line { (text : List ℕ) (line : Line) (what : What) → IsTextOf text line → HasLineFault text what → ⊥ }

@@ -1,17 +1,19 @@
 //! The lines of a log, their text, and what a log certifies.
 //!
-//! A log is the certificate of a drawing, a line each: the clauses of its formula, learnt clauses, questions, answers.
-//! A search gives its lines to a `LogSink`: `LineList` keeps them, `NoLog` counts them, `FileLog` writes them to a
-//! file. `write_line` and `read_line` write and read a line's text; other texts with literals use `read_literal`,
-//! `write_literals`, `are_distinct` and `is_number`. `specs/Lines` says which lines there may be, `specs/LineText` and
-//! `specs/LineForm` what a text is as a line, or its fault, `specs/Log` which logs derive, `specs/Told`, `specs/ToldTo`
-//! and `specs/Steps` how a list of lines goes on through calls. `specs/FieldText` is for private contracts.
+//! A log is the certificate of a drawing, a line each: the clauses of its formula, learnt clauses, questions,
+//! answers. A search gives its lines to a `LogSink`: `LineList` keeps them, `NoLog` counts them, `FileLog` writes
+//! them to a file. `write_line` and `read_line` write and read a line's text. Other texts with literals use
+//! `read_literal`, `write_literals`, `are_distinct` and `is_number`. `specs/Lines` says which lines there may be.
+//! `specs/LineText` and `specs/LineForm` say what a text is as a line, or its fault. `specs/Log` says which logs
+//! derive. `specs/Told`, `specs/ToldTo` and `specs/Steps` say how a list of lines goes on through calls.
+//! `specs/FieldText` is for private contracts.
 //!
-//! A Bound line names the variable of "this criterion is at least k"; a Refuted line says that one of its literals
-//! holds in every lawful drawing. `specs/Bounds` and `specs/Certified` say which values a log certifies,
-//! `specs/Expected` which Formula and Bound lines the log of a file has, `specs/Full` when it has no more room,
-//! `specs/Cause` why a search stopped (`Stop`). `laws`, `log_laws`, `certified_laws` and `expected_laws` say what
-//! follows. Searches and judges use this crate.
+//! A Bound line names the variable of "this criterion is at least k". A Refuted line says that one of its literals
+//! holds in every lawful drawing. `specs/Bounds` and `specs/Certified` say which values a log certifies. What is to
+//! be certified beside least values is one more definition beside `Certified`. `specs/Expected` says which Formula
+//! and Bound lines the log of a file has. `specs/Full` says when it has no more room, `specs/Cause` why a search
+//! stopped (`Stop`). `laws`, `log_laws`, `certified_laws` and `expected_laws` say what follows. Searches and judges
+//! use this crate.
 #![tactic(auto)]
 
 mod among;

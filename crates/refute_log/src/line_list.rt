@@ -10,7 +10,7 @@ use plan_core::OutOfMemory;
 use std::alloc::Global;
 use std::marker::Model;
 
-/// Keeps the lines that it is told, and never fails but for memory.
+/// Keeps the lines that it is given, and never fails but for memory.
 #[derive(Drop)]
 pub struct LineList {
     alloc: Global,
@@ -30,7 +30,7 @@ impl Model for LineList {
 }
 
 impl LineList {
-    /// No line was told.
+    /// No line was given.
     pub fn new(alloc: Global) -> Self
         ensures { result ≡ [] }
     {

@@ -78,7 +78,7 @@ fn variables_of(alloc: Global, literals: &[Lit]) -> Result<Vec<u32>, AllocError>
     Ok(variables)
 }
 
-/// Whether no number stands twice among them. They are put in order.
+/// Whether no number is there twice. They are ordered for this.
 fn none_twice(numbers: &mut Vec<u32>) -> bool
     ensures { IsTrue result ↔ AllPairs (λ x y. x ≢ y) numbers.old.items }
 {
@@ -86,7 +86,7 @@ fn none_twice(numbers: &mut Vec<u32>) -> bool
     numbers.is_sorted_by(|x, y| x < y)
 }
 
-/// Whether no variable stands twice among the literals.
+/// Whether no variable is there twice among the literals.
 pub fn are_distinct(alloc: Global, literals: &[Lit]) -> Result<bool, AllocError>
     ensures { IfOk result (λ distinct. IsTrue distinct ↔ AreDistinct literals.now) }
 {

@@ -18,7 +18,7 @@ pub fn facts_come_line_by_line()
     ensures { (lines : Lines) (line : Line) → facts_of (lines ++ line ∷ []) ≡ facts_after (facts_of lines) line }
 {}
 
-/// A log derives line by line: with one more line it does where it did and that line stands.
+/// A log derives line by line: with one more line it does where it did and that line holds (`Stands`).
 pub fn logs_derive_line_by_line()
     ensures none { Derives [] }
     ensures more { (lines : Lines) (line : Line) → Derives lines → Stands lines line → Derives (lines ++ line ∷ []) }
@@ -26,8 +26,8 @@ pub fn logs_derive_line_by_line()
     ensures last { (lines : Lines) (line : Line) → Derives (lines ++ line ∷ []) → Stands lines line }
 {}
 
-/// Learnt lines are due line by line: with one more line they are where they were and, if it is a
-/// Learnt line, the latest query is open.
+/// Each Learnt line comes where the latest query is open (`Due`). This holds line by line: with one more line it does
+/// where it did and, if the line is a Learnt line, the latest query is open.
 pub fn learnt_lines_are_due_line_by_line()
     ensures none { Due [] }
     ensures more { (lines : Lines) (line : Line) → Due lines → ((c : List Literal) → line ≡ LearntLine c → Open lines) →
@@ -62,7 +62,7 @@ pub fn words_are_of_formula_and_learnt_lines()
         ≡ words_of (flat_map given lines) + words_of (flat_map learnt lines) }
 {}
 
-/// A log that keeps its lines keeps those that it was told behind those that it had.
+/// A log that keeps its lines keeps those that it was given behind those that it had.
 pub fn lines_are_told_behind_those_before()
     ensures { (count : Lines → ℕ) (old new lines : Lines) → told_to (λ kept told. told ≡ kept) count old new lines →
         (new ≡ old ++ lines) × (count new ≡ rose_by (length (flat_map learnt lines)) (count old)) }

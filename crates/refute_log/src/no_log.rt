@@ -3,14 +3,14 @@ ghost use Rattle.std.specs.Prelude.{◌≡◌, ⊤};
 
 use crate::{LogLine, LogSink, LogSinkFault};
 
-/// Counts the Learnt lines that it is told, and keeps none.
+/// Counts the Learnt lines that it is given, and keeps none.
 #[derive(Drop)]
 pub struct NoLog {
     learnt: u64,
 }
 
 impl NoLog {
-    /// No line was told.
+    /// No line was given.
     pub fn new() -> Self
         ensures learnt { ⟦<NoLog as LogSink>⟧.learnt result ≡ 0 }
     {

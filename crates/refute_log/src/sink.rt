@@ -11,7 +11,7 @@ use plan_core::OutOfMemory;
 use std::alloc::{AllocError, AllocFailed};
 use thiserror::Error;
 
-/// Why a line wasn't told.
+/// Why a line wasn't taken.
 #[derive(Debug, Drop, Error)]
 pub enum LogSinkFault {
     /// The log couldn't be written. The log's count of faults rose in the call.
@@ -46,13 +46,13 @@ impl From<OutOfMemory> for LogSinkFault {
     }
 }
 
-/// What the lines of a log are told to. A clause on an error holds for both errors. A log that
-/// refused a line isn't used further.
+/// What takes the lines of a log. A clause on an error holds for both errors. A log that refused a line isn't used
+/// further.
 pub trait LogSink {
     /// The log tells that these are its lines. One that doesn't tell them says so of no list.
     ghost tells: { Self → Lines → Type 0 };
 
-    /// How many Learnt lines were told.
+    /// How many Learnt lines it took.
     ghost learnt: { Self → ℕ };
 
     /// How many faults there were.
@@ -61,7 +61,7 @@ pub trait LogSink {
     /// The second is a later state of the first.
     ghost is_later: { Self → Self → Type 0 };
 
-    /// Tells the line. After an error the lines are as before, or aren't told any more.
+    /// Tells the log the line. After an error the log tells the lines as before, or tells none any more.
     fn tell(&mut self, line: &LogLine) -> Result<(), LogSinkFault>
         requires { MayBeTold line.now }
         ensures ok { OnOk result (AddsLine (tells self.old) (tells self.new) line.now) }
@@ -75,10 +75,10 @@ pub trait LogSink {
     /// A state tells one list at most.
     ghost one_reading: { (s : Self) (a b : Lines) → tells s a → tells s b → a ≡ b };
 
-    /// Each line of it may be told: it is well formed and names no variable twice.
+    /// Each of its lines is one that a log may take: it is well formed and names no variable twice.
     ghost told_lines: { (s : Self) (lines : Lines) → tells s lines → MayAllBeTold lines };
 
-    /// The number of Learnt lines told is that of the list.
+    /// The number of Learnt lines that it took is that of the list.
     ghost counted: { (s : Self) (lines : Lines) → tells s lines → learnt s ≡ learnt_count lines };
 
     /// Each state is a later state of itself.
