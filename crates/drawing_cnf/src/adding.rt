@@ -73,12 +73,12 @@ impl Bounds {
     }
 }
 
-/// Adds a criterion's bound up to a cap, from 1 to the criterion's greatest value: variables right behind the last
-/// one, and clauses that make them say of the drawing's value whether it is at least 1, at least 2 and so on. Where
+/// Adds a criterion's bound up to a cap, from 1 to the criterion's greatest value. It adds variables right behind the
+/// last one. Its clauses make them say of the drawing's value whether it is at least 1, at least 2 and so on. Where
 /// the value can't go so far, a clause of one literal makes the variable false.
 ///
-/// `Room` comes exactly where the words or the variables are more than there may be, want of memory aside; and those
-/// of the bound are few, whatever the answer. After an error the formula isn't used further.
+/// `Room` comes exactly where the words or the variables are more than there may be, want of memory aside. Those of
+/// the bound are few, whatever the answer. After an error the formula isn't used further.
 pub fn criterion_bound<'a>(
     alloc: Global,
     e: &mut Encoded<'a>,

@@ -104,7 +104,7 @@ fn add_sum(
 }
 
 /// Adds the variables and clauses that count the nodes that aren't at their former points, and answers how many nodes
-/// have one. Right behind the variables that were there stand those that say "at least 1 moved", "at least 2 moved" and
+/// have one. Right behind the variables that were there are those that say "at least 1 moved", "at least 2 moved" and
 /// so on, up to that number.
 pub fn add_moved_count(
     alloc: Global,

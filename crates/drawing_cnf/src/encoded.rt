@@ -22,7 +22,7 @@ use std::alloc::Global;
 use std::marker::Model;
 use track_order::TrackOrder;
 
-/// The formula of a graph, whose edges have an order, on a grid: its models stand for the lawful drawings.
+/// The formula of a graph, whose edges have an order, on a grid: its models mean the lawful drawings.
 #[derive(Drop)]
 pub struct Encoded<'a> {
     pub(crate) graph: &'a PortGraph,
@@ -45,7 +45,7 @@ impl<'a> Model for Encoded<'a> {
 }
 
 impl<'a> Encoded<'a> {
-    /// The graph whose drawings the models stand for.
+    /// The graph whose drawings the models mean.
     pub fn graph(&self) -> &PortGraph
         ensures { result.now ≡ self.now.graph }
     {
@@ -59,7 +59,7 @@ impl<'a> Encoded<'a> {
         self.order
     }
 
-    /// The grid on which the drawings stand.
+    /// The grid on which the drawings are.
     pub fn grid(&self) -> &Grid
         ensures { result.now ≡ self.now.grid }
     {
@@ -95,9 +95,9 @@ impl<'a> Encoded<'a> {
 
 /// The formula of a graph, whose edges have this order, on a grid, with room for so many words.
 ///
-/// `Room` comes exactly where the words or the variables are more than there may be, want of memory
-/// aside. Every model stands for a lawful drawing, and every lawful drawing has a model. With least length 1 the
-/// clauses are those without a least length.
+/// `Room` comes exactly where the words or the variables are more than there may be, want of memory aside. Every
+/// model means a lawful drawing, and every lawful drawing has a model. With least length 1 the clauses are those
+/// without a least length.
 pub fn encode<'a>(
     alloc: Global,
     g: &'a PortGraph,

@@ -1,16 +1,16 @@
 //! The formula of a drawing: its models are exactly the lawful drawings of a track graph.
 //!
-//! `encode` makes the formula of a graph on a grid, of the clauses of `cnf_laws`, whose calls and `specs/` it hands on.
-//! `specs/Encoding` is a formula with its graph, order, grid and bounds, `specs/Bounds` has the clauses of the
+//! `encode` makes the formula of a graph on a grid, of the clauses of `cnf_laws`, whose calls and `specs/` it hands
+//! on. `specs/Encoding` is a formula with its graph, order, grid and bounds. `specs/Bounds` has the clauses of the
 //! criteria's bounds, `specs/Bounded` the formula with them. `criterion_bound` (`adding`) adds one behind a whole
-//! formula (`specs/Whole`), by `bounds` and a file for each criterion: `height_bound`, `width_bound`, `sum_bounds`,
-//! `diagonal_bound`. `west_first` orders the edges of a sum. `put`, `put_laws` and `put_bounds` give a lawful drawing's
-//! truth values.
+//! formula (`specs/Whole`). It uses `bounds` and a file for each criterion: `height_bound`, `width_bound`,
+//! `sum_bounds`, `diagonal_bound`. `west_first` orders the edges of a sum. `put`, `put_laws` and `put_bounds` give a
+//! lawful drawing's truth values.
 //!
-//! `specs/Lists` and `specs/Layout` have the same clauses and bounds as the lines of a log (`problem_of`);
-//! `problem_laws` says that they cover the lawful drawings and which variables they name. Searches and judges share
+//! `specs/Lists` and `specs/Layout` have the same clauses and bounds as the lines of a log (`problem_of`).
+//! `problem_laws` says that they cover the lawful drawings, and which variables they name. Searches and judges share
 //! these, and no other code. `add_moved_count` (`counting`) adds variables "at least j nodes moved", by the nodes'
-//! former points; `specs/Moved` counts moved nodes, `specs/MovedClauses` has the clauses.
+//! former points. `specs/Moved` counts moved nodes, `specs/MovedClauses` has the clauses.
 #![tactic(auto)]
 
 mod adding;

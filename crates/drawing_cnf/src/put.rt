@@ -30,7 +30,7 @@ use plan_geometry::{Drawing, values};
 use port_graph::PortGraph;
 use track_order::TrackOrder;
 
-/// What is put: a drawing of a graph, whose edges have an order, on a grid.
+/// What a model is to mean: a drawing of a graph, whose edges have an order, on a grid.
 #[derive(Clone, Copy)]
 pub(crate) struct Subject<'a> {
     pub graph: &'a PortGraph,
@@ -175,7 +175,7 @@ fn put_all(s: &Subject, bounds: &[KeptBound], m: &mut Truths)
 }
 
 impl<'a> Encoded<'a> {
-    /// Makes `m` a model of the formula, bounds included, that stands for a lawful drawing. Takes no memory, and leaves
+    /// Makes `m` a model of the formula, bounds included, that means a lawful drawing. Takes no memory, and leaves
     /// variables behind the formula's as they are.
     pub fn put(&self, d: &Drawing, m: &mut Truths)
         requires whole { IsWhole self.now }

@@ -50,7 +50,7 @@ fn put_bound(k: &KeptBound, value: u32, m: &mut Truths)
     }
 }
 
-/// Puts all bounds, one behind another, of which the first stands behind the drawing's clauses.
+/// Puts all bounds, one behind another, of which the first follows the drawing's clauses.
 pub(crate) fn put_bounds(s: &Subject, bounds: &[KeptBound], values: &Values, m: &mut Truths)
     requires values { values.now ≡ values_of s.now.drawing.now }
     requires kept { AreKept s.now.graph.now s.now.grid.now bounds.now }

@@ -83,8 +83,8 @@ fn add_outputs(f: &mut Formula, s: &Sum, cap: u32, last: u32) -> Result<(), CnfF
 
 /// A sum, and the variables behind number `last` as its outputs, up to a cap; answers the sum.
 ///
-/// Where its clauses are satisfied, these variables say how many of the inputs are true; and where they say it, the
-/// sum's own variables can be chosen so.
+/// Where its clauses are satisfied, these variables say how many of the inputs are true. Where they say it, the sum's
+/// own variables can be chosen so.
 pub fn add_sum_bound(
     alloc: Global,
     f: &mut Formula,

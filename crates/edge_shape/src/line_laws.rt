@@ -18,8 +18,8 @@ pub fn a_track_is_a_line()
     ensures turns { (y : ℕ → ℕ) (w n c : ℕ) → has_inner (line_over y w n) (c + 1) ≡ turns_behind y w n c }
 {}
 
-/// The heights of a line are a track, level outside it, and its points are those over the track; the
-/// slopes of its ends are those of its first and its last step.
+/// The heights of a line are a track, level outside it, and its points are those over the track. The slopes of its
+/// ends are those of its first and its last step.
 pub fn a_line_is_a_track()
     ensures steps { (line : List Point) → is_line line ≡ true → (west_end line).x + steps_of line + 1
         ≡ (east_end line).x }
@@ -42,8 +42,8 @@ pub fn heights_determine_a_line()
         ((c : ℕ) → (west_end a).x ≤ c → c ≤ (east_end a).x → height a c ≡ height b c) → a ≡ b }
 {}
 
-/// A line bends at each of its ends that is diagonal, where a piece is level; without a level piece it
-/// has one slope and no bend.
+/// A line bends at each of its ends that is diagonal, where a piece is level. Without a level piece it has one slope
+/// and no bend.
 pub fn bends_by_end_slopes()
     ensures { (line : List Point) → is_line line ≡ true →
         bends line ≡ cond (not (is_level (slope_west line)) && has_level_piece line) 1 0 + cond

@@ -165,8 +165,8 @@ fn read_drawing(
     Drawing::new(alloc, &places, &lines)
 }
 
-/// The one drawing with laws 1 and 3 for which a model of the nodes' and edges' clauses stands. Of the other laws it
-/// has those that the model's further clauses say.
+/// The one drawing with laws 1 and 3 that a model of the nodes' and edges' clauses means. Of the other laws it has
+/// those that the model's further clauses say.
 pub fn decode_loose(
     alloc: Global,
     g: &PortGraph,
@@ -188,7 +188,7 @@ pub fn decode_loose(
     read_drawing(alloc, g, grid, m)
 }
 
-/// The one lawful drawing for which a model of the formula stands. Its values are what the formula's bounds say.
+/// The one lawful drawing that a model of the formula means. Its values are what the formula's bounds say.
 pub fn decode(alloc: Global, e: &Encoded, m: &Truths) -> Result<Drawing, OutOfMemory>
     requires whole { IsWhole e.now }
     requires vars { e.now.formula.vars ≤ length m.now }

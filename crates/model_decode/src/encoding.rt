@@ -14,7 +14,7 @@ use plan_core::OutOfMemory;
 use plan_geometry::Drawing;
 use std::alloc::Global;
 
-/// A model of the formula, bounds included, that stands for a lawful drawing. `decode` gives the drawing again.
+/// A model of the formula, bounds included, that means a lawful drawing. `decode` gives the drawing again.
 pub fn encode_drawing(alloc: Global, e: &Encoded, d: &Drawing) -> Result<Truths, OutOfMemory>
     requires whole { IsWhole e.now }
     requires lawful { Lawful e.now.graph (is_above e.now.order) e.now.grid d.now }
