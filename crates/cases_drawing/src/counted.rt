@@ -1,7 +1,8 @@
 // A log that counts what it is told.
 use refute_log::{LogLine, LogSink, LogSinkFault};
 
-/// How many lines were told, of these Bound and Learnt lines, and the words of all clauses that were told or learnt.
+/// How many lines came, how many of these are Bound and Learnt lines, and the words of all clauses that came or were
+/// learnt.
 #[derive(Drop)]
 pub struct CountedLog {
     pub lines: u32,

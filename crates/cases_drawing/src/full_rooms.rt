@@ -9,7 +9,7 @@ use search_moved::{Fewest, fewest_moved};
 use std::alloc::Global;
 use std::test::Fail;
 
-/// The grid's columns and rows and the room, and how many bounds are told before it is full, none being a pair's.
+/// The grid's columns and rows and the room, and how many bounds come before it is full. None of them is a pair's.
 static FRONTS: [((u16, u16), u32, u32); 2] = [((40, 8), 1, 0), ((6, 2), 9_221, 8)];
 
 /// How many bounds the search for the front of height and width tells until its room is full; none where it ends
@@ -39,14 +39,14 @@ fn bounds_before(
     Ok(Some(log.bounds))
 }
 
-/// The grid's columns and rows, where the loop's nodes stood, and the room; and whether a drawing is found before it is
-/// full. Without one nothing is told.
+/// The grid's columns and rows, where the loop's nodes were, and the room; and whether a drawing is found before it
+/// is full. Without one no line comes.
 static MOVES: [((u16, u16), &[(u16, u16)], u32, bool); 2] = [
     ((40, 8), &[(0, 0), (5, 0), (1, 0), (4, 0)], 1, false),
     ((6, 2), &[(2, 2), (0, 0), (1, 0), (4, 0)], 8_915, true),
 ];
 
-/// Whether the search for the fewest moved nodes has a drawing when its room is full, and whether a line was told; none
+/// Whether the search for the fewest moved nodes has a drawing when its room is full, and whether a line came. None
 /// where it ends otherwise.
 fn drawn_before(
     alloc: Global,

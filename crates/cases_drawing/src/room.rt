@@ -72,7 +72,7 @@ fn with_laws_to_choose(alloc: Global) -> Result<([u32; 3], usize), Fail> {
     Ok((sizes(&why.formula), why.laws.len()))
 }
 
-/// Of one node, whose columns go to 2 and rows to 1, and which stood in the corner: the sizes with those that count
+/// Of one node, whose columns go to 2 and rows to 1, and which was in the corner: the sizes with those that count
 /// whether it moved, and the count's variables.
 fn of_a_node_that_may_move(alloc: Global) -> Result<([u32; 3], u32), CnfFault> {
     let mut f = Formula::new(alloc, ROOM)?;
@@ -92,9 +92,9 @@ fn of_a_node_that_may_move(alloc: Global) -> Result<([u32; 3], u32), CnfFault> {
     Ok((sizes(&f), count))
 }
 
-/// Counted by hand. The laws 2, 4 and 5 have 2 variables, 13 clauses and 66 words; where they are to choose there are
-/// two variables and a clause for each of four laws, and a literal more in each of their own clauses, law 5 for nodes
-/// in any order.
+/// Counted by hand. The laws 2, 4 and 5 have 2 variables, 13 clauses and 66 words. Where they are to choose there are
+/// two variables and a clause for each of four laws. Each of the laws' own clauses then has one literal more, and law
+/// 5 is there for nodes in any order.
 fn measure_all(alloc: Global) -> Result<(), Fail> {
     if of_one_track(alloc)? != ([27, 115, 650], [25, 102, 584]) {
         return Err(Fail::new("one track"));

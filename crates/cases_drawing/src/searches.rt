@@ -14,8 +14,8 @@ use std::alloc::Global;
 use std::test::Fail;
 use track_order::TrackOrder;
 
-/// How a search ends: in a word, with its drawing's values, if it has one, how many criteria it says are settled, and
-/// how many bounds were told, if any line was.
+/// How a search ends: in a word, with its drawing's values, if it has one, and how many criteria it says are settled.
+/// It has how many bounds came too, if any line did.
 type Ending = (&'static str, Option<Values>, u8, Option<u32>);
 
 /// What a search is asked: the columns and rows of its grid, and its room; and how it ends.
@@ -92,7 +92,7 @@ fn height_first() -> Option<Order> {
     ])
 }
 
-/// How an outcome ends, behind what was told.
+/// How an outcome ends, behind the lines that came.
 fn ending_of(outcome: &Outcome, log: &CountedLog) -> Ending {
     let (word, found, settled) = match outcome {
         Outcome::Best(d) => ("best", Some(d), 0),
@@ -111,7 +111,7 @@ fn ending_of(outcome: &Outcome, log: &CountedLog) -> Ending {
     }
 }
 
-/// The search of a station for the best drawing, within a room. All that the solver keeps was told once.
+/// The search of a station for the best drawing, within a room. All that the solver keeps came once.
 fn searched(
     alloc: Global,
     g: &PortGraph,
@@ -135,7 +135,7 @@ fn searched(
     Ok(ending_of(&outcome, &log))
 }
 
-/// Whether a search ends as told.
+/// Whether a search ends as it is to.
 fn is_as_told(alloc: Global, search: &Search) -> Result<bool, Fail> {
     let (g, t) = station_of(alloc, search.file)?;
     let grid = Grid::new(search.grid.0, search.grid.1).ok_or("a grid")?;
@@ -156,7 +156,7 @@ fn searches_end_and_tell_what_is_kept(rt: HostRuntime) -> Result<(), Fail> {
     search_all(rt.alloc())
 }
 
-/// A search with a solver of its own in a room of one word, which is full before any line is told.
+/// A search with a solver of its own in a room of one word, which is full before any line comes.
 fn search_in_one_word(alloc: Global) -> Result<(), Fail> {
     let (g, t) = station_of(alloc, ONE)?;
     let grid = Grid::new(40, 8).ok_or("a grid")?;

@@ -4,7 +4,7 @@ use plan_core::{Point, Slope};
 use plan_geometry::Line;
 use std::test::Fail;
 
-/// Its points, and what is told of each column: the slope behind it, whether an inner point is in it, and whether a
+/// Its points, and what is so at each column: the slope behind it, whether an inner point is in it, and whether a
 /// level piece ends by its end.
 static POINTS: [Point; 4] = [
     Point { x: 1, y: 0 },
@@ -22,7 +22,7 @@ static COLUMNS: [(u16, Slope, bool, bool); 6] = [
     (5, Slope::Level, false, true),
 ];
 
-/// Whether a column of the line is as told.
+/// Whether a column of the line is as it is to be.
 fn is_told(line: &Line, column: &(u16, Slope, bool, bool)) -> bool {
     let (c, slope, inner, level) = *column;
     c < 6

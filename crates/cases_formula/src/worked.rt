@@ -50,7 +50,7 @@ fn is_settled(alloc: Global) -> Result<bool, CnfFault> {
     Ok(f.vars() == 0 && at_least)
 }
 
-/// Whether a sum of three inputs has seven variables and a model for each setting of the inputs, and two of them are at
+/// Whether a sum of three inputs has seven variables, and a model for each setting of the inputs. Two of them are at
 /// least 1 and 2 in its model.
 fn is_two(alloc: Global) -> Result<bool, CnfFault> {
     let mut f = Formula::new(alloc, ROOM)?;
@@ -85,8 +85,8 @@ fn an_integer_and_a_sum_are_at_least_so_great(rt: HostRuntime) -> Result<(), Fai
     count(rt.alloc())
 }
 
-/// How many pairs of numbers from 0 to 3 and from 1 to 3 there are of which the first with `plus` is at most the
-/// second, and how many are equal: as many as models.
+/// Of pairs of numbers from 0 to 3 and from 1 to 3: how many there are of which the first with `plus` is at most the
+/// second. Without `plus`, how many are equal. There are as many as models.
 fn pairs(alloc: Global, plus: Option<u32>) -> Result<u32, CnfFault> {
     let mut f = Formula::new(alloc, ROOM)?;
     let a = new_int(&mut f, 0, 3)?;
