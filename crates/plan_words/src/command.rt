@@ -64,8 +64,8 @@ impl CommandWord {
 /// What the program is asked to do. Each text is a file's name.
 #[derive(Drop)]
 pub enum Command {
-    /// Draws the railML file `input` on the grid, best in the order. The budget says how many learnt clauses it may
-    /// have at most. It writes a picture and a log where names are given for them.
+    /// Draws the railML file `input` on the grid, best in the order. The budget says how many learnt clauses there
+    /// may be at most. It writes a picture and a log where names are given for them.
     Draw {
         input: Text,
         grid: Grid,
@@ -108,8 +108,8 @@ pub enum Command {
         log: Option<Text>,
     },
     /// Finds each pair of values of the two criteria that lawful drawings of `input` on the grid have, without those
-    /// that another beats: less in one and not more in the other. The budget says how many learnt clauses it may have
-    /// at most. The criteria differ.
+    /// that another beats: less in one and not more in the other. The budget says how many learnt clauses there may
+    /// be at most. The criteria differ.
     Front {
         input: Text,
         first: Criterion,
@@ -118,7 +118,7 @@ pub enum Command {
         budget: u32,
     },
     /// Draws `input` on the grid with as few nodes as can be at other points than in the drawing of `sheet`. That
-    /// drawing is one of the railML file `former`. The budget says how many learnt clauses it may have at most. It
+    /// drawing is one of the railML file `former`. The budget says how many learnt clauses there may be at most. It
     /// writes a log where a name is given for it.
     Redraw {
         input: Text,
@@ -129,7 +129,7 @@ pub enum Command {
         log: Option<Text>,
     },
     /// Finds laws that say why `input` has no lawful drawing on the grid, or a lawful drawing. The budget says how
-    /// many learnt clauses it may have at most.
+    /// many learnt clauses there may be at most.
     Explain {
         input: Text,
         grid: Grid,

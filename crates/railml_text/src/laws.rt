@@ -13,7 +13,7 @@ pub fn one_item()
         HasItem first rest t b → (s ≡ t) × (a ≡ b) }
 {}
 
-/// The item at a place is one.
+/// A sound item at a place has one kind, and one text follows it.
 pub fn one_sound_item()
     ensures { (first : Bool) (rest : List ℕ) (k l : ItemKind) (a b : List ℕ) → HasSoundItem first rest k a →
         HasSoundItem first rest l b → (k ≡ l) × (a ≡ b) }

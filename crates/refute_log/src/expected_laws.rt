@@ -13,8 +13,8 @@ ghost use Rattle.refute_log.specs.Least.{IsLogOf, CertifiedAreLeast};
 ghost use Rattle.refute_log.specs.Expected.{Problem, HasAllBounds, caps, expected_lines, expected_vars};
 ghost use Rattle.refute_log.specs.Expected.{IsNextToCap, StandsOnce, EndsWithSum, EndsWithSumVars};
 
-/// This holds whoever wrote the log, and with whatever caps. Let the expected lines cover the lawful drawings. Let
-/// the log derive, and let its Formula and Bound lines begin those that are expected for its own caps. Then no lawful
+/// This holds whoever wrote the log. Let the expected lines cover the lawful drawings, with whatever caps. Let the
+/// log derive, and let the lines expected for its own caps begin with its Formula and Bound lines. Then no lawful
 /// drawing is better on the criteria that it certifies. Where it certifies that there is none, there is none.
 pub fn certified_over_expected_lines_is_least()
     ensures least { (g : Graph) (above : ℕ → ℕ → Bool) (grid : GridSize) (e : Problem) (greatest : Criterion → ℕ)
