@@ -46,7 +46,7 @@ fn is_same(a: &LogLine, b: &LogLine) -> bool {
     }
 }
 
-/// Whether the lines of a log behind its first are those that a trace got, and the last one says that nothing is
+/// Whether the lines of a log behind its first are those that a trace took, and the last one says that nothing is
 /// better.
 fn has_lines(alloc: Global, log: &str, trace: &LineList) -> Result<bool, Fail> {
     let mut told = 0;

@@ -154,7 +154,7 @@ fn explain_with<L: LogSink>(
 /// meets together and of which none can be left out, with a drawing for each that meets the others. Or as far as the
 /// budget of learnt clauses and the room for the words of all clauses allow.
 ///
-/// The order `t` is that of the graph's edges. The log gets all lines: the formula's clauses, the questions, what is
+/// The order `t` is that of the graph's edges. The log takes all lines: the formula's clauses, the questions, what is
 /// learnt, and the answers. After an error a log that had no line derives, and its Formula lines are the first of
 /// those.
 pub fn explain<L: LogSink>(

@@ -109,7 +109,7 @@ pub fn front_with<L: LogSink>(
 /// The front of two criteria of the graph's lawful drawings on the grid, or as far as the limits allow: the budget of
 /// learnt clauses, and the room for the words of all clauses.
 ///
-/// The order `t` is that of the graph's edges, and the criteria differ. The log gets all lines: the drawings' clauses,
+/// The order `t` is that of the graph's edges, and the criteria differ. The log takes all lines: the drawings' clauses,
 /// both criteria's clauses with all their bounds, the questions, what is learnt, and the answers. After an error a log
 /// that had no line derives, and its Formula and Bound lines are the first of those.
 pub fn front<L: LogSink>(

@@ -99,7 +99,7 @@ pub fn minimise_with<L: LogSink>(
 
 /// A lawful drawing of the graph on the grid with the least values in the wanted order, or as far as the limits allow.
 ///
-/// The order `t` is that of the graph's edges. The log gets all lines: the drawings' clauses, each criterion's clauses
+/// The order `t` is that of the graph's edges. The log takes all lines: the drawings' clauses, each criterion's clauses
 /// with its bounds, whole or not at all, the questions, what is learnt, and the answers. `Spent` comes where as many
 /// clauses were learnt as the budget allows, `Room` where what comes next has no room: too many words or variables.
 /// After an error a log that had no line derives.

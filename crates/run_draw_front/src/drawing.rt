@@ -57,7 +57,7 @@ impl<'a> Model for Asked<'a> {
     ghost view = { λ s. job s.grid.now s.order.now s.budget s.svg.now s.log.now };
 }
 
-/// The outcome of a search for the station's best drawing, whose lines the log gets.
+/// The outcome of a search for the station's best drawing, whose lines the log takes.
 pub fn search<L: LogSink>(
     alloc: Global,
     station: &Station,

@@ -44,7 +44,7 @@ impl<'a> Model for RedrawAsked<'a> {
     ghost view = { λ a. redraw_job a.grid.now a.budget a.log.now };
 }
 
-/// The outcome of a search for the drawing with the fewest moved nodes, whose lines the log gets.
+/// The outcome of a search for the drawing with the fewest moved nodes, whose lines the log takes.
 fn search<L: LogSink>(
     alloc: Global,
     known: &Known,

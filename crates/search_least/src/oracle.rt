@@ -49,7 +49,7 @@ pub enum Built {
     NoRoom,
 }
 
-/// The clauses of a file's drawings in a solver, and a log that gets every line. After an error it isn't used further.
+/// The clauses of a file's drawings in a solver, and a log that takes every line. After an error it isn't used further.
 pub trait Oracle {
     /// What is searched.
     ghost task: { Self → Task };
@@ -57,13 +57,13 @@ pub trait Oracle {
     /// It can be asked.
     ghost ready: { Self → Type 0 };
 
-    /// The lines that the log got since the start: they belong to the solver and to the clauses.
+    /// The lines that the log took since the start: they belong to the solver and to the clauses.
     ghost knows: { Self → Lines → Type 0 };
 
     /// The log says that these are its lines.
     ghost log: { Self → Lines → Type 0 };
 
-    /// How many Learnt lines the log got.
+    /// How many Learnt lines the log took.
     ghost learnt: { Self → ℕ };
 
     /// How many faults the log had.

@@ -104,7 +104,7 @@ fn fewest_with<L: LogSink>(
 /// as the limits allow.
 ///
 /// The order `t` is that of the graph's edges, and `former` has an entry for each node. Where the formula has no room,
-/// the log gets nothing. Else it gets the formula's clauses, the questions, what is learnt, and the answers. `Spent`
+/// the log takes nothing. Else it takes the formula's clauses, the questions, what is learnt, and the answers. `Spent`
 /// comes where as many clauses were learnt as the budget allows, `Room` where what comes next has no room: too many
 /// words or variables.
 ///

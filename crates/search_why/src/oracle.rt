@@ -24,7 +24,7 @@ pub enum Reply {
     Stopped(Stop),
 }
 
-/// The clauses of loose drawings with laws to choose in a solver, and a log that gets every line. After an error it
+/// The clauses of loose drawings with laws to choose in a solver, and a log that takes every line. After an error it
 /// isn't used further.
 pub trait LawOracle {
     /// What is searched.
@@ -33,13 +33,13 @@ pub trait LawOracle {
     /// It can be asked.
     ghost ready: { Self → Type 0 };
 
-    /// The lines that the log got since the start: they belong to the solver and to the clauses.
+    /// The lines that the log took since the start: they belong to the solver and to the clauses.
     ghost knows: { Self → Lines → Type 0 };
 
     /// The log says that these are its lines.
     ghost log: { Self → Lines → Type 0 };
 
-    /// How many Learnt lines the log got.
+    /// How many Learnt lines the log took.
     ghost learnt: { Self → ℕ };
 
     /// How many faults the log had.
