@@ -7,8 +7,8 @@ use refute_log::{LogLine, read_line};
 use std::alloc::Global;
 use std::test::Fail;
 
-/// A room; lines that a new checker with this room is told, each with its answer; and the verdicts behind them, where
-/// no literal is allowed, where 1 is, and where 1 and 2 are.
+/// A room. Lines that a new checker with this room gets, each with its answer. The verdicts behind them, where no
+/// literal is allowed, where 1 is, and where 1 and 2 are.
 struct Log {
     room: u32,
     lines: &'static [(&'static str, &'static str)],
@@ -217,7 +217,7 @@ fn verdicts_of(checker: &Checker) -> [bool; 3] {
     ]
 }
 
-/// Tells a new checker the lines of a log, which have their answers and verdicts.
+/// Gives a new checker the lines of a log, which have their answers and verdicts.
 fn play(alloc: Global, log: &Log) -> Result<(), Fail> {
     let mut checker = Checker::new(alloc, log.room.min(1_000))?;
     for (text, answer) in log.lines {
@@ -254,7 +254,7 @@ fn literal(v: u32, positive: bool) -> Lit
     Lit::new(Var(v), positive)
 }
 
-/// Tells that one of two literals is true where the variable 1 is false.
+/// Gives a Formula line: one of two literals is true where the variable 1 is false.
 fn tell_either(alloc: Global, checker: &mut Checker, a: Lit, b: Lit) -> Result<(), Fail> {
     if a.var().0 == 1 || b.var().0 == 1 || a.var().0 == b.var().0 {
         return Err(Fail::new("three variables"));
@@ -264,7 +264,7 @@ fn tell_either(alloc: Global, checker: &mut Checker, a: Lit, b: Lit) -> Result<(
     Ok(())
 }
 
-/// Tells the formula of the long log: two chains of implications, whose last variables aren't both true, and twenty
+/// Gives the formula of the long log: two chains of implications, whose last variables aren't both true, and twenty
 /// variables that are true or start both chains.
 fn tell_chains(alloc: Global, checker: &mut Checker) -> Result<(), Fail> {
     told(alloc, checker, "f -1 0")?;
@@ -291,7 +291,7 @@ fn tell_chains(alloc: Global, checker: &mut Checker) -> Result<(), Fail> {
     Ok(())
 }
 
-/// Tells the long log, and that each of the twenty variables is true.
+/// Gives the long log, and that each of the twenty variables is true.
 fn follow_chains(alloc: Global) -> Result<(), Fail> {
     let mut checker = Checker::new(alloc, 1_000_000)?;
     tell_chains(alloc, &mut checker)?;

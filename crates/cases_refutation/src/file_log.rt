@@ -14,7 +14,7 @@ fn letter(outcome: Result<(), LogSinkFault>) -> char {
     }
 }
 
-/// Tells a line of 16 bytes 4,100 times; how many were told, and how the last call ended.
+/// Gives a line of 16 bytes 4,100 times. The answer is how many were taken, and how the last call ended.
 fn tell_many<L: LogSink>(alloc: Global, log: &mut L) -> Result<(u32, char), Fail> {
     let line = LogLine::Refuted(Clause::new(alloc, &[Lit::new(Var(1073741823), false)])?);
     let mut told = 0u32;
@@ -28,8 +28,8 @@ fn tell_many<L: LogSink>(alloc: Global, log: &mut L) -> Result<(u32, char), Fail
     Ok((told, last))
 }
 
-/// What comes of a log in a file: how its start ended; of the lines that it is told, how many were told and how the
-/// last call ended, and how its end did, where it was started.
+/// What comes of a log in a file. First how its start ended. Then, of the lines that it is given, how many it took and
+/// how the last call ended. Then how its end did, where it was started.
 type Ended = (char, (u32, char), char);
 
 fn ended(alloc: Global, files: &mut MemoryFiles) -> Result<Ended, Fail> {
@@ -42,7 +42,7 @@ fn ended(alloc: Global, files: &mut MemoryFiles) -> Result<Ended, Fail> {
     }
 }
 
-/// Two calls that fail, what comes of a log, and how many lines of 16 bytes stand in the file behind the first line, if
+/// Two calls that fail, what comes of a log, and how many lines of 16 bytes are in the file behind the first line, if
 /// it is there. Call 1 creates the file and call 2 appends its first line of 15 bytes. The 4,096th line of 16 bytes
 /// fills the first piece, which call 3 appends. Call 4 appends the rest.
 static CALLS: [([u32; 2], Ended, Option<usize>); 6] = [

@@ -7,8 +7,8 @@ use hint_log::{HintChecker, HintFault, HintLine, read_hint};
 use std::alloc::Global;
 use std::test::Fail;
 
-/// A room; lines that a new checker with this room is fed, each with the place of the hint at which it fails, if it
-/// does, which is 0 where it has no room; and the verdict behind them, where no literal is allowed.
+/// A room. Lines that a new checker with this room gets, each with the place of the hint at which it fails, if it does;
+/// this is 0 where it has no room. The verdict behind them, where no literal is allowed.
 struct Log {
     room: u32,
     lines: &'static [(&'static str, Option<u32>)],

@@ -1,4 +1,4 @@
-// What runs put and leave where one call of their files, or of their sink, fails: each call in its turn, until a run
+// What runs print and leave where one call of their files, or of their sink, fails: each call in its turn, until a run
 // meets no failure.
 use crate::runs::{run_untraced, words_from};
 use crate::sheets::{LOOP_SHEET, ONE_SHEET};
@@ -7,7 +7,7 @@ use outside_io::{Files, MemoryFiles, MemorySink, Sink};
 use std::alloc::{AllocError, Global};
 use std::test::Fail;
 
-/// The first line of a log, behind which nothing stands.
+/// The first line of a log, behind which there is nothing.
 const TITLE: &str = "railplan-log 1\n";
 
 /// A sheet of one track that isn't the best, of a search that has settled no more than it says.
@@ -86,7 +86,8 @@ fn begins(file: &Option<Vec<u8>>, text: &Option<Vec<u8>>) -> bool {
     }
 }
 
-/// The words of a run that writes files, how many files it reads, and the text that it puts where it meets no failure.
+/// The words of a run that writes files, how many files it reads, and the text that it prints where it meets no
+/// failure.
 type Writing = (&'static [&'static str], u32, &'static str);
 
 static WRITINGS: [Writing; 4] = [
@@ -110,8 +111,8 @@ fn same_files(left: &Left, whole: &Left) -> bool {
 }
 
 /// Whether a run that writes files answers so where a call of its files fails, one of its reads or a later one, and
-/// leaves so much of them. Where a read fails this line is put, and no file is created. Where a later call fails
-/// nothing is put, and the picture is begun behind a whole log.
+/// leaves so much of them. Where a read fails this line is printed, and no file is created. Where a later call fails
+/// nothing is printed, and the picture is begun behind a whole log.
 fn tells_failing_call(left: &Left, whole: &Left, reads: bool, line: &str) -> bool {
     if left.spared {
         left.status == 0 && left.put == whole.put && same_files(left, whole)
@@ -129,7 +130,7 @@ fn tells_failing_call(left: &Left, whole: &Left, reads: bool, line: &str) -> boo
     }
 }
 
-/// Whether a run answers so each failing call of its files, in turn until it meets no failure, and then puts this
+/// Whether a run answers so each failing call of its files, in turn until it meets no failure, and then prints this
 /// text.
 fn tells_failing_calls(alloc: Global, writing: &Writing) -> Result<bool, Fail> {
     let (words, inputs, text) = writing;
@@ -221,8 +222,8 @@ fn each_failing_read_is_told(rt: HostRuntime) -> Result<(), Fail> {
     tell_all_reads(rt.alloc())
 }
 
-/// Whether a run puts this text in one piece, and ends with 6 where that put fails: then nothing was put, and the files
-/// are as they are without a failure.
+/// Whether a run prints this text in one piece, and ends with 6 where that call fails: then nothing is printed, and the
+/// files are as they are without a failure.
 fn tells_failing_put(
     alloc: Global,
     words: &[&'static str],

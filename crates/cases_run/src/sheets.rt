@@ -1,4 +1,4 @@
-// Sheets of these stations, as `draw` puts them.
+// Sheets of these stations, as `draw` prints them.
 
 pub const ONE_SHEET: &str = "railplan 2
 grid 40 8 1

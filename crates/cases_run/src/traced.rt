@@ -1,4 +1,4 @@
-// What a run tells its trace: the lines that it writes where a file is named for the log.
+// What a run gives its trace: the lines that it writes where a file is named for the log.
 use crate::runs::{answer_to, run_traced, words_from};
 use crate::stations::{LOOP, ONE};
 use outside_io::{SureFiles, SureSink};
@@ -46,7 +46,7 @@ fn is_same(a: &LogLine, b: &LogLine) -> bool {
     }
 }
 
-/// Whether the lines of a log behind its first are those that a trace was told, and the last one says that nothing is
+/// Whether the lines of a log behind its first are those that a trace took, and the last one says that nothing is
 /// better.
 fn has_lines(alloc: Global, log: &str, trace: &LineList) -> Result<bool, Fail> {
     let mut told = 0;
@@ -62,7 +62,7 @@ fn has_lines(alloc: Global, log: &str, trace: &LineList) -> Result<bool, Fail> {
     Ok(refuted && told == trace.len())
 }
 
-/// Whether a run that names no file for the log puts the same sheet and tells its trace the same lines as one that
+/// Whether a run that names no file for the log prints the same sheet and gives its trace the same lines as one that
 /// does.
 fn tells_its_trace(alloc: Global, file: &str) -> Result<bool, Fail> {
     let drawn = logged(alloc, &["draw", "one.xml", "--log", "l"], file)?;

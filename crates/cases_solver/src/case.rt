@@ -14,8 +14,8 @@ use std::alloc::Global;
 /// The most words of the clauses of a solver.
 const WORDS: u32 = 1_000_000;
 
-/// A formula, a solver that is given its clauses, and a checker that is told the solver's lines. An
-/// error is want of memory, or of room, which is ample.
+/// A formula, a solver that is given its clauses, and a checker that gets the solver's lines. An error is want of
+/// memory, or of room, which is ample.
 #[derive(Drop)]
 pub struct Case {
     alloc: Global,

@@ -4,7 +4,7 @@ ghost use Rattle.std.specs.Prelude.{◌≡◌, ⊤};
 use refute_log::{LogLine, LogSink, LogSinkFault, write_line};
 use std::alloc::Global;
 
-/// The text of the last line, and how many were told. The line behind so many is refused.
+/// The text of the last line, and how many lines came. The line behind so many is refused.
 #[derive(Drop)]
 pub struct LastLine {
     left: u32,

@@ -17,7 +17,7 @@ fn has_var(lits: &[Lit], l: Lit) -> bool
     false
 }
 
-/// Puts the literal behind the others, where its variable is none of theirs and at most `vars`.
+/// Adds the literal behind the others, where its variable is none of theirs and at most `vars`.
 fn push_there(lits: &mut Vec<Lit>, l: Lit, vars: u32) -> Result<(), OutOfMemory>
     requires distinct { AreDistinct lits.old.items }
     requires there { AreThere vars lits.old.items }

@@ -141,7 +141,8 @@ fn told(
     Ok(format!(in alloc; "{outcome:?}{found}, line {} is {text}", log.lines)?)
 }
 
-/// A room, so many variables, how many of them are suggested to be true, if any model is; queries, and what is told.
+/// A room, so many variables, how many of them are suggested to be true, if any model is; queries, and what is
+/// answered.
 struct Case {
     shows: &'static str,
     room: u32,
@@ -195,7 +196,7 @@ const PIGEONS: &[&[i32]] = &[
     &[-9, -12],
 ];
 
-/// More lines than any case tells.
+/// More lines than any case has.
 const MANY: u32 = 10_000;
 
 static CASES: [Case; 16] = [
@@ -512,8 +513,8 @@ fn conflicts_are_analysed(rt: HostRuntime) -> Result<(), Fail> {
     learn_all(rt.alloc())
 }
 
-/// So many clauses of two neighbouring variables, from a variable on; a query behind them, where all variables are
-/// suggested to be true; and how many clauses are looked at.
+/// So many clauses of two neighbouring variables, from a variable on. A query behind them, where all variables are
+/// suggested to be true. How many clauses are looked at.
 struct Look {
     shows: &'static str,
     from: i32,

@@ -1,4 +1,4 @@
-// Literals as numbers, and what is told of them.
+// Literals as numbers, and their text.
 ghost use Rattle.std.specs.Prelude.{◌≡◌, ◌≤◌, IfOk, length};
 ghost use Rattle.cnf_core.specs.Clause.{AreDistinct, AreThere, IsThere};
 

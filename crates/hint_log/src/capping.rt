@@ -31,7 +31,7 @@ fn are_numbers(fields: &Fields<'_>) -> bool
         && is_number(fields.width)
 }
 
-/// The four fields that stand behind the line's word.
+/// The four fields behind the line's word.
 fn split_caps(text: &[u8]) -> Option<Fields<'_>>
     ensures { MatchOption result ((form : CapsForm) → IsOfCapsForm text.now form → ⊥)
         (λ f. IsOfCapsForm text.now (caps_form f)) }

@@ -4,7 +4,7 @@ ghost use Rattle.hint_log.specs.Parts.{LacksZero, IsCutBehindZero, BeginsHinted}
 
 use outside_io::behind;
 
-/// The text up to its first field `0` that another field follows, and what stands behind the space that follows it.
+/// The text up to its first field `0` that another field follows, and what comes behind the space that follows it.
 pub(crate) fn cut_literals(text: &[u8]) -> Option<(&[u8], &[u8])>
     ensures { MatchOption result (LacksZero text.now) (λ p. IsCutBehindZero text.now p.0.now p.1.now) }
 {

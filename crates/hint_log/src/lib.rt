@@ -1,17 +1,17 @@
 //! Hinted lines: for each learnt clause the clauses from which it follows, so that one pass checks a log.
 //!
 //! A line is a clause and the numbers of clauses before it. `HintChecker` accepts exactly the good lines: each clause
-//! that a line names has one literal left, and the last one has none. It reads one table entry for each literal of the
-//! clauses that a line names, whose literals it goes through once a line; a variable that the formula lacks takes a
-//! search among such literals. `specs/Hint` says which lines are good and where a line fails, `specs/Checked` what a
-//! checker keeps, `specs/HintedLines` when lines in a row are good; `laws` says what follows. `judging` goes along a
-//! line's hints over the marks of `marks` and the notes of `notes`; `specs/Looks` is for private contracts.
+//! that a line names has one literal left, and the last one has none. It goes through the literals of a named clause
+//! once a line, and reads one table entry for each. For a variable that the formula lacks it searches among such
+//! literals. `specs/Hint` says which lines are good and where a line fails. `specs/Checked` says what a checker keeps,
+//! `specs/HintedLines` when lines in a row are good; `laws` says what follows. `judging` goes along a line's hints over
+//! the marks of `marks` and the notes of `notes`. `specs/Looks` is for private contracts.
 //!
 //! The text has a first line, a line of caps (`capping`) and the hinted lines. `write_hint` writes one, `read_hint`
-//! reads one (`reading`, `cutting`, `numbers`). `specs/HintText` has the texts, `specs/HintForm` and `specs/HintFaults`
-//! say what a text is as a line, or its fault, `specs/Caps` the same of the caps, and `text_laws` that texts are read
-//! in one way. The crate uses clauses and log lines alone; it shares nothing with a search. `log_check` and `log_trim`
-//! use it.
+//! reads one (`reading`, `cutting`, `numbers`). `specs/HintText` has the texts. `specs/HintForm` and `specs/HintFaults`
+//! say what a text is as a line, or its fault; `specs/Caps` says the same of the caps. `text_laws` says that texts are
+//! read in one way. The crate uses clauses and log lines alone, and shares nothing with a search. `log_check` and
+//! `log_trim` use it.
 #![tactic(auto)]
 
 mod capping;

@@ -16,7 +16,7 @@ pub enum HintsWhat {
     Form,
     /// A number isn't canonical or is out of its range.
     Number,
-    /// A variable stands twice among the literals.
+    /// A variable comes twice among the literals.
     Twice,
     /// A cap is above the greatest value of its criterion, or positive for one that the order hasn't.
     Range,

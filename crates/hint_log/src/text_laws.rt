@@ -20,7 +20,7 @@ pub fn one_hinted_line()
     ensures { (text : List ℕ) (a b : Line) → SpellsHint text a → SpellsHint text b → a ≡ b }
 {}
 
-/// A text has one fault at most, and none where it is that of a line in which no variable stands twice.
+/// A text has one fault at most, and none where it is that of a line in which no variable comes twice.
 pub fn one_hint_or_one_fault()
     ensures fault { (text : List ℕ) (a b : What) → HasHintTextFault text a → HasHintTextFault text b → a ≡ b }
     ensures line { (text : List ℕ) (line : Line) (what : What) → IsHintOf text line → HasHintTextFault text what → ⊥ }

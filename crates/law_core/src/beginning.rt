@@ -57,7 +57,7 @@ fn begin<L: LogSink>(formula: &Formula, solver: &mut Solver, log: &mut L) -> Res
     }
 }
 
-/// The search, once the solver and the log were told the formula's clauses.
+/// The search, once the solver and the log have the formula's clauses.
 fn search_from<L: LogSink>(
     known: &WhyKnown,
     solver: &mut Solver,
@@ -150,13 +150,13 @@ fn explain_with<L: LogSink>(
     }
 }
 
-/// A lawful drawing of the graph on the grid; or, where there is none, laws with their parties that no loose drawing
-/// meets together and of which none can be left out, with a drawing for each that meets the others; or as far as the
+/// A lawful drawing of the graph on the grid. Or, where there is none, laws with their parties that no loose drawing
+/// meets together and of which none can be left out, with a drawing for each that meets the others. Or as far as the
 /// budget of learnt clauses and the room for the words of all clauses allow.
 ///
-/// The order `t` is that of the graph's edges. All lines are told to the log: the formula's clauses, the questions,
-/// what is learnt, and the answers. After an error a log that had no line derives, and its Formula lines are the first
-/// of those.
+/// The order `t` is that of the graph's edges. The log takes all lines: the formula's clauses, the questions, what is
+/// learnt, and the answers. After an error a log that had no line derives, and its Formula lines are the first of
+/// those.
 pub fn explain<L: LogSink>(
     alloc: Global,
     g: &PortGraph,

@@ -13,7 +13,7 @@ ghost use Rattle.drawing_cnf.specs.Expected.{laws_first};
 ghost use Rattle.law_core.specs.Choices.{loose_clauses, loose_size};
 ghost use Rattle.law_core.specs.Chosen.{selector_at, why_task};
 
-/// The selecting variable of each law stands in a clause, lies behind those of nodes and edges, and is no other law's.
+/// The selecting variable of each law is in a clause, lies behind those of nodes and edges, and is no other law's.
 pub fn selectors_are_apart()
     ensures named { (g : Graph) (grid : GridSize) (laws : List Instance) (n : ℕ) → n < length laws →
         IsNamed (loose_clauses g grid laws) (selector_at g grid laws n) }

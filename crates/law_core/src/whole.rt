@@ -55,9 +55,9 @@ fn make_why_formula(
 
 /// The formula of loose drawings with all laws of a graph, whose edges have this order, to choose.
 ///
-/// Every model stands for a loose drawing that meets each selected law, and every loose drawing, with each choice of
-/// laws that it meets, has a model. `Room` comes exactly where the words or the variables are more than there may be,
-/// want of memory aside.
+/// Every model gives a loose drawing that meets each selected law, and every loose drawing, with each choice of laws
+/// that it meets, has a model. `Room` comes exactly where the words or the variables are more than there may be, want
+/// of memory aside.
 pub fn why_formula(
     alloc: Global,
     g: &PortGraph,

@@ -1,4 +1,4 @@
-// The formula's clauses and a criterion's bounds, told whole or not at all.
+// The formula's clauses and a criterion's bounds, added whole or not at all.
 ghost use Rattle.std.specs.Prelude.{◌≡◌, ◌≤◌, ◌+◌, ◌-◌, ◌++◌, ◌∷◌, [], false, IfOk, OnOk, OnErr, IsErrOf, IsTrue, ◌↔◌};
 ghost use Rattle.std.specs.Prelude.{MatchOption, length, map, drop};
 ghost use Rattle.outside_io.specs.Counts.{Rose};
@@ -90,7 +90,7 @@ fn has_room(solver: &Solver, more: u32, room: u32) -> bool
     u64::from(solver.words()) + u64::from(more) <= u64::from(room)
 }
 
-/// Tells the clauses and the numbers of the bound behind the formula, which the solver has room for.
+/// Adds the clauses and the numbers of the bound behind the formula, which the solver has room for.
 fn tell_criterion<L: LogSink>(
     known: &mut Known,
     solver: &mut Solver,
@@ -124,7 +124,7 @@ fn tell_criterion<L: LogSink>(
     Ok(())
 }
 
-/// Tells the clauses and the bounds of a criterion up to the cap, all or none.
+/// Adds the clauses and the bounds of a criterion up to the cap, all or none.
 pub(crate) fn build<L: LogSink>(
     known: &mut Known,
     solver: &mut Solver,

@@ -29,7 +29,7 @@ use std::alloc::Global;
 use track_order::TrackOrder;
 use trade_off::{FrontEnd, FrontFault, FrontList, PairList, find_front};
 
-/// The search, once the solver and the log were told the formula's clauses, and no bound yet.
+/// The search, once the solver and the log have the formula's clauses, and no bound yet.
 fn front_from<L: LogSink>(
     known: &mut Known,
     solver: &mut Solver,
@@ -106,12 +106,12 @@ pub fn front_with<L: LogSink>(
     front_from(&mut known, solver, log, a, b)
 }
 
-/// The front of two criteria of the graph's lawful drawings on the grid, or as far as the budget of learnt clauses and
-/// the room for the words of all clauses allow.
+/// The front of two criteria of the graph's lawful drawings on the grid, or as far as the limits allow: the budget of
+/// learnt clauses, and the room for the words of all clauses.
 ///
-/// The order `t` is that of the graph's edges, and the criteria differ. All lines are told to the log: the drawings'
-/// clauses, both criteria's clauses with all their bounds, the questions, what is learnt, and the answers. After an
-/// error a log that had no line derives, and its Formula and Bound lines are the first of those.
+/// The order `t` is that of the graph's edges, and the criteria differ. The log takes all lines: the drawings' clauses,
+/// both criteria's clauses with all their bounds, the questions, what is learnt, and the answers. After an error a log
+/// that had no line derives, and its Formula and Bound lines are the first of those.
 pub fn front<L: LogSink>(
     alloc: Global,
     g: &PortGraph,

@@ -27,7 +27,7 @@ use search_least::{MinFault, Outcome, least_values};
 use std::alloc::Global;
 use track_order::TrackOrder;
 
-/// The search, once the solver and the log were told the formula's clauses, and no bound yet.
+/// The search, once the solver and the log have the formula's clauses, and no bound yet.
 fn search_from<L: LogSink>(
     known: &mut Known,
     solver: &mut Solver,
@@ -99,10 +99,10 @@ pub fn minimise_with<L: LogSink>(
 
 /// A lawful drawing of the graph on the grid with the least values in the wanted order, or as far as the limits allow.
 ///
-/// The order `t` is that of the graph's edges. All lines are told to the log: the drawings' clauses, each criterion's
-/// clauses with its bounds, whole or not at all, the questions, what is learnt, and the answers. `Spent` comes where as
-/// many clauses were learnt as the budget allows, `Room` where what comes next has no room: too many words or
-/// variables. After an error a log that had no line derives.
+/// The order `t` is that of the graph's edges. The log takes all lines: the drawings' clauses, each criterion's clauses
+/// with its bounds, whole or not at all, the questions, what is learnt, and the answers. `Spent` comes where as many
+/// clauses were learnt as the budget allows, `Room` where what comes next has no room: too many words or variables.
+/// After an error a log that had no line derives.
 pub fn minimise<L: LogSink>(
     alloc: Global,
     g: &PortGraph,

@@ -15,7 +15,7 @@ pub(crate) struct Known<'a> {
     pub(crate) alloc: Global,
     /// The formula, with the bounds behind it.
     pub(crate) encoded: Encoded<'a>,
-    /// The bounds that were told, in this order.
+    /// The bounds that were added, in this order.
     pub(crate) told: Vec<Bounds>,
     /// How many clauses may be learnt.
     pub(crate) budget: u32,

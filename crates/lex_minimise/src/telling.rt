@@ -1,4 +1,4 @@
-// Clauses and bounds, told one after another.
+// Clauses and bounds, given to the log one after another.
 ghost use Rattle.std.specs.Prelude.{◌≡◌, ◌≤◌, ◌<◌, ◌+◌, ◌++◌, ◌∷◌, [], false, OnOk, OnErr, IsErrOf, length, map, drop};
 ghost use Rattle.outside_io.specs.Counts.{Rose};
 ghost use Rattle.cnf_core.specs.Clause.{words_of};
@@ -19,7 +19,7 @@ use drawing_cnf::Bounds;
 use refute_log::{LogLine, LogSink, LogSinkFault};
 use search_least::MinFault;
 
-/// Adds one clause of the formula to the solver, which tells it.
+/// Adds one clause of the formula to the solver, which gives it to the log.
 fn tell_clause<L: LogSink>(
     formula: &Formula,
     no: u32,
@@ -85,7 +85,7 @@ fn fault_of(fault: LogSinkFault) -> MinFault
     }
 }
 
-/// Tells a Bound line for each number from 1 to the cap. The solver doesn't see them.
+/// Gives the log a Bound line for each number from 1 to the cap. The solver doesn't see them.
 pub(crate) fn tell_bounds<L: LogSink>(bounds: &Bounds, log: &mut L) -> Result<(), MinFault>
     requires small { bounds.now.cap ≤ MAX_NUMBER }
     ensures lines { OnOk result (AddsAll (L.tells log.old) (L.tells log.new)

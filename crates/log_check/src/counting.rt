@@ -1,4 +1,4 @@
-// How many bounds of each criterion a log's text tells.
+// How many bounds of each criterion a log's text has.
 ghost use Rattle.std.specs.Prelude.{◌≡◌, ◌≤◌, ◌<◌, ◌+◌, [], ◌∷◌, IfOk, min};
 ghost use Rattle.plan_core.specs.declared.criterion.Criterion.{Criterion as Measured};
 ghost use Rattle.plan_core.specs.Values.{value_of, limit_of};

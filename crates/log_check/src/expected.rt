@@ -23,7 +23,7 @@ use port_graph::PortGraph;
 use std::alloc::Global;
 use track_order::TrackOrder;
 
-/// The clauses that are expected, and the parts of the lines that tell them and their bounds.
+/// The clauses that are expected, and the parts of the lines that have them and their bounds.
 #[derive(Drop)]
 pub struct Expected<'a> {
     /// The clauses, as the formula that they were added to.

@@ -8,8 +8,8 @@ ghost use Rattle.refute_log.specs.Certified.{Certifies, CertifiesNone};
 ghost use Rattle.hint_log.specs.HintedLines.{HintLines};
 ghost use Rattle.log_check.specs.Hinted.{log_of, MeetsHints};
 
-/// Values that meet the lines that tell clauses and bounds aren't better than those that good hinted lines certify, on
-/// the criteria on which they do; and none meet them where the lines certify that there is none.
+/// Values that meet the lines of clauses and bounds aren't better than those that good hinted lines certify, on the
+/// criteria on which they do. None meet them where the lines certify that there is none.
 pub fn what_hints_certify_is_so()
     ensures least { (greatest : Criterion → ℕ) (told : Lines) (lines : HintLines) (order : List Criterion)
         (v w : Values) (s : ℕ) → MeetsHints told lines w → Certifies greatest (log_of told lines) order v s →

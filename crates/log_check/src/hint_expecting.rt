@@ -36,7 +36,7 @@ pub(crate) fn copied(alloc: Global, f: &Formula) -> Result<Formula, OutOfMemory>
     Ok(copy)
 }
 
-/// Appends the bounds of a criterion for 1 up to a cap, whose variables stand behind this one.
+/// Appends the bounds of a criterion for 1 up to a cap, whose variables come behind this one.
 fn add_bounds(
     bounds: &mut Vec<ToldBound>,
     criterion: Criterion,

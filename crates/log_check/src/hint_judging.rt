@@ -110,7 +110,7 @@ fn judge_claim(
     }
 }
 
-/// Judges what stands behind the caps.
+/// Judges what comes behind the caps.
 fn judge_body(
     alloc: Global,
     checker: &mut HintChecker,
@@ -132,7 +132,7 @@ fn judge_body(
     }
 }
 
-/// Judges what stands behind the caps, by what is expected for them.
+/// Judges what comes behind the caps, by what is expected for them.
 fn judge_expected(
     alloc: Global,
     expected: &Expected<'_>,
@@ -155,11 +155,11 @@ fn judge_expected(
     judge_body(alloc, &mut checker, &bounds, greatest, order, claim, body)
 }
 
-/// The verdict on the text of a hinted log, which is to certify a claim on the lawful drawings of a graph on a grid, in
-/// an order of criteria.
+/// The verdict on the text of a hinted log: whether it certifies a claim on the lawful drawings of a graph on a grid,
+/// in an order of criteria.
 ///
-/// The clauses and the bounds are those that are expected of the graph for the caps that the text tells, and a checker
-/// accepts the lines over them, one by one.
+/// The clauses and the bounds are those that are expected of the graph for the caps of the text. A checker accepts the
+/// lines over them, one by one.
 pub fn judge_hints(
     alloc: Global,
     g: &PortGraph,

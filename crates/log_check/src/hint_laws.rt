@@ -10,7 +10,7 @@ ghost use Rattle.log_check.specs.declared.hint_verdict.HintsVerdict.{HintsVerdic
 ghost use Rattle.log_check.specs.declared.hint_verdict.HintsVerdict.TheVariants.{Certified};
 ghost use Rattle.log_check.specs.HintsJudged.{HintsCertify, IsHintsJudged};
 
-/// One verdict at most is due to a hinted log, whoever wrote it.
+/// A hinted log has one verdict at most, whoever wrote it.
 pub fn one_hints_verdict_is_due()
     ensures { (y : Layout) (order : List Criterion) (claim : Claimed) (hints : List ℕ) (a b : Answer) →
         IsClaimOf order claim → IsHintsJudged y order claim hints a → IsHintsJudged y order claim hints b → a ≡ b }

@@ -9,7 +9,7 @@ use outside_io::cut_line;
 use plan_core::{Order, OutOfMemory, Values};
 use std::alloc::Global;
 
-/// What stands at the front of the text behind the caps.
+/// What is at the front of the text behind the caps.
 #[derive(Drop)]
 pub(crate) enum Next<'a> {
     /// A line, and what follows it.

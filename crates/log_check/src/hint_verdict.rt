@@ -31,8 +31,8 @@ impl HintRefusal {
 pub enum HintsVerdict {
     /// Every line is accepted, and they certify the claim.
     Certified,
-    /// Every line is accepted, and this is the first place of the order, counted from 1, whose value they don't
-    /// certify; or 0, where they don't certify that there is no drawing.
+    /// Every line is accepted. This is the first place of the order, counted from 1, whose value they don't certify; or
+    /// 0, where they don't certify that there is no drawing.
     Lacks {
         /// The place.
         place: u32,

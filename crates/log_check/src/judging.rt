@@ -141,7 +141,7 @@ fn judge_text(
     }
 }
 
-/// The verdict on the text of a log, which is to certify a claim on the lawful drawings of a graph on a grid, in an
+/// The verdict on the text of a log: whether it certifies a claim on the lawful drawings of a graph on a grid, in an
 /// order of criteria.
 ///
 /// The Formula and Bound lines are compared with those that are expected of the graph, and the other lines are

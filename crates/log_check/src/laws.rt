@@ -21,8 +21,8 @@ ghost use Rattle.log_check.specs.Refused.{IsRefusedFor};
 ghost use Rattle.log_check.specs.Claimed.{IsClaimOf};
 ghost use Rattle.log_check.specs.Judged.{CertifiesWhole, IsLogJudged};
 
-/// One verdict at most is due to a log, whoever wrote it: its Bound lines are one list, what is expected of it is one,
-/// and it stops at one place for one cause.
+/// A log has one verdict at most, whoever wrote it. Its Bound lines are one list, what is expected of it is one, and it
+/// stops at one place for one cause.
 pub fn one_verdict_is_due()
     ensures bounds { (bytes : List ℕ) (a b : Lines) → HasToldBounds bytes a → HasToldBounds bytes b → a ≡ b }
     ensures expected { (y : Layout) (order : List Criterion) (bytes : List ℕ) (a b : Expectation) →

@@ -1,10 +1,10 @@
 //! The verdict on the text of a log, or of hinted lines: does it certify what is claimed of a graph's drawings?
 //!
 //! `judge_log` reads a log's text twice. `counting` counts its Bound lines; by them `expected` makes the clauses of
-//! `drawing_cnf` that the log is to begin with. `judging` then takes line by line (`reading`), compares Formula and
-//! Bound lines with those that are awaited (`awaited`), has `refute_check` accept the line (`accepting`), and asks at
-//! the end what the log lacks. A `Claim` is what is to be certified, a `Verdict` the answer. `specs/Judged` says which
-//! verdict is right, by `Accepted`, `Refused`, `TextLines`, `Expectation` and `Claimed`; `laws` that only one is.
+//! `drawing_cnf` that the log is to begin with. `judging` then takes line by line (`reading`). It compares Formula and
+//! Bound lines with those that are awaited (`awaited`), and has `refute_check` accept the line (`accepting`). At the
+//! end it asks what the log lacks. A `Claim` is what is to be certified, a `Verdict` the answer. `specs/Judged` says
+//! which verdict is right, by `Accepted`, `Refused`, `TextLines`, `Expectation` and `Claimed`; `laws` that only one is.
 //! `fitting` asks of lines, besides that they derive, that they begin as expected and have room.
 //!
 //! `judge_hints` (`hint_judging`) does the same for hinted lines: `hint_expecting` makes the formula from the caps,

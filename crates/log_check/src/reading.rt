@@ -7,7 +7,7 @@ use plan_core::OutOfMemory;
 use refute_log::{LineTextFault, LogLine, LogWhat, read_line};
 use std::alloc::Global;
 
-/// What stands at the front of a log's text.
+/// What is at the front of a log's text.
 #[derive(Drop)]
 pub enum Next<'a> {
     /// A line, and what follows it.

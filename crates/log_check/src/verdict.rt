@@ -5,8 +5,7 @@ ghost use Rattle.log_check.specs.Refused.{word_of};
 use refute_log::LogWhat;
 
 /// Why a line of a log is refused. Where several causes hold, the first of these is answered: no room for what is
-/// expected,
-/// `Differs`, `NewVar`, `WrongQuery`, no room for the line's clause, `NotImplied`, `NotNew`.
+/// expected, `Differs`, `NewVar`, `WrongQuery`, no room for the line's clause, `NotImplied`, `NotNew`.
 #[derive(Clone, Copy, Debug, PartialEq, Eq)]
 pub enum Refusal {
     /// There is no room for what is expected of the log, or for the line's clause.
@@ -15,7 +14,8 @@ pub enum Refusal {
     Differs,
     /// The line names a variable that is greater than all in the Formula lines before it.
     NewVar,
-    /// The Refuted line has a literal that isn't the negation of one of the latest query, or no query stands before it.
+    /// The Refuted line has a literal that isn't the negation of one of the latest query, or there is no query before
+    /// it.
     WrongQuery,
     /// The clause doesn't follow by unit propagation from those before it.
     NotImplied,
@@ -45,8 +45,8 @@ impl Refusal {
 pub enum Verdict {
     /// Every line is accepted, and they certify the claim.
     Certified,
-    /// Every line is accepted, and this is the first place of the order, counted from 1, whose value they don't
-    /// certify; or 0, where they don't certify that there is no drawing.
+    /// Every line is accepted. This is the first place of the order, counted from 1, whose value they don't certify; or
+    /// 0, where they don't certify that there is no drawing.
     Lacks {
         /// The place.
         place: u32,

@@ -128,7 +128,7 @@ impl Finder {
         }
     }
 
-    /// Takes a clause of two literals or more, in which negations of the further variables may stand.
+    /// Takes a clause of two literals or more, in which negations of the further variables may be.
     fn put(&mut self, lits: &[Lit], n: u32) -> Result<(), OutOfMemory>
         requires finder { (all taken : Clauses) × IsFinder all taken self.old }
         requires there { AreThere (self.old.vars + 2) lits.now }
@@ -242,7 +242,7 @@ impl Finder {
     }
 
     /// The hints that show the clause of this literal and of those that are assumed to be false, where nothing is
-    /// falsified yet; none where it doesn't follow, or where the first literal does already.
+    /// falsified yet. None where it doesn't follow, or where the first literal does already.
     fn find_first(&mut self, alloc: Global, first: Lit) -> Result<Option<Numbers>, OutOfMemory>
         requires supposing { (all taken : Clauses) × (others : List Literal) × IsSupposing all taken others self.old }
         requires there { IsThere self.old.vars first }

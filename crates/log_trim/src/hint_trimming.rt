@@ -17,7 +17,7 @@ use refute_log::{LineList, LogLine};
 use std::alloc::Global;
 
 /// The hinted lines of a log up to a place, and what hints of further lines are found with. The clauses of the Formula
-/// lines have the first numbers, wherever they stand, and those of the Learnt lines go on from there.
+/// lines have the first numbers, wherever these lines are, and those of the Learnt lines go on from there.
 #[derive(Drop)]
 struct Hinting {
     finder: Finder,
@@ -131,8 +131,8 @@ impl Hinting {
         })
     }
 
-    /// Judges the line at a place by those before it. Where it stands its clause is taken, and it is hinted if it is a
-    /// Learnt line, or a Refuted line that is wanted.
+    /// Judges the line at a place by those before it. Where it may come there its clause is taken. It is hinted if it
+    /// is a Learnt line, or a Refuted line that is wanted.
     fn take(
         &mut self,
         alloc: Global,
@@ -186,10 +186,10 @@ impl Hinting {
 }
 
 /// The hinted lines of a log: of the Refuted lines that are wanted, by their places in the log, counted from 0, and of
-/// those Learnt lines on which they rest. None where the log doesn't derive. The clauses of the Formula lines,
-/// wherever they stand, are numbered first, from 1, and the kept Learnt lines go on from there. A log of more than
-/// `VARS - 2` variables is answered by want of memory, so is one whose words pass `ROOM`, where a clause of fewer than
-/// two literals counts as one of two, and so is one of 2^32 lines, which no text of a log has.
+/// those Learnt lines on which they rest. None where the log doesn't derive. The clauses of the Formula lines, wherever
+/// these are, are numbered first, from 1, and the kept Learnt lines go on from there. Want of memory is answered to a
+/// log of more than `VARS - 2` variables, and to one whose words pass `ROOM`; there a clause of fewer than two literals
+/// counts as one of two. It is answered to one of 2^32 lines too, which no text of a log has.
 pub fn trim(
     alloc: Global,
     lines: &LineList,

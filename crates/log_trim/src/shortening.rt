@@ -27,7 +27,7 @@ fn use_all(used: &mut [bool], hints: &Numbers)
     }
 }
 
-/// Uses the clauses that a line names, if it stays. `n` clauses stand before it.
+/// Uses the clauses that a line names, if it stays. `n` clauses come before it.
 fn use_line(used: &mut [bool], n: u32, line: &HintLine)
     requires size { n < length used.old }
     requires below { All (λ m. m ≤ n) (hints_of line.now) }
@@ -45,7 +45,7 @@ fn use_line(used: &mut [bool], n: u32, line: &HintLine)
     }
 }
 
-/// How many clauses stand before a line, where so many stand before the next one.
+/// How many clauses come before a line, where so many come before the next one.
 fn before(line: &HintLine, n: u32) -> u32
     requires { learnt_among (line.now ∷ []) ≤ n }
     ensures { result + learnt_among (line.now ∷ []) ≡ n }

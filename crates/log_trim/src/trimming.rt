@@ -28,7 +28,7 @@ use track_order::TrackOrder;
 /// What is left of a log.
 #[derive(Drop)]
 pub struct TrimmedLog {
-    /// How many bounds of each criterion the log tells, none above its greatest.
+    /// How many bounds of each criterion the log has, none above its greatest.
     pub caps: Values,
     /// The hinted lines. The numbers of their hints begin with the clauses that are expected for these caps.
     pub kept: HintList,
@@ -85,8 +85,8 @@ fn kept_of(
 }
 
 /// What is left of the text of a log, if that certifies the claim on the lawful drawings of a graph on a grid, in an
-/// order of criteria: the Refuted lines by which it does, and those Learnt lines on which they rest, with their hints.
-/// None where it doesn't certify the claim.
+/// order of criteria. That is the Refuted lines by which it does, and those Learnt lines on which they rest, with their
+/// hints. None where it doesn't certify the claim.
 pub fn trim_log(
     alloc: Global,
     g: &PortGraph,

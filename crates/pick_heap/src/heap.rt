@@ -108,8 +108,7 @@ impl Heap {
         Ok(())
     }
 
-    /// Adds 1 to the activity of a variable, and first halves all activities where it stands at
-    /// `HALVED_AT`.
+    /// Adds 1 to the activity of a variable. Where it is `HALVED_AT` already, all activities are halved first.
     pub fn bump(&mut self, v: Var)
         requires from { 1 ≤ v.0 }
         requires to { v.0 ≤ self.old.vars }
@@ -120,7 +119,7 @@ impl Heap {
         self.add_one(v.0);
     }
 
-    /// Halves all activities where that of a variable stands at `HALVED_AT`.
+    /// Halves all activities where that of a variable is `HALVED_AT`.
     fn make_room(&mut self, v: u32)
         requires { v ≤ self.old.vars }
         ensures value { self.new ≡ roomy self.old v }
@@ -133,7 +132,7 @@ impl Heap {
         play_all(&mut self.tree, &self.activities, self.leaves);
     }
 
-    /// Adds 1 to the activity of a variable that stands below `HALVED_AT`.
+    /// Adds 1 to the activity of a variable, which is below `HALVED_AT`.
     fn add_one(&mut self, v: u32)
         requires from { 1 ≤ v }
         requires to { v ≤ self.old.vars }

@@ -50,7 +50,7 @@ pub fn leaf_word(held: &[bool], v: u32) -> u32
     if held[v as usize] { v } else { 0 }
 }
 
-/// Puts a word at a variable's leaf: the variable, or 0 where it isn't held.
+/// Sets the word at a variable's leaf: the variable, or 0 where it isn't held.
 pub fn set_leaf(tree: &mut [u32], activities: &[u16], leaves: u32, v: u32, word: u32)
     requires from { 1 ≤ v }
     requires to { v ≤ leaves }

@@ -1,10 +1,9 @@
-//! The program `railplan`: it hands the words of the command line, the system's files and its output to
-//! `run`, with a trace that keeps no line, and ends with the status that `run` answers, or with 10 where the
-//! words couldn't be had.
+//! The program `railplan`: it runs the command that the words of the command line ask for.
 //!
-//! It states nothing of its own: what a run owes is the contract of `run`, in `schematic_main`. The stored
-//! run (`args`, `data`, `stdout`) shows the program at work; the launcher `railplan` builds and runs it.
-//! Nothing stands on this crate.
+//! It hands these words, the system's files and its output to `run`, with a trace that keeps no line. It ends with the
+//! status that `run` answers, or with 10 where the words couldn't be had. It states nothing of its own: what a run owes
+//! is the contract of `run`, in `schematic_main`. The stored run (`args`, `data`, `stdout`) shows the program at work;
+//! the launcher `railplan` builds and runs it. No crate uses this one.
 #![tactic(auto)]
 
 use outside_io::{HostFiles, HostOut};

@@ -57,7 +57,7 @@ fn other_of(a: Lit, b: Lit, l: Lit) -> Lit
     if a == l { b } else { a }
 }
 
-/// The literals of a clause of two or three that stand beside `l`.
+/// The literals of a clause of two or three beside `l`.
 fn rest_of(lits: &[Lit], l: Lit) -> Rest
     requires { is_short lits.now ≡ true }
     ensures { result ≡ rest_of lits.now l }
@@ -71,7 +71,7 @@ fn rest_of(lits: &[Lit], l: Lit) -> Rest
     Rest { first, last }
 }
 
-/// Puts the clause into the lists of one of its literals.
+/// Adds the clause to the lists of one of its literals.
 fn list_at(places: &mut Places, lits: &[Lit], l: Lit, number: u32) -> Result<(), OutOfMemory>
     ensures { OnOk result (places.new ≡ with_entry number lits.now l places.old) }
 {
@@ -82,7 +82,7 @@ fn list_at(places: &mut Places, lits: &[Lit], l: Lit, number: u32) -> Result<(),
     }
 }
 
-/// Puts the clause behind those that have its literals.
+/// Adds the clause behind those that have its literals.
 fn list_clause(
     occurrences: &mut Vec<Places>,
     lits: &[Lit],

@@ -21,7 +21,7 @@ use refute_log::{LogLine, are_among};
 use std::alloc::Global;
 use std::marker::Model;
 
-/// Accepts the lines of a log that stand after those that it accepted before.
+/// Accepts the lines of a log that may come after those that it accepted before.
 #[derive(Drop)]
 pub struct Checker {
     alloc: Global,
@@ -246,9 +246,9 @@ impl Checker {
         }
     }
 
-    /// Accepts the line where it stands after the lines that were accepted before and there is room
-    /// for it. A refused line isn't kept. Where several causes hold, the first in the order of
-    /// `LineFault` is answered. After `Memory` it answers so to every line.
+    /// Accepts the line where it may come after the lines that were accepted before and there is room for it. A refused
+    /// line isn't kept. Where several causes hold, it answers the first in the order of `LineFault`. After `Memory` it
+    /// answers so to every line.
     pub fn feed(&mut self, line: &LogLine) -> Result<(), LineFault>
         requires { IsWellFormed line.now }
         ensures ok { OnOk result (Accepts self.old self.new line.now) }

@@ -8,8 +8,8 @@
 //! solver, and no code. `are_timely` asks what needs no propagation (`specs/Timely`): which variables lines name, which
 //! query they answer.
 //!
-//! `none_certified` asks an accepted log for a Refuted line without literals, `first_lacking` (`lacking`) for the first
-//! place of an order whose value it doesn't certify, by the bounds of its Bound lines (`ToldBound::of`).
+//! `none_certified` asks an accepted log for a Refuted line without literals. `first_lacking` (`lacking`) asks it for
+//! the first place of an order whose value it doesn't certify, by the bounds of its Bound lines (`ToldBound::of`).
 //! `specs/Lacking` defines both; `laws` says what follows. `log_check` and `log_trim` use this crate.
 #![tactic(auto)]
 

@@ -101,8 +101,8 @@ fn look_at(
     }
 }
 
-/// Takes one from the count of each clause that the list names, and looks at it, until all literals
-/// of one are false; the others are counted all the same.
+/// Takes one from the count of each clause that the list names, and looks at it, until all literals of one are false.
+/// The others are counted all the same.
 pub(crate) fn count_each(
     formula: &Formula,
     numbers: &[u32],

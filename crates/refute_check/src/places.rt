@@ -7,8 +7,7 @@ use plan_core::OutOfMemory;
 use std::alloc::Global;
 use std::marker::Model;
 
-/// The literals of a clause of two or three that stand beside one of it. Of a clause of two both are
-/// the same.
+/// The literals of a clause of two or three beside one of it. Of a clause of two both are the same.
 #[derive(Clone, Copy)]
 pub(crate) struct Rest {
     pub(crate) first: Lit,

@@ -10,9 +10,9 @@ use crate::places::Places;
 use cnf_core::{Formula, Lit};
 use plan_core::OutOfMemory;
 
-/// Looks at the clauses in which the trail's literal at `front` is false, the short ones first, and
-/// counts it in the longer ones, unless all literals of a short one are false. The answer is
-/// whether all literals of some clause are, and how far the trail is counted then.
+/// Looks at the clauses in which the trail's literal at `front` is false, the short ones first. Counts it in the longer
+/// ones, unless all literals of a short one are false. The answer is whether all literals of some clause are, and how
+/// far the trail is counted then.
 fn advance(
     formula: &Formula,
     occurrences: &[Places],

@@ -67,7 +67,7 @@ pub(crate) fn scan_clause(clause: &[Lit], truth: &[bool], vars: u32) -> Scan
     }
 }
 
-/// Looks at the literals of a clause that stand beside a false one.
+/// Looks at the literals of a clause beside a false one.
 pub(crate) fn scan_rest(rest: Rest, truth: &[bool], vars: u32) -> Scan
     requires table { length truth.now ≡ 2 * vars + 2 }
     requires first { rest.first.var ≤ vars }

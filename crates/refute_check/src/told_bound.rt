@@ -1,4 +1,4 @@
-// Bounds that a log tells.
+// Bounds that a log has.
 ghost use Rattle.std.specs.Prelude.{◌≡◌, option_to_list};
 ghost use Rattle.refute_log.specs.Lines.{IsWellFormed};
 ghost use Rattle.refute_check.specs.Lacking.{told_bound};

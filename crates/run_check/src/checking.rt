@@ -99,7 +99,7 @@ fn refused_line(alloc: Global, why: Refusal, number: u32) -> Result<Vec<u8>, Out
     Ok(line)
 }
 
-/// The answer that tells a verdict on a log, where so many places are claimed.
+/// The answer with a verdict on a log, where so many places are claimed.
 fn verdict_reply(alloc: Global, places: usize, verdict: Verdict) -> Result<Reply, OutOfMemory>
     ensures { IfOk result (λ r. TellsVerdict places verdict r.status r.text.items) }
 {

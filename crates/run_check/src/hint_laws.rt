@@ -12,8 +12,8 @@ ghost use Rattle.run_check.specs.Trimmed.{LeavesLines};
 ghost use Rattle.run_check.specs.Rechecked.{IsRechecked, HintsCertifySheet, IsHintsLine, AreHintedBytes};
 ghost use Rattle.run_check.specs.Fitting.{FitsRoom};
 
-/// `recheck` ends with 0 exactly where the hinted lines certify what the sheet claims of the file's station; its line
-/// tells then on how many criteria, and what is claimed is so, whoever wrote the lines.
+/// `recheck` ends with 0 exactly where the hinted lines certify what the sheet claims of the file's station. Its line
+/// says then on how many criteria, and what is claimed is so, whoever wrote the lines.
 pub fn rechecked_exactly()
     ensures due { (f sheet hints : List ℕ) (g : Graph) (o : EdgeOrder) (said : PlainSheet) (s : Status)
         (t : List ℕ) → HasStation f g o → HintsCertifySheet g o sheet hints said →
@@ -22,8 +22,8 @@ pub fn rechecked_exactly()
         AreHintedBytes file sheet hints line }
 {}
 
-/// What `trim` leaves of a log that certifies what a sheet claims is accepted by `recheck`, as long as what is expected
-/// for its caps is within the limits, and its clauses and those of the Learnt lines that are left have room.
+/// `recheck` accepts what `trim` leaves of a log that certifies what a sheet claims, on two conditions. What is
+/// expected for its caps is within the limits. And its clauses and those of the Learnt lines that are left have room.
 pub fn left_lines_are_certified()
     ensures { (file sheet log : List ℕ) (r : Left) (s : Status) (t : List ℕ) → (left : LeavesLines file sheet log r) →
         FitsRoom left.graph left.order left.said r → IsRechecked file sheet (left_text r) s t → s ≡ Done }

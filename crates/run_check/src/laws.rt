@@ -26,8 +26,8 @@ pub fn one_sheet_answer()
         o sheet status text → IsSheetJudged g o sheet other another → text ≡ another }
 {}
 
-/// Where a sheet's text is that of a drawing, its answer has the status 0 exactly where the drawing is lawful,
-/// and then the line of what it measures, and 8 exactly where it isn't.
+/// Where a sheet's text is that of a drawing, its answer has the status 0 exactly where the drawing is lawful, and then
+/// the line of what it measures. It has the status 8 exactly where the drawing isn't lawful.
 pub fn verdict_of_drawing()
     ensures lawful { (g : Graph) (o : EdgeOrder) (sheet : List ℕ) (grid : GridSize) (d : Drawing) (s : Status)
         (text : List ℕ) → IsDrawingOf g sheet grid d → IsSheetJudged g o sheet s text →
@@ -60,7 +60,7 @@ pub fn one_answer_of_check()
         text → IsChecked file sheet log other another → text ≡ another }
 {}
 
-/// `check` ends with 0 exactly where the log certifies what the sheet claims of the file's station; its line tells then
+/// `check` ends with 0 exactly where the log certifies what the sheet claims of the file's station. Its line says then
 /// on how many criteria, and what is claimed is so, whoever wrote the log.
 pub fn certified_exactly()
     ensures due { (file sheet log : List ℕ) (g : Graph) (o : EdgeOrder) (said : PlainSheet) (s : Status) (t : List ℕ) →

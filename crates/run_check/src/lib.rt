@@ -2,14 +2,14 @@
 //!
 //! `verifying` reads a file and a sheet, and `verdict` judges the drawing by the laws. `checking` has a log judged too,
 //! by `log_check`. `specs/Verdict` says what a sheet is answered, `specs/CheckLine` what a sheet claims and which line
-//! a verdict has, `specs/Checked` what a sheet and a log are answered, `specs/CertifiedSheet` when a log certifies a
-//! sheet's claim. `laws` says that each input has one answer, and which.
+//! a verdict has. `specs/Checked` says what a sheet and a log are answered, `specs/CertifiedSheet` when a log certifies
+//! a sheet's claim. `laws` says that each input has one answer, and which.
 //!
 //! `reading` reads the three files of `trim` and `recheck`. `trimming` has `log_trim` shorten a log that certifies the
 //! claim, and writes the rest (`writing`); of another log it says what `check` says. `rechecking` has `log_check` judge
 //! hinted lines. `specs/Texts` has the texts, `specs/Files`, `specs/Trimmed` and `specs/Rechecked` the answers.
 //! `hint_laws` says that `recheck` ends with 0 exactly where the lines certify the claim, and that it does on what
-//! `trim` left. Only `trim` shares code with the solver. `schematic_main` uses this crate.
+//! `trim` left. Only `trim` shares code with the solver. `run_explain_redraw` and `schematic_main` use this crate.
 #![tactic(auto)]
 
 mod checking;

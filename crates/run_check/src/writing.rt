@@ -1,4 +1,4 @@
-// The text of what is left of a log, and the lines that trim and recheck put.
+// The text of what is left of a log, and the lines that trim and recheck print.
 ghost use Rattle.std.specs.Prelude.{◌≡◌, ◌++◌, IfOk, OnOk, flat_map, length};
 ghost use Rattle.hint_log.specs.Checked.{clauses_learnt};
 ghost use Rattle.hint_log.specs.HintedLines.{HintLines};
@@ -98,7 +98,7 @@ fn refusal_status(why: HintRefusal) -> Status
     }
 }
 
-/// The answer that tells a verdict on hinted lines, where so many places are claimed.
+/// The answer with a verdict on hinted lines, where so many places are claimed.
 pub(crate) fn verdict_reply(
     alloc: Global,
     places: usize,

@@ -1,5 +1,5 @@
-// What draw answers to a station: the sheet of how its search ended, with the lines of the search told and the picture
-// written.
+// What draw answers to a station: the sheet of how its search ended. The lines of the search go to a log, and the
+// picture is written.
 ghost use Rattle.std.specs.Prelude.{◌≡◌, ◌≢◌, ◌≤◌, ◌⊎◌, ◌++◌, [], ⊤, false, IfOk, OnOk, IsOkAnd, IsErrOf, None};
 ghost use Rattle.std.specs.Option.{is_some};
 ghost use Rattle.outside_io.specs.Contents.{WhereTold, SameElsewhere};
@@ -57,7 +57,7 @@ impl<'a> Model for Asked<'a> {
     ghost view = { λ s. job s.grid.now s.order.now s.budget s.svg.now s.log.now };
 }
 
-/// The outcome of a search for the station's best drawing, whose lines the log is told.
+/// The outcome of a search for the station's best drawing, whose lines the log takes.
 pub fn search<L: LogSink>(
     alloc: Global,
     station: &Station,
@@ -191,7 +191,7 @@ fn search_filed<F: Files>(
     }
 }
 
-/// The same search, its lines told to the file that is named for them or else to the trace.
+/// The same search, its lines given to the file that is named for them or else to the trace.
 pub(crate) fn search_told<F: Files, T: LogSink>(
     alloc: Global,
     station: &Station,

@@ -1,4 +1,4 @@
-// What front answers: the file's station is read, the front is searched for, and its lines are told to the trace.
+// What front answers: the file's station is read, the front is searched for, and its lines go to the trace.
 ghost use Rattle.std.specs.Prelude.{◌≡◌, ◌≢◌, ◌≤◌, ◌⊎◌, IfOk, IsOkAnd, IsErrOf};
 ghost use Rattle.outside_io.specs.Contents.{WhereTold, SameFiles};
 ghost use Rattle.outside_io.specs.Counts.{Rose};

@@ -20,7 +20,7 @@ ghost use Rattle.run_draw_front.specs.Drawn.{Job, status_of, HasEnded, HasSettle
 
 /// Of the lines of a search: where none is found to be lawful, that is certified. Where it is unfinished, the criteria
 /// that are called settled are those that are certified, and no more. It stops only where the whole budget of learnt
-/// clauses is spent and the last query is open, or where the log is full; and so where only the status 4 is known.
+/// clauses is spent and the last query is open, or where the log is full. So it does where only the status 4 is known.
 pub fn how_searches_end()
     ensures none { (g : Graph) (o : EdgeOrder) (asked : Job) (lines : Lines) →
         HasEnded g o asked outcomes.NoDrawing lines → CertifiesNone lines }
@@ -36,14 +36,14 @@ pub fn how_searches_end()
         ⊎ ((found : Option Values) × HasFilledRoom g o asked ls found) }
 {}
 
-/// On the drawing that a search for `signals` found the columns of each edge's signals lie strictly between the ends of
-/// its line and rise with mileage, at one mileage in file order; and no such columns have a greater least gap.
+/// On the drawing that a search for `signals` found, the columns of each edge's signals lie strictly between the ends
+/// of its line. They rise with mileage, at one mileage in file order. No such columns have a greater least gap.
 pub fn signals_stand_apart()
     ensures { (bytes : List ℕ) (g : Graph) (o : EdgeOrder) (signals : List SignalElem) (places : List SignalPlace) →
         HasSignalStation bytes g o signals places → StandApartWhereFound g o places }
 {}
 
-/// The lines of a log are one list, where a file is told to hold them.
+/// The lines of a log are one list, where the contents of its file are known.
 pub fn one_log_in_a_file()
     ensures { (contents : Told) (name : List ℕ) (a b : Lines) → IsLogFile name a contents → IsLogFile name b contents →
         a ≡ b }

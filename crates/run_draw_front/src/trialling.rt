@@ -64,7 +64,7 @@ fn trial_order() -> Order
     }
 }
 
-/// The outcome of the search for a made station's drawing, whose lines the log is told.
+/// The outcome of the search for a made station's drawing, whose lines the log takes.
 fn search_trial<L: LogSink>(alloc: Global, station: &Station, log: &mut L) -> Result<Outcome, Cut>
     requires order { IsOrderOf station.now.graph station.now.order }
     ensures searched { IfOk result (HasSearched station.now.graph station.now.order trial_job

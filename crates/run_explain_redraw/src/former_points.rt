@@ -22,8 +22,8 @@ fn former_point(old: &PortGraph, d: &Drawing, name: &[u8]) -> Option<Point>
     None
 }
 
-/// The former point of each node of the graph `g`, by number: where the node of its name stands in the drawing `d` of
-/// the graph `old`. Each is looked for among all names there, which are at most 128.
+/// The former point of each node of the graph `g`, by number: where the node of its name is in the drawing `d` of the
+/// graph `old`. Each is looked for among all names there, which are at most 128.
 pub(crate) fn former_points(
     alloc: Global,
     g: &PortGraph,

@@ -21,7 +21,7 @@ use plan_text::{SheetFault, read_drawing};
 use run_input::{InputRefusal, Reply, RunFault, Station, bytes_of, fault_reply, station_in};
 use std::alloc::Global;
 
-/// A station, and where its nodes stood.
+/// A station, and where its nodes were.
 #[derive(Drop)]
 pub(crate) struct Known {
     pub(crate) station: Station,

@@ -6,9 +6,9 @@
 //!
 //! `judging` reads the file, the former file and the sheet, and `former_points` finds where each node was: where the
 //! node of its name is in the sheet's drawing. `redrawing` searches for a drawing in which as few nodes as can be
-//! moved, gives the lines of the search to a file or to the trace, and answers with the text (`redraw_writing`).
-//! `specs/FormerPoints` says where nodes were, `specs/Redrawn`, `specs/Judged` and `specs/Answer` what is answered to a
-//! station, to bytes and to files, `specs/MovedText` with which text; `specs/Rejection` and `specs/Known` are for
+//! moved. It gives the lines of the search to a file or to the trace, and answers with the text (`redraw_writing`).
+//! `specs/FormerPoints` says where nodes were. `specs/Redrawn`, `specs/Judged` and `specs/Answer` say what is answered
+//! to a station, to bytes and to files, `specs/MovedText` with which text. `specs/Rejection` and `specs/Known` are for
 //! private contracts. `schematic_main` uses this crate.
 #![tactic(auto)]
 

@@ -51,7 +51,7 @@ fn push_moved(d: &Drawing, former: &[Option<Point>], into: &mut Vec<u8>) -> Resu
     push_text(into, b"\n")
 }
 
-/// Appends what is told of the drawing, where there is one.
+/// Appends what is said of the drawing, where there is one.
 fn push_found(
     alloc: Global,
     g: &PortGraph,

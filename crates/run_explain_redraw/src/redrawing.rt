@@ -44,7 +44,7 @@ impl<'a> Model for RedrawAsked<'a> {
     ghost view = { λ a. redraw_job a.grid.now a.budget a.log.now };
 }
 
-/// The outcome of a search for the drawing with the fewest moved nodes, whose lines the log is told.
+/// The outcome of a search for the drawing with the fewest moved nodes, whose lines the log takes.
 fn search<L: LogSink>(
     alloc: Global,
     known: &Known,
@@ -113,7 +113,7 @@ fn search_filed<F: Files>(
     }
 }
 
-/// The same search, its lines told to the file that is named for them or else to the trace.
+/// The same search, its lines given to the file that is named for them or else to the trace.
 fn search_told<F: Files, T: LogSink>(
     alloc: Global,
     known: &Known,

@@ -1,5 +1,5 @@
-// Why a run ends with one fault line. Each fault's number and word are those of its own crate; here a line is
-// put together from them and from what the fault tells.
+// Why a run ends with one fault line. Each fault's number and word are those of its own crate. Here a line is made of
+// them and of what the fault says.
 ghost use Rattle.std.specs.Prelude.{◌≡◌, ◌++◌, [], ◌∷◌, codes, IfOk, OnOk};
 ghost use Rattle.std.specs.Fmt.{decimal};
 ghost use Rattle.outside_io.specs.Fields.{line_text, spaced};
@@ -35,8 +35,8 @@ pub enum RunFault {
         what: TextWhat,
         at: usize,
     },
-    /// The topology of the file has a fault. `at` is the place of the element that it is told of, in
-    /// bytes from 0, and the texts are those that its kind tells, empty where it tells none.
+    /// The topology of the file has a fault. `at` is the place of the element that has it, in bytes from 0. The texts
+    /// are those that a fault of its kind has, empty where it has none.
     Topology {
         what: TopologyWhat,
         at: usize,
@@ -47,9 +47,8 @@ pub enum RunFault {
     Graph(GraphFault),
     /// The edges of the track graph have no order.
     Order(OrderFault),
-    /// The signals of the file have a fault. `at` is the place of the signal that it is told of, in bytes from 0, and
-    /// `first`
-    /// the text that its kind tells, empty where it tells none.
+    /// The signals of the file have a fault. `at` is the place of the signal that has it, in bytes from 0. `first` is
+    /// the text that a fault of its kind has, empty where it has none.
     Signal {
         what: SignalWhat,
         at: usize,
@@ -87,7 +86,7 @@ fn push_place(into: &mut Vec<u8>, at: usize) -> Result<(), OutOfMemory>
     push_place_field(into, at)
 }
 
-/// Appends the texts that a topology's fault of this kind tells.
+/// Appends the texts that a topology's fault of this kind has.
 fn push_texts(
     into: &mut Vec<u8>,
     what: TopologyWhat,
@@ -113,7 +112,7 @@ fn push_texts(
     }
 }
 
-/// Appends what a graph's fault tells.
+/// Appends what a graph's fault says.
 fn push_graph(alloc: Global, into: &mut Vec<u8>, fault: &GraphFault) -> Result<(), OutOfMemory>
     ensures { OnOk result (into.new.items ≡ into.old.items ++ spaced (told_of_graph fault.now)) }
 {
@@ -130,7 +129,7 @@ fn push_graph(alloc: Global, into: &mut Vec<u8>, fault: &GraphFault) -> Result<(
     }
 }
 
-/// Appends what a fault of the order tells.
+/// Appends what a fault of the order says.
 fn push_order(into: &mut Vec<u8>, fault: &OrderFault) -> Result<(), OutOfMemory>
     ensures { OnOk result (into.new.items ≡ into.old.items ++ spaced (told_of_edges fault.now)) }
 {
@@ -143,7 +142,7 @@ fn push_order(into: &mut Vec<u8>, fault: &OrderFault) -> Result<(), OutOfMemory>
     }
 }
 
-/// Appends the text that a signal's fault of this kind tells.
+/// Appends the text that a signal's fault of this kind has.
 fn push_signal(into: &mut Vec<u8>, what: SignalWhat, first: &Text) -> Result<(), OutOfMemory>
     ensures { OnOk result (into.new.items ≡ into.old.items ++ spaced (signal_told what first.now)) }
 {

@@ -1,17 +1,15 @@
 //! What a run answers to an input: the station of a railML file, or the line and the status of its first fault.
 //!
 //! Each command reads its inputs in turn and answers with a `Reply`, a status and a text, or is cut short (`Cut`).
-//! `reading` reads an input, `input` takes a file's bytes to their station (its track graph and the order of its edges)
-//! or
-//! to the first of their faults, `signals` does so with the places of the file's signals (`specs/Signals`), `fault`
-//! puts the fault lines together and has their statuses, and `printing` prints a
-//! station's graph. `specs/Status` has the statuses and their numbers, `specs/Fault` the line of each fault,
-//! `specs/Input` what
-//! the bytes of a file are to a run, `specs/Met` what a run meets outside and how it leaves files, `specs/Answer` what
-//! is answered to an input and to a file; `specs/Reading` and `specs/Reply` say what the calls of those modules give.
-//! `laws` says
-//! that a file has one station or one fault. It stands on the crates that read a station, and each command's crate on
-//! it.
+//! `reading` reads an input. `input` takes a file's bytes to their station (its track graph and the order of its
+//! edges), or to the first of their faults. `signals` does so with the places of the file's signals (`specs/Signals`).
+//! `fault` makes the fault lines and has their statuses. `printing` prints a station's graph.
+//!
+//! `specs/Status` has the statuses and their numbers, `specs/Fault` the line of each fault. `specs/Input` says what the
+//! bytes of a file are to a run, `specs/Met` what a run meets outside and how it leaves files. `specs/Answer` says what
+//! is answered to an input and to a file. `specs/Reading` and `specs/Reply` say what the calls of those modules give.
+//! `laws` says that a file has one station or one fault. This crate uses those that read a station. Each command's
+//! crate uses it.
 #![tactic(auto)]
 
 mod fault;

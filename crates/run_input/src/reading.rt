@@ -24,8 +24,8 @@ fn is_long(bytes: &[u8], limit: usize) -> bool
     bytes.len() > limit
 }
 
-/// The bytes of the input with this number, counted from 1, which is the file of this name; or that
-/// they are more than `limit`, or that they couldn't be read.
+/// The bytes of the input with this number, counted from 1, which is the file of this name. Or that they are more than
+/// `limit`, or that they couldn't be read.
 pub fn bytes_of<F: Files>(
     alloc: Global,
     number: u8,

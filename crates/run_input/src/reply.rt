@@ -14,7 +14,7 @@ use std::alloc::Global;
 /// A status, and the text that goes with it.
 #[derive(Drop)]
 pub struct Reply {
-    /// What the run ends with once the text is put.
+    /// What the run ends with once the text is printed.
     pub status: Status,
     /// The whole text for the output.
     pub text: Vec<u8>,
@@ -59,7 +59,7 @@ pub fn cut_of(fault: LogSinkFault) -> Cut
     }
 }
 
-/// The answer that tells of a fault.
+/// The answer that names a fault.
 pub fn fault_reply(alloc: Global, fault: RunFault) -> Result<Reply, OutOfMemory>
     ensures told { IfOk result (λ r. IsFaultLine fault r.status r.text.items) }
     ensures refused { IfOk result (λ r. IsRefused r.status) }

@@ -5,7 +5,7 @@ ghost use Rattle.run_input.specs.Status.{number_of};
 /// How a run ends. The program's own status is its number.
 #[derive(Clone, Copy, Debug, PartialEq, Eq)]
 pub enum Status {
-    /// The command's text was put.
+    /// The command's text is printed.
     Done,
     /// An input has a fault.
     Refused,
@@ -18,7 +18,7 @@ pub enum Status {
     Unfinished,
     /// A file couldn't be read.
     Unread,
-    /// What was due couldn't be written.
+    /// The text or a file couldn't be written.
     Unwritten,
     /// Memory couldn't be had.
     NoMemory,

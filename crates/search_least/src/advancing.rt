@@ -61,8 +61,8 @@ fn cap_for(value: u32, most: u32) -> u32
     if value < most { value + 1 } else { most }
 }
 
-/// Tells the bounds of the criterion at place `i`, and finds its least value. Where there is no room
-/// for the bounds, the criteria before `place` are settled.
+/// Adds the bounds of the criterion at place `i`, and finds its least value. Where there is no room for the bounds, the
+/// criteria before `place` are settled.
 fn bounded<O: Oracle>(
     alloc: Global,
     oracle: &mut O,

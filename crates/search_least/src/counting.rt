@@ -44,9 +44,9 @@ fn lower<Q: CountOracle>(questions: &mut Q, first: Drawing) -> Result<Fewest, Mi
 }
 
 /// A drawing with the least count, or as far as the search comes: it asks for any drawing, and then for a smaller count
-/// until there is none. What the outcome says of drawings holds with every log; and so many lines were told behind the
-/// formula that they and these are those of a search with this outcome. After an error a log that told what is known
-/// derives, and has no further Formula line.
+/// until there is none. What the outcome says of drawings holds with every log. The search gives the log further lines
+/// behind the formula; together they are the lines of a search with this outcome. After an error a log whose lines were
+/// the known ones derives, and has no further Formula line.
 pub fn least_count<Q: CountOracle>(questions: &mut Q) -> Result<Fewest, MinFault>
     requires ready { Q.ready questions.old }
     requires start { Q.knows questions.old (formula_lines (Q.task questions.old)) }

@@ -27,8 +27,8 @@ pub fn what_unfinished_searches_are()
         IsStoppedEnd p order s BudgetSpent found lines → Open lines }
 {}
 
-/// Each criterion that had its turn was reached with a lawful drawing, which has the values of the last one at the
-/// places before and no less at its own; and it has the bounds that are built then.
+/// Each criterion that had its turn was reached with a lawful drawing. This has the values of the last one at the
+/// places before, and no less at its own. The criterion has the bounds that are built then.
 pub fn bounds_are_of_a_lawful_drawing()
     ensures { (p : Task) (order : List Criterion) (s : ℕ) (d : Drawing) (cap : Criterion → ℕ) →
         AreCapped p order s d cap → (i : ℕ) (c : Criterion) → i < s → slice_get order i ≡ Some c →

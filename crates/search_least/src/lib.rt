@@ -1,14 +1,15 @@
 //! Two searches by repeated questions: for least values in order, and for the least count of something.
 //!
-//! `least_values` asks for any drawing, then for each criterion of the order for one with less, until there is none;
-//! the criteria before it are held at their least values. `least_count` (`counting`) does the same for one count, such
-//! as how many nodes moved. `Oracle` and `CountOracle` say what is asked and what the answers and the log's lines are.
-//! So nothing here knows a solver, a formula or a file; `laws` says what follows from an outcome.
+//! `least_values` asks for any drawing. Then it asks, for each criterion of the order, for a drawing with less, until
+//! there is none; the criteria before it are held at their least values. `least_count` (`counting`) does the same for
+//! one count, such as how many nodes moved. `Oracle` and `CountOracle` say what is asked, and what the answers and the
+//! log's lines are. So nothing here knows a solver, a formula or a file; `laws` says what follows from an outcome.
 //!
 //! `specs/Task` says what is searched, `specs/Asked` and `specs/Built` which lines a question and a criterion's bounds
-//! add, `specs/Placed` what comes before each line, `specs/Caps` how many bounds each criterion gets, `specs/Reached`
-//! and `specs/State` how far a search has come, `specs/Outcome` what an outcome says of drawings and lines. For a count
-//! these are `specs/CountTask`, `specs/CountAsked`, `specs/Run` and `specs/Fewest`. `lex_minimise`, `trade_off` and
+//! add. `specs/Placed` says what comes before each line, `specs/Caps` how many bounds each criterion gets.
+//! `specs/Reached` and `specs/State` say how far a search has come, `specs/Outcome` what an outcome says of drawings
+//! and lines. A further fact of an outcome is a field there. For a count these are `specs/CountTask`,
+//! `specs/CountAsked`, `specs/CountPlaced`, `specs/Run` and `specs/Fewest`. `lex_minimise`, `trade_off` and
 //! `search_moved` use this crate.
 #![tactic(auto)]
 

@@ -40,7 +40,7 @@ pub enum Reply {
     Stopped(Stop),
 }
 
-/// Whether the clauses of a criterion were told.
+/// Whether the clauses of a criterion were added.
 #[derive(Clone, Copy)]
 pub enum Built {
     /// All of them.
@@ -49,7 +49,7 @@ pub enum Built {
     NoRoom,
 }
 
-/// The clauses of a file's drawings in a solver, and a log to which all is told. After an error it isn't used further.
+/// The clauses of a file's drawings in a solver, and a log that takes every line. After an error it isn't used further.
 pub trait Oracle {
     /// What is searched.
     ghost task: { Self → Task };
@@ -57,13 +57,13 @@ pub trait Oracle {
     /// It can be asked.
     ghost ready: { Self → Type 0 };
 
-    /// The lines that were told since the start: they belong to the solver and to the clauses.
+    /// The lines that the log took since the start: they belong to the solver and to the clauses.
     ghost knows: { Self → Lines → Type 0 };
 
-    /// What the log tells.
+    /// The log says that these are its lines.
     ghost log: { Self → Lines → Type 0 };
 
-    /// How many Learnt lines the log was told.
+    /// How many Learnt lines the log took.
     ghost learnt: { Self → ℕ };
 
     /// How many faults the log had.
@@ -101,7 +101,7 @@ pub trait Oracle {
         ensures faults { faults self.old ≤ faults self.new }
         ensures cause { IsErrOf result MinFault.Log → Rose (faults self.old) (faults self.new) };
 
-    /// Tells the clauses and the bounds of a criterion up to the cap, all or none.
+    /// Adds the clauses and the bounds of a criterion up to the cap, all or none.
     fn build(&mut self, c: Criterion, cap: u32) -> Result<Built, MinFault>
         requires ready { ready self.old }
         requires positive { 1 ≤ cap }
@@ -123,13 +123,13 @@ pub trait Oracle {
     ghost covers: { (s : Self) (lines : Lines) → knows s lines → CoversDrawings (task s).graph (task s).above
         (task s).grid lines };
 
-    /// They may be told.
+    /// A log takes each of them: it is well formed and names no variable twice.
     ghost formed: { (s : Self) (lines : Lines) → knows s lines → MayAllBeTold lines };
 
     /// They derive.
     ghost derives: { (s : Self) (lines : Lines) → knows s lines → Derives lines };
 
-    /// Each Learnt line is due.
+    /// Each Learnt line comes where the latest query is open.
     ghost due: { (s : Self) (lines : Lines) → knows s lines → Due lines };
 
     /// Their clauses have room.
@@ -148,7 +148,7 @@ pub trait Oracle {
     /// No two of these bounds have one variable.
     ghost apart: { (s : Self) (lines : Lines) → knows s lines → AreApart lines };
 
-    /// A log tells one list at most.
+    /// A log has one list of lines at most.
     ghost one_reading: { (s : Self) (a b : Lines) → log s a → log s b → a ≡ b };
 
     /// Each state is a later state of itself.

@@ -25,7 +25,7 @@ pub enum Answer {
     Stopped(Stop),
 }
 
-/// The clauses of drawings and of a count in a solver, and a log to which all is told. After an error it isn't used
+/// The clauses of drawings and of a count in a solver, and a log that takes every line. After an error it isn't used
 /// further.
 pub trait CountOracle {
     /// What is searched.
@@ -34,13 +34,13 @@ pub trait CountOracle {
     /// It can be asked.
     ghost ready: { Self → Type 0 };
 
-    /// The lines that were told since the start: they belong to the solver and to the clauses.
+    /// The lines that the log took since the start: they belong to the solver and to the clauses.
     ghost knows: { Self → Lines → Type 0 };
 
-    /// What the log tells.
+    /// The log says that these are its lines.
     ghost log: { Self → Lines → Type 0 };
 
-    /// How many Learnt lines the log was told.
+    /// How many Learnt lines the log took.
     ghost learnt: { Self → ℕ };
 
     /// How many faults the log had.
@@ -72,16 +72,16 @@ pub trait CountOracle {
     /// No drawing counts more than has a literal.
     ghost within: { (s : Self) (d : PlainDrawing) → IsOne (task s) d → (task s).count d ≤ (task s).most };
 
-    /// The lines tell each drawing's count.
+    /// The lines give each drawing's count.
     ghost covers: { (s : Self) (lines : Lines) → knows s lines → CoversCounts (task s) lines };
 
-    /// They may be told.
+    /// A log takes each of them: it is well formed and names no variable twice.
     ghost formed: { (s : Self) (lines : Lines) → knows s lines → MayAllBeTold lines };
 
     /// They derive.
     ghost derives: { (s : Self) (lines : Lines) → knows s lines → Derives lines };
 
-    /// Each Learnt line is due.
+    /// Each Learnt line comes where the latest query is open.
     ghost due: { (s : Self) (lines : Lines) → knows s lines → Due lines };
 
     /// Their clauses have room.

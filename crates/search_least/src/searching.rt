@@ -76,9 +76,9 @@ fn search<O: Oracle>(alloc: Global, oracle: &mut O, wanted: &Order) -> Result<Ou
 }
 
 /// A lawful drawing with the least values in the wanted order, or as far as the search comes. The oracle knows the
-/// drawings' clauses, and no bound yet. What the outcome says of drawings holds with every log; and so many lines were
-/// told behind the clauses that they and these are those of a search with this outcome. After an error a log that told
-/// what is known derives.
+/// drawings' clauses, and no bound yet. What the outcome says of drawings holds with every log. The search gives the
+/// log further lines behind the clauses; together they are the lines of a search with this outcome. After an error a
+/// log whose lines were the known ones derives.
 pub fn least_values<O: Oracle>(
     alloc: Global,
     oracle: &mut O,

@@ -31,7 +31,7 @@ use search_least::{Fewest, MinFault, least_count};
 use std::alloc::Global;
 use track_order::TrackOrder;
 
-/// The search, once the solver and the log were told the formula's clauses. It begins near the former points.
+/// The search, once the solver and the log have the formula's clauses. It begins near the former points.
 fn search_from<L: LogSink>(
     known: &MovedKnown,
     solver: &mut Solver,
@@ -104,13 +104,13 @@ fn fewest_with<L: LogSink>(
 /// as the limits allow.
 ///
 /// The order `t` is that of the graph's edges, and `former` has an entry for each node. Where the formula has no room,
-/// nothing is told. Else its clauses are told, the questions, what is learnt, and the answers. `Spent` comes where as
-/// many clauses were learnt as the budget allows, `Room` where what comes next has no room: too many words or
-/// variables.
+/// the log takes nothing. Else it takes the formula's clauses, the questions, what is learnt, and the answers. `Spent`
+/// comes where as many clauses were learnt as the budget allows, `Room` where what comes next has no room: too many
+/// words or variables.
 ///
-/// The formula is what it is to be, both ways: each assignment that satisfies it stands for a lawful drawing and tells
-/// how many of its nodes moved, and each lawful drawing has such an assignment. After an error a log that had no line
-/// derives, and its Formula lines are the first of the formula's.
+/// The formula is what it is to be, both ways. Each assignment that satisfies it gives a lawful drawing and how many of
+/// its nodes moved, and each lawful drawing has such an assignment. After an error a log that had no line derives, and
+/// its Formula lines are the first of the formula's.
 pub fn fewest_moved<L: LogSink>(
     alloc: Global,
     g: &PortGraph,

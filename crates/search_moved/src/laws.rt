@@ -8,7 +8,7 @@ ghost use Rattle.drawing_cnf.specs.Expected.{formula_clauses, formula_size};
 ghost use Rattle.drawing_cnf.specs.Moved.{Former, matched};
 ghost use Rattle.search_moved.specs.MovedFormula.{moved_formula, moved_size, moved_variable};
 
-/// Each variable "at least j moved" stands in a clause. Counting adds few words and few variables.
+/// Each variable "at least j moved" is in a clause. Counting adds few words and few variables.
 pub fn moved_formula_is_small()
     ensures named { (g : Graph) (o : EdgeOrder) (grid : GridSize) (former : Former) (j : ℕ) →
         1 ≤ j → j ≤ matched former →

@@ -25,8 +25,8 @@ fn put_nearest(node: &NodeVars, p: Point, m: &mut Truths)
         .put(u32::from(p.y).max(node.y.low).min(node.y.high), m);
 }
 
-/// Truth values of so many variables, by which each node with a former point stands there, or as near as the grid lets
-/// it. All others are false.
+/// Truth values of so many variables, by which each node with a former point is there, or as near as the grid lets it.
+/// All others are false.
 fn former_truths(
     alloc: Global,
     encoded: &Encoded,
@@ -52,7 +52,7 @@ fn former_truths(
     Ok(truths)
 }
 
-/// Has the solver decide first as the nodes stood. It keeps how it decided from one question to the next.
+/// Has the solver decide first as the nodes were. It keeps how it decided from one question to the next.
 pub(crate) fn begin_near(known: &MovedKnown, solver: &mut Solver) -> Result<(), OutOfMemory>
     requires { IsReadyWith known.now solver.old }
     ensures { solver.new ≡ solver.old }

@@ -1,4 +1,4 @@
-// The clauses of two formulas, told one after another.
+// The clauses of two formulas, given to the log one after another.
 ghost use Rattle.std.specs.Prelude.{◌≡◌, ◌≤◌, ◌+◌, ◌-◌, ◌++◌, false, OnOk, OnErr, IsErrOf, map};
 ghost use Rattle.outside_io.specs.Counts.{Rose};
 ghost use Rattle.cnf_core.specs.Clause.{words_of};

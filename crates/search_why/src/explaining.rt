@@ -12,8 +12,8 @@ use crate::{Outcome, WhyFault};
 use std::alloc::Global;
 
 /// A lawful drawing, or laws that explain why there is none and of which none can be left out, or as far as the search
-/// comes. What the outcome says of drawings holds with every log. After an error a log that told what is known derives,
-/// and has no further Formula line.
+/// comes. What the outcome says of drawings holds with every log. After an error a log whose lines were the known ones
+/// derives, and has no further Formula line.
 pub fn find_laws<O: LawOracle>(alloc: Global, oracle: &mut O) -> Result<Outcome, WhyFault>
     requires ready { O.ready oracle.old }
     requires laws { HasAllLaws (O.task oracle.old) }

@@ -24,7 +24,7 @@ pub enum Reply {
     Stopped(Stop),
 }
 
-/// The clauses of loose drawings with laws to choose in a solver, and a log to which all is told. After an error it
+/// The clauses of loose drawings with laws to choose in a solver, and a log that takes every line. After an error it
 /// isn't used further.
 pub trait LawOracle {
     /// What is searched.
@@ -33,13 +33,13 @@ pub trait LawOracle {
     /// It can be asked.
     ghost ready: { Self → Type 0 };
 
-    /// The lines that were told since the start: they belong to the solver and to the clauses.
+    /// The lines that the log took since the start: they belong to the solver and to the clauses.
     ghost knows: { Self → Lines → Type 0 };
 
-    /// What the log tells.
+    /// The log says that these are its lines.
     ghost log: { Self → Lines → Type 0 };
 
-    /// How many Learnt lines the log was told.
+    /// How many Learnt lines the log took.
     ghost learnt: { Self → ℕ };
 
     /// How many faults the log had.
@@ -70,13 +70,13 @@ pub trait LawOracle {
     /// The lines that are known derive.
     ghost derives: { (s : Self) (lines : Lines) → knows s lines → Derives lines };
 
-    /// Each Learnt line of them is due.
+    /// Each Learnt line of them comes where the latest query is open.
     ghost due: { (s : Self) (lines : Lines) → knows s lines → Due lines };
 
     /// Their Formula lines are the task's clauses, and they have no Bound line.
     ghost gives: { (s : Self) (lines : Lines) → knows s lines → clause_lines lines ≡ map Formula (task s).clauses };
 
-    /// A log tells one list at most.
+    /// A log has one list of lines at most.
     ghost one_reading: { (s : Self) (a b : Lines) → log s a → log s b → a ≡ b };
 
     /// Each state is a later state of itself.

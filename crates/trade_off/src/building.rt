@@ -13,7 +13,7 @@ ghost use Rattle.trade_off.specs.Outcome.{IsBuiltFront};
 use plan_core::Criterion;
 use search_least::{Built, MinFault, Oracle};
 
-/// Tells the bounds of a criterion up to its greatest value; where that is 0 there are none.
+/// Adds the bounds of a criterion up to its greatest value; where that is 0 there are none.
 fn build_whole<O: Oracle>(oracle: &mut O, c: Criterion) -> Result<Built, MinFault>
     requires ready { O.ready oracle.old }
     requires none { O.caps oracle.old c ≡ 0 }
@@ -41,7 +41,7 @@ fn build_whole<O: Oracle>(oracle: &mut O, c: Criterion) -> Result<Built, MinFaul
     Ok(built)
 }
 
-/// Tells the bounds of both criteria, the first one's first.
+/// Adds the bounds of both criteria, the first one's first.
 pub(crate) fn build_both<O: Oracle>(
     oracle: &mut O,
     a: Criterion,

@@ -15,9 +15,9 @@ use search_least::{Built, MinFault, Oracle};
 use std::alloc::Global;
 
 /// The front of two criteria, or as far as the search comes. The oracle knows the drawings' clauses, and no bound yet.
-/// What the outcome says of drawings holds with every log; and so many lines were told behind the clauses that they and
-/// these are those of a search with this end. After an error the log derives, and its Formula and Bound lines are the
-/// first of those that are expected.
+/// What the outcome says of drawings holds with every log. The search gives the log further lines behind the clauses;
+/// together they are the lines of a search with this end. After an error the log derives, and its Formula and Bound
+/// lines are the first of those that are expected.
 pub fn find_front<O: Oracle>(
     alloc: Global,
     oracle: &mut O,
