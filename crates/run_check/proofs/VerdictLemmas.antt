@@ -20,7 +20,8 @@ use Rattle.run_input.specs.declared.status.Status.{Status}
 use Rattle.run_input.specs.declared.status.Status.TheVariants.{Done, Broken}
 use Rattle.run_input.specs.Fault.{IsFaultLine, fault_status, fault_line}
 use Rattle.run_input.specs.Input.{HasStation}
-use Rattle.run_check.specs.Verdict.{IsVerdict, IsSheetRefused, IsSheetJudged, lawful_line, broken_line}
+use Rattle.run_input.specs.Answer.{IsSheetRefused}
+use Rattle.run_check.specs.Verdict.{IsVerdict, IsSheetJudged, lawful_line, broken_line}
 use Rattle.run_check.specs.Verdict.{IsVerified}
 use Rattle.run_input.proofs.InputLemmas.{one_graph, one_fault, station_or_fault}
 

@@ -15,10 +15,10 @@ use Rattle.log_check.specs.declared.verdict.Verdict.TheVariants as verdicts
 use Rattle.log_check.specs.Judged.{IsLogJudged}
 use Rattle.run_input.specs.declared.status.Status.{Status}
 use Rattle.run_input.specs.declared.status.Status.TheVariants.{Done}
-use Rattle.run_check.specs.Verdict.{IsBrokenAnswer, IsSheetRefused}
+use Rattle.run_check.specs.Verdict.{IsBrokenAnswer}
 use Rattle.run_check.specs.CheckLine.{claimed, claim_of, TellsVerdict, verdict_line}
 use Rattle.run_input.specs.Met.{Met}
-use Rattle.run_input.specs.Answer.{text_input, log_input, IsFileJudged, IsAnswerAfter, IsAnswerOn}
+use Rattle.run_input.specs.Answer.{text_input, log_input, IsFileJudged, IsSheetRefused, IsAnswerAfter, IsAnswerOn}
 
 -- the sheet has a drawing that breaks a law, which the answer names, and the log isn't judged
 abbrev pub IsFoundBroken : Graph → EdgeOrder → Sheet → Option Drawing → Status → List ℕ → Type 0

@@ -12,9 +12,8 @@ use Rattle.log_check.specs.declared.hint_verdict.HintsVerdict.TheVariants.{Certi
 use Rattle.log_check.specs.HintsJudged.{HintsCertify, IsHintsJudged}
 use Rattle.run_input.specs.declared.status.Status.{Status}
 use Rattle.run_input.specs.Input.{HasStation}
-use Rattle.run_input.specs.Answer.{IsFileJudged}
+use Rattle.run_input.specs.Answer.{IsFileJudged, IsSheetRefused}
 use Rattle.run_input.specs.Met.{Met}
-use Rattle.run_check.specs.Verdict.{IsSheetRefused}
 use Rattle.run_check.specs.CheckLine.{claimed, claim_of}
 use Rattle.run_check.specs.Checked.{IsFoundBroken}
 use Rattle.run_check.specs.CertifiedSheet.{ClaimsTruly}

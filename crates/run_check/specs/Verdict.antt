@@ -12,18 +12,15 @@ use Rattle.plan_core.specs.Values.{values_of}
 use Rattle.plan_core.specs.Lawful.{Lawful}
 use Rattle.track_order.specs.Order.{EdgeOrder, is_above}
 use Rattle.lawful_check.specs.declared.law_break.LawBreak.{LawBreak}
-use Rattle.lawful_check.specs.declared.law_break.Party.{Party}
-use Rattle.lawful_check.specs.declared.law_break.Party.TheVariants as party
 use Rattle.lawful_check.specs.Breaks.{IsLeastBreak}
 use Rattle.outside_io.specs.Fields.{line_text}
 use Rattle.plan_text.specs.declared.sheet_fault.SheetWhat.{SheetWhat}
 use Rattle.plan_text.specs.SheetFaults.{IsDrawingOf, HasSheetFault}
-use Rattle.run_input.specs.declared.fault.RunFault.TheVariants.{Sheet}
 use Rattle.run_input.specs.declared.status.Status.{Status}
 use Rattle.run_input.specs.declared.status.Status.TheVariants.{Done, Broken}
-use Rattle.run_input.specs.Fault.{IsFaultLine}
 use Rattle.run_input.specs.Input.{HasStation}
-use Rattle.run_input.specs.Answer.{IsFileJudged}
+use Rattle.run_input.specs.Answer.{IsFileJudged, IsSheetRefused}
+use Rattle.run_input.specs.Law.{law_fields}
 
 -- ---- the lines
 
@@ -31,19 +28,6 @@ use Rattle.run_input.specs.Answer.{IsFileJudged}
 abbrev pub lawful_line : Values → List ℕ
 lawful_line values = line_text (codes "lawful") (map decimal
     (values.height ∷ values.bends ∷ values.diagonal ∷ values.width ∷ []))
-
-abbrev pub party_fields : Party → List (List ℕ)
-party_fields (party.Node n) = codes "node" ∷ decimal n.0 ∷ []
-party_fields (party.Edge e) = codes "edge" ∷ decimal e.0 ∷ []
-
--- those of the second party, where there is one
-abbrev pub second_fields : Option Party → List (List ℕ)
-second_fields None = []
-second_fields (Some party) = party_fields party
-
--- a law and its parties
-abbrev pub law_fields : LawBreak → List (List ℕ)
-law_fields b = decimal b.law ∷ party_fields b.first ++ second_fields b.second
 
 -- the line of a broken law: which it is, and by whom it is broken
 abbrev pub broken_line : LawBreak → List ℕ
@@ -78,14 +62,6 @@ pub record IsDrawingJudged (g : Graph) (o : EdgeOrder) (sheet : List ℕ) (statu
   pub drawn : Drawing
   pub has : IsDrawingOf g sheet grid drawn
   pub verdict : IsVerdict g o grid drawn status text
-
--- the sheet's text has this fault first, a drawing being due or not, and this is its line
-pub record IsSheetRefused (g : Graph) (needs_drawing : Bool) (sheet : List ℕ) (status : Status) (text : List ℕ) : Type 0
-  where
-    pub what : SheetWhat
-    pub line : ℕ
-    pub first : HasSheetFault g needs_drawing sheet what line
-    pub answers : IsFaultLine (Sheet what line) status text
 
 -- what is answered where a drawing is due
 abbrev pub IsSheetJudged : Graph → EdgeOrder → List ℕ → Status → List ℕ → Type 0

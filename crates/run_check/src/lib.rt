@@ -32,5 +32,4 @@ pub use laws::{
 };
 pub use rechecking::recheck;
 pub use trimming::trim;
-pub use verdict::push_law;
 pub use verifying::verify;

@@ -1,16 +1,15 @@
 // The verdict on a drawing.
-ghost use Rattle.std.specs.Prelude.{◌≡◌, ◌++◌, IfOk, OnOk, MatchOption};
+ghost use Rattle.std.specs.Prelude.{◌≡◌, IfOk, MatchOption};
 ghost use Rattle.track_order.specs.Order.{is_above, IsOrderOf};
 ghost use Rattle.plan_core.specs.Lawful.{HasSizeOf, Lawful};
-ghost use Rattle.outside_io.specs.Fields.{spaced};
-ghost use Rattle.run_check.specs.Verdict.{lawful_line, broken_line, party_fields, second_fields, law_fields};
+ghost use Rattle.run_check.specs.Verdict.{lawful_line, broken_line};
 ghost use Rattle.run_check.specs.Verdict.{IsBrokenAnswer, IsVerdict};
 
-use lawful_check::{LawBreak, Party, broken};
-use outside_io::{push_field, push_number_field, push_text};
+use lawful_check::{LawBreak, broken};
+use outside_io::{push_number_field, push_text};
 use plan_core::{Grid, OutOfMemory, Values};
 use plan_geometry::{Drawing, values};
-use run_input::{Reply, Station, Status};
+use run_input::{Reply, Station, Status, push_law};
 use std::alloc::Global;
 
 /// The line of a lawful drawing.
@@ -24,41 +23,6 @@ fn lawful_line(alloc: Global, values: Values) -> Result<Vec<u8>, OutOfMemory>
     push_number_field(&mut line, values.width)?;
     push_text(&mut line, b"\n")?;
     Ok(line)
-}
-
-/// Appends the fields of a party of a law.
-fn push_party(into: &mut Vec<u8>, party: Party) -> Result<(), OutOfMemory>
-    ensures { OnOk result (into.new.items ≡ into.old.items ++ spaced (party_fields party)) }
-{
-    match party {
-        Party::Node(n) => {
-            push_field(into, b"node")?;
-            push_number_field(into, u32::from(n.0))
-        }
-        Party::Edge(e) => {
-            push_field(into, b"edge")?;
-            push_number_field(into, u32::from(e.0))
-        }
-    }
-}
-
-/// Appends the fields of the second party, where there is one.
-fn push_second(into: &mut Vec<u8>, second: Option<Party>) -> Result<(), OutOfMemory>
-    ensures { OnOk result (into.new.items ≡ into.old.items ++ spaced (second_fields second)) }
-{
-    match second {
-        Some(party) => push_party(into, party),
-        None => Ok(()),
-    }
-}
-
-/// Appends the fields of a law: its number and its parties.
-pub fn push_law(into: &mut Vec<u8>, law: LawBreak) -> Result<(), OutOfMemory>
-    ensures { OnOk result (into.new.items ≡ into.old.items ++ spaced (law_fields law)) }
-{
-    push_number_field(into, u32::from(law.law))?;
-    push_party(into, law.first)?;
-    push_second(into, law.second)
 }
 
 /// The line of a broken law.

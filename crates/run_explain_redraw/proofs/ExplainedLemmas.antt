@@ -1,32 +1,53 @@
 -- What explain answers, from what the search for an explanation says.
 use Rattle.std.proofs.Common.{◌≡◌, ◌⊎◌, ℕ, List, [], ◌∷◌, get_or, refl, sym, ap, inl, inr, subst}
-use Rattle.std.specs.Prelude.{All, Bool, false, codes, ◌↔◌, ◌==◌}
+use Rattle.std.specs.Prelude.{All, Bool, false, codes, map, ◌↔◌, ◌==◌}
 use Rattle.std.proofs.lemmas.Option.{slice_get-get_or}
 use Rattle.plan_core.specs.Grid.{GridSize}
 use Rattle.plan_core.specs.Graph.{Graph}
 use Rattle.plan_core.specs.Drawing.{Drawing}
-use Rattle.plan_core.specs.Lawful.{HasSizeOf, Lawful}
+use Rattle.plan_core.specs.Lawful.{HasSizeOf, Instance, Lawful}
 use Rattle.std.proofs.lemmas.Bool.{false≢true}
 use Rattle.outside_io.specs.Contents.{FilesAt}
 use Rattle.cnf_core.specs.declared.limits.TheConstants.{ROOM}
 use Rattle.lawful_check.specs.declared.law_break.LawBreak.{LawBreak}
+use Rattle.lawful_check.specs.Breaks.{break_of}
 use Rattle.track_order.specs.Order.{EdgeOrder, is_above}
 use Rattle.refute_log.specs.Told.{Lines}
 use Rattle.drawing_cnf.specs.Layout.{layout}
 use Rattle.search_why.proofs.OutcomeLemmas.{none_lawful}
 use Rattle.search_why.specs.Task.{Task}
-use Rattle.search_why.specs.Explained.{IsWithout}
+use Rattle.search_why.specs.Explained.{IsExplanation, AreWithout, IsWithout}
 use Rattle.law_core.specs.declared.ending.Why.{Why}
 use Rattle.law_core.specs.declared.ending.Why.TheVariants.{Exists, Laws, Spent, Room}
 use Rattle.law_core.specs.Known.{task_of}
 use Rattle.law_core.specs.Why.{AreNamed, IsRightWhy, IsWhyLog}
 use Rattle.run_input.specs.declared.status.Status.{Status}
-use Rattle.run_input.specs.declared.status.Status.TheVariants.{Done}
+use Rattle.run_input.specs.declared.status.Status.TheVariants.{Done, Unfinished}
 use Rattle.run_input.specs.Input.{IsStationOf}
 use Rattle.run_input.specs.Met.{between, HasRead}
 use Rattle.run_input.specs.Answer.{HasReadStation}
-use Rattle.run_explain_redraw.specs.WhyText.{why_text}
+use Rattle.run_explain_redraw.specs.WhyText.{laws_text, why_text}
 use Rattle.run_explain_redraw.specs.Explained.{ExplainJob, explain_job, explain_task, status_of_why, IsExplainAnswer}
+
+-- what holds of each status and text of an answer of this search holds of its own
+each_why : (asked : ExplainJob) (g : Graph) (o : EdgeOrder) (w : Why) (P : Status → List ℕ → Type 0) → IsRightWhy (explain_task g o asked) w →
+    ((d : Drawing) → Lawful g (is_above o) asked.grid d → P Done (codes "drawing exists\n")) →
+    ((laws : List Instance) (without : List Drawing) → IsExplanation g (is_above o) asked.grid laws → AreWithout g asked.grid laws without → P Done (laws_text g (map break_of laws) without)) →
+    P Unfinished (codes "why conflicts\n") → P Unfinished (codes "why room\n") → P (status_of_why w) (why_text g w)
+each_why asked g o (Exists d) P right lawful explained spent room = lawful d right
+each_why asked g o (Laws names without) P right lawful explained spent room =
+    subst (λ (ns : List LawBreak). P Done (laws_text g ns without)) (sym right.named) (explained right.laws without right.explanation right.irreducible)
+each_why asked g o Spent P right lawful explained spent room = spent
+each_why asked g o Room P right lawful explained spent room = room
+
+-- what holds of each status and text that explain may answer holds of its answer
+pub by_why : (asked : ExplainJob) (traced : Lines → Type 0) (g : Graph) (o : EdgeOrder) (status : Status) (text : List ℕ) (P : Status → List ℕ → Type 0) → IsExplainAnswer asked traced g o status text →
+    ((d : Drawing) → Lawful g (is_above o) asked.grid d → P Done (codes "drawing exists\n")) →
+    ((laws : List Instance) (without : List Drawing) → IsExplanation g (is_above o) asked.grid laws → AreWithout g asked.grid laws without → P Done (laws_text g (map break_of laws) without)) →
+    P Unfinished (codes "why conflicts\n") → P Unfinished (codes "why room\n") → P status text
+by_why asked traced g o status text P f lawful explained spent room =
+    subst (λ (s : Status). P s text) (sym f.status_is)
+    (subst (λ (t : List ℕ). P (status_of_why f.why) t) (sym f.spelled) (each_why asked g o f.why P f.right lawful explained spent room))
 
 -- the drawings are of the graph's size
 pub all_fit : (p : Task) (names : List LawBreak) (without : List Drawing) → AreNamed p names without → All (HasSizeOf p.graph) without

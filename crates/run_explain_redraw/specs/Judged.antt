@@ -11,8 +11,7 @@ use Rattle.run_input.specs.declared.fault.RunFault.{RunFault}
 use Rattle.run_input.specs.declared.status.Status.{Status}
 use Rattle.run_input.specs.Fault.{fault_line, fault_status}
 use Rattle.run_input.specs.Input.{HasStation, HasFileFault}
-use Rattle.run_input.specs.Answer.{IsFileJudged}
-use Rattle.run_check.specs.Verdict.{IsSheetRefused}
+use Rattle.run_input.specs.Answer.{IsFileJudged, IsSheetRefused}
 use Rattle.run_explain_redraw.specs.FormerPoints.{AreFormer}
 
 -- the former file's bytes have a fault, and this is its line, behind a word that tells which file it is of

@@ -7,7 +7,7 @@ use Rattle.plan_core.specs.Drawing.{Drawing}
 use Rattle.lawful_check.specs.declared.law_break.LawBreak.{LawBreak}
 use Rattle.outside_io.specs.Fields.{line_text}
 use Rattle.plan_text.specs.SheetText.{drawn_text}
-use Rattle.run_check.specs.Verdict.{law_fields}
+use Rattle.run_input.specs.Law.{law_fields}
 use Rattle.law_core.specs.declared.ending.Why.{Why}
 use Rattle.law_core.specs.declared.ending.Why.TheVariants.{Exists, Laws, Spent, Room}
 

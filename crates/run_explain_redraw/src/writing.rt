@@ -13,7 +13,7 @@ use plan_core::OutOfMemory;
 use plan_geometry::Drawing;
 use plan_text::write_drawn;
 use port_graph::PortGraph;
-use run_check::push_law;
+use run_input::push_law;
 use std::alloc::Global;
 
 /// Appends a line with a word and a number.

@@ -1,13 +1,15 @@
--- What is answered to an input and to the bytes of a file: the status and the text that goes with it. What a command
--- answers to a station, and which of it a run owes, is said in the crates above.
-use Rattle.std.specs.Prelude.{◌≡◌, ℕ, suc, ◌⊎◌, List}
+-- What is answered to an input, to the bytes of a file and to a sheet: the status and the text that goes with it. What
+-- a command answers to a station, and which of it a run owes, is said in the crates above.
+use Rattle.std.specs.Prelude.{◌≡◌, ℕ, Bool, suc, ◌⊎◌, List}
 use Rattle.outside_io.specs.Contents.{IsFileWhereTold}
 use Rattle.plan_core.specs.declared.limits.TheConstants.{MAX_FILE_BYTES, MAX_LOG_BYTES}
 use Rattle.plan_core.specs.Graph.{Graph}
 use Rattle.track_order.specs.Order.{EdgeOrder, is_above}
 use Rattle.plan_text.specs.GraphText.{graph_text}
+use Rattle.plan_text.specs.declared.sheet_fault.SheetWhat.{SheetWhat}
+use Rattle.plan_text.specs.SheetFaults.{HasSheetFault}
 use Rattle.run_input.specs.declared.fault.RunFault.{RunFault}
-use Rattle.run_input.specs.declared.fault.RunFault.TheVariants.{Long, ReadFailed}
+use Rattle.run_input.specs.declared.fault.RunFault.TheVariants.{Long, ReadFailed, Sheet}
 use Rattle.run_input.specs.declared.status.Status.{Status}
 use Rattle.run_input.specs.declared.status.Status.TheVariants.{Done}
 use Rattle.run_input.specs.Fault.{IsFaultLine}
@@ -33,6 +35,16 @@ pub record IsFileRefused (bytes : List ℕ) (status : Status) (text : List ℕ) 
 abbrev pub IsFileJudged : (Graph → EdgeOrder → Status → List ℕ → Type 0) → List ℕ → Status → List ℕ → Type 0
 IsFileJudged Answers bytes status text =
     ((g : Graph) × (o : EdgeOrder) × HasStation bytes g o × Answers g o status text) ⊎ IsFileRefused bytes status text
+
+-- ---- a sheet
+
+-- the sheet's text, whether it needs a drawing or not, has this fault first, and this is its line
+pub record IsSheetRefused (g : Graph) (needs_drawing : Bool) (sheet : List ℕ) (status : Status) (text : List ℕ) : Type 0
+  where
+    pub what : SheetWhat
+    pub line : ℕ
+    pub first : HasSheetFault g needs_drawing sheet what line
+    pub answers : IsFaultLine (Sheet what line) status text
 
 -- ---- an input
 

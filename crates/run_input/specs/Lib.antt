@@ -3,6 +3,7 @@ pub mod Met
 pub mod Fault
 pub mod Input
 pub mod Answer
+pub mod Law
 pub mod Signals
 pub mod Reading
 pub mod Reply

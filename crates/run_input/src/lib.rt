@@ -14,6 +14,7 @@
 
 mod fault;
 mod input;
+mod law;
 mod laws;
 mod printing;
 mod reading;
@@ -23,6 +24,7 @@ mod status;
 
 pub use fault::RunFault;
 pub use input::{InputRefusal, Station, station_in};
+pub use law::push_law;
 pub use laws::{one_fault, one_graph, one_status_to_a_number, signals_or_fault, station_or_fault};
 pub use printing::print;
 pub use reading::{bytes_of, signals_of, station_of};

@@ -48,9 +48,8 @@ use Rattle.run_draw_front.specs.Drawn.{Job, job, status_of, IsDrawAnswer}
 use Rattle.run_draw_front.specs.Signalled.{job_for, IsSignalFileJudged}
 use Rattle.trade_off.specs.declared.outcome.FrontEnd.{FrontEnd}
 use Rattle.trade_off.specs.declared.outcome.FrontEnd.TheVariants.{Whole, Empty, Conflicts, Room as EndRoom}
-use Rattle.law_core.specs.declared.ending.Why.{Why}
-use Rattle.law_core.specs.declared.ending.Why.TheVariants as why
-use Rattle.run_explain_redraw.specs.Explained.{ExplainJob, explain_job, status_of_why, IsExplainAnswer}
+use Rattle.run_explain_redraw.specs.Explained.{ExplainJob, explain_job, IsExplainAnswer}
+use Rattle.run_explain_redraw.proofs.ExplainedLemmas.{by_why}
 use Rattle.run_draw_front.specs.Fronted.{FrontJob, front_job, status_of_front, IsFrontAnswer}
 use Rattle.drawing_cnf.specs.Moved.{Former}
 use Rattle.search_least.specs.declared.fewest.Fewest.{Fewest}
@@ -158,14 +157,8 @@ on_former P asked traced g o old said status text owed (inl (h, q, has, inl (poi
 on_former P asked traced g o old said status text owed (inl (h, q, has, inr r)) = subst P (sym r.answers.status_is) owed.refused
 on_former P asked traced g o old said status text owed (inr r) = subst P (sym (r.status_is ∙ file_fault_status old r.fault r.has)) owed.refused
 
-on_why : (P : Status → Type 0) (w : Why) → P Done → P Unfinished → P (status_of_why w)
-on_why P (why.Exists d) done unfinished = done
-on_why P (why.Laws names without) done unfinished = done
-on_why P why.Spent done unfinished = unfinished
-on_why P why.Room done unfinished = unfinished
-
 on_explain : (P : Status → Type 0) (asked : ExplainJob) (traced : Lines → Type 0) (g : Graph) (o : EdgeOrder) (status : Status) (text : List ℕ) → OfOwed P → IsExplainAnswer asked traced g o status text → P status
-on_explain P asked traced g o status text owed f = subst P (sym f.status_is) (on_why P f.why owed.done owed.unfinished)
+on_explain P asked traced g o status text owed f = by_why asked traced g o status text (λ s t. P s) f (λ d lawful. owed.done) (λ laws without explains irreducible. owed.done) owed.unfinished owed.unfinished
 
 on_checked : (P : Status → Type 0) (file sheet log : List ℕ) (status : Status) (text : List ℕ) → OfOwed P → IsChecked file sheet log status text → P status
 on_checked P file sheet log status text owed = on_file P (λ g o. IsClaimJudged g o sheet log) file status text owed.refused (λ g o. on_claim P g o sheet log status text owed)
@@ -438,7 +431,7 @@ sound_ends (Explain input grid budget) met traced status text file read owes =
     let asked = explain_job grid budget in
     let judged = first_on input met file (IsAnswerAfter 1 met (IsFileJudged (IsExplainAnswer asked traced))) status text (λ fails. read (0, lit< tt, fails)) owes in
     let found = sound_judged (IsExplainAnswer asked traced) file.bytes status text file.sound judged.1 in
-    subst (λ s. (s ≡ Done) ⊎ (s ≡ Unfinished)) (sym found.3.status_is) (on_why (λ s. (s ≡ Done) ⊎ (s ≡ Unfinished)) found.3.why (inl refl) (inr refl))
+    by_why asked traced found.0 found.1 status text (λ s t. (s ≡ Done) ⊎ (s ≡ Unfinished)) found.3 (λ d lawful. inl refl) (λ laws without explains irreducible. inl refl) (inr refl) (inr refl)
 sound_ends (Trim input sheet log hints) met traced status text (file, said, log_file) read owes =
     let told = log_text log_file.lines in
     let first =
