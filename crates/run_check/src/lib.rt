@@ -9,7 +9,7 @@
 //! claim, and writes the rest (`writing`); of another log it says what `check` says. `rechecking` has `log_check` judge
 //! hinted lines. `specs/Texts` has the texts, `specs/Files`, `specs/Trimmed` and `specs/Rechecked` the answers.
 //! `hint_laws` says that `recheck` ends with 0 exactly where the lines certify the claim, and that it does on what
-//! `trim` left. Only `trim` shares code with the solver. `run_explain_redraw` and `schematic_main` use this crate.
+//! `trim` left. Only `trim` shares code with the solver. `schematic_main` uses this crate.
 #![tactic(auto)]
 
 mod checking;

@@ -7,9 +7,9 @@
 //!
 //! `specs/Status` has the statuses and their numbers, `specs/Fault` the line of each fault. `specs/Input` says what the
 //! bytes of a file are to a run, `specs/Met` what a run meets outside and how it leaves files. `specs/Answer` says what
-//! is answered to an input and to a file. `specs/Reading` and `specs/Reply` say what the calls of those modules give.
-//! `laws` says that a file has one station or one fault. This crate uses those that read a station. Each command's
-//! crate uses it.
+//! is answered to an input, to a file and to a sheet. `specs/Reading` and `specs/Reply` say what the calls of those
+//! modules give. `law` writes a law and its parties as fields of a line (`specs/Law`). `laws` says that a file has one
+//! station or one fault. This crate uses those that read a station. Each command's crate uses it.
 #![tactic(auto)]
 
 mod fault;
