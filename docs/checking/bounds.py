@@ -3,6 +3,7 @@ from checking.crates import TOP, read, show
 
 CLAUSE = 250
 LINE = 120
+PROOF_LINE = 160
 
 
 def long_clauses(contracts):
@@ -18,11 +19,14 @@ def long_clauses(contracts):
 
 
 def long_lines():
+    """Lines of src/ and specs/, and those of proofs/."""
     found = []
-    for path in sorted([*(TOP / "crates").glob("*/src/**/*.rt"), *(TOP / "crates").glob("*/specs/**/*.antt")]):
+    crates = TOP / "crates"
+    read_often = [*crates.glob("*/src/**/*.rt"), *crates.glob("*/specs/**/*.antt")]
+    for path, most in sorted([(path, LINE) for path in read_often] + [(path, PROOF_LINE) for path in crates.glob("*/proofs/**/*.antt")]):
         for number, line in enumerate(read(path).splitlines(), 1):
-            if len(line) > LINE:
-                found.append(f"{show(path)}:{number}: a line of {len(line)} columns, above {LINE}")
+            if len(line) > most:
+                found.append(f"{show(path)}:{number}: a line of {len(line)} columns, above {most}")
     return found
 
 

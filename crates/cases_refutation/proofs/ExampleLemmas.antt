@@ -1,5 +1,6 @@
 -- The short log is as the examples say.
-use Rattle.std.proofs.Common.{◌≡◌, ℕ, zero, suc, ◌+◌, ◌<◌, ◌≤◌, ◌⊎◌, Bool, true, false, List, [], ◌∷◌, ◌++◌, length, get_or, refl, sym, ◌∙◌, ap, subst, inl, inr, arith}
+use Rattle.std.proofs.Common.{◌≡◌, ℕ, zero, suc, ◌+◌, ◌<◌, ◌≤◌, ◌⊎◌, Bool, true, false, List, [], ◌∷◌, ◌++◌, length, get_or, refl, sym, ◌∙◌, ap, subst, inl}
+use Rattle.std.proofs.Common.{inr, arith}
 use Rattle.std.specs.Prelude.{◌↔◌, ⊤, All, Contains, flat_map}
 use Rattle.std.specs.List.{AllByRecursion}
 use Rattle.std.proofs.lemmas.Option.{same_Some}
@@ -57,7 +58,8 @@ is_itself c k x = record { criterion = refl; number = refl; var = refl }
 
 bound_is : (c : Criterion) (k : ℕ) (x : Var) → Contains short_log (Bound c k x) → IsOneOfThree c k x.0
 bound_is c k x there = holds_at BoundsOneOfThree short_log
-    (tt, (tt, (inl (is_itself Height 1 1), (inr (inl (is_itself Height 2 2)), (inr (inr (is_itself Width 3 3)), (tt, (tt, (tt, (tt, tt))))))))) (Bound c k x) there.0 there.1 there.2
+    (tt, (tt, (inl (is_itself Height 1 1), (inr (inl (is_itself Height 2 2)), (inr (inr (is_itself Width 3 3)), (tt, (tt, (tt, (tt, tt))))))))) (Bound c k x)
+    there.0 there.1 there.2
 
 said : (greatest : Criterion → ℕ) (c : Criterion) (k : ℕ) (l : Literal) → SaysAtLeast greatest short_log c k l → IsOneOfThree c k l.var
 said greatest c k l s =
@@ -90,8 +92,12 @@ named_none n = All-nil (λ (l : Literal). l.var ≤ n)
 named_one : (n x : ℕ) (sign : Bool) → x ≤ n → All (λ (l : Literal). l.var ≤ n) (record { var = x; positive = sign } ∷ [])
 named_one n x sign h = All-cons (λ (l : Literal). l.var ≤ n) (record { var = x; positive = sign }) [] h (named_none n)
 
-named_two : (n x y : ℕ) (sign : Bool) → x ≤ n → y ≤ n → All (λ (l : Literal). l.var ≤ n) (record { var = x; positive = sign } ∷ record { var = y; positive = sign } ∷ [])
-named_two n x y sign h k = All-cons (λ (l : Literal). l.var ≤ n) (record { var = x; positive = sign }) (record { var = y; positive = sign } ∷ []) h (named_one n y sign k)
+named_two : (n x y : ℕ) (sign : Bool) → x ≤ n → y ≤ n → All (λ (l : Literal). l.var ≤ n) (record {
+    var = x; positive = sign
+    } ∷ record { var = y; positive = sign } ∷ [])
+named_two n x y sign h k = All-cons (λ (l : Literal). l.var ≤ n) (record {
+    var = x; positive = sign
+    }) (record { var = y; positive = sign } ∷ []) h (named_one n y sign k)
 
 pub short_log_derives : Derives short_log
 short_log_derives =
@@ -104,19 +110,28 @@ short_log_derives =
     let l6 : Lines = l5 ++ Query (negative_of 1 ∷ []) ∷ [] in
     let l7 : Lines = l6 ++ Refuted (positive_of 1 ∷ []) ∷ [] in
     let l8 : Lines = l7 ++ Query (negative_of 2 ∷ negative_of 3 ∷ []) ∷ [] in
-    let d1 : Derives l1 = derives_more l0 (Formula (positive_of 1 ∷ [])) derives_none (record { named = named_none 0; answers = tt; implied = tt; says_more = tt }) in
-    let d2 : Derives l2 = derives_more l1 (Formula (positive_of 2 ∷ positive_of 3 ∷ [])) d1 (record { named = named_none 1; answers = tt; implied = tt; says_more = tt }) in
+    let d1 : Derives l1 = derives_more l0 (Formula (positive_of 1 ∷ [])) derives_none (record {
+    named = named_none 0; answers = tt; implied = tt; says_more = tt
+    }) in
+    let d2 : Derives l2 = derives_more l1 (Formula (positive_of 2 ∷ positive_of 3 ∷ [])) d1 (record {
+    named = named_none 1; answers = tt; implied = tt; says_more = tt
+    }) in
     let d3 : Derives l3 = derives_more l2 (Bound Height 1 (variable 1)) d2 (record { named = named_none 3; answers = tt; implied = tt; says_more = tt }) in
     let d4 : Derives l4 = derives_more l3 (Bound Height 2 (variable 2)) d3 (record { named = named_none 3; answers = tt; implied = tt; says_more = tt }) in
     let d5 : Derives l5 = derives_more l4 (Bound Width 3 (variable 3)) d4 (record { named = named_none 3; answers = tt; implied = tt; says_more = tt }) in
-    let d6 : Derives l6 = derives_more l5 (Query (negative_of 1 ∷ [])) d5 (record { named = named_one 3 1 false (omega arith); answers = tt; implied = tt; says_more = tt }) in
+    let d6 : Derives l6 = derives_more l5 (Query (negative_of 1 ∷ [])) d5 (record {
+    named = named_one 3 1 false (omega arith); answers = tt; implied = tt; says_more = tt
+    }) in
     let d7 : Derives l7 = derives_more l6 (Refuted (positive_of 1 ∷ [])) d6 (record {
       named = named_one 3 1 true (omega arith);
-      answers = All-cons (λ l. Contains (negative_of 1 ∷ []) (negate l)) (positive_of 1) [] (0, omega arith, refl) (All-nil (λ l. Contains (negative_of 1 ∷ []) (negate l)));
+      answers = All-cons (λ l. Contains (negative_of 1 ∷ []) (negate l)) (positive_of 1) [] (0, omega arith, refl)
+      (All-nil (λ l. Contains (negative_of 1 ∷ []) (negate l)));
       implied = rup_itself_one (flat_map added l6) (0, omega arith, refl);
       says_more = tt;
     }) in
-    let d8 : Derives l8 = derives_more l7 (Query (negative_of 2 ∷ negative_of 3 ∷ [])) d7 (record { named = named_two 3 2 3 false (omega arith) (omega arith); answers = tt; implied = tt; says_more = tt }) in
+    let d8 : Derives l8 = derives_more l7 (Query (negative_of 2 ∷ negative_of 3 ∷ [])) d7 (record {
+    named = named_two 3 2 3 false (omega arith) (omega arith); answers = tt; implied = tt; says_more = tt
+    }) in
     let Q : Literal → Type 0 = λ l. Contains (negative_of 2 ∷ negative_of 3 ∷ []) (negate l) in
     derives_more l8 (Refuted (positive_of 2 ∷ positive_of 3 ∷ [])) d8 (record {
       named = named_two 3 2 3 true (omega arith) (omega arith);
@@ -142,7 +157,8 @@ short_log_is_met = record {
   ];
 }
   where
-    exactly : (c : Criterion) (k : ℕ) (x : Var) {d : Criterion} {m y : ℕ} → Is c k x.0 d m y → (((but_two y ≡ true) × (m ≤ value_of (measured 1 0 0 3) d)) ⊎ ((but_two y ≡ true → ⊥) × (m ≤ value_of (measured 1 0 0 3) d → ⊥))) →
+    exactly : (c : Criterion) (k : ℕ) (x : Var) {d : Criterion} {m y : ℕ} → Is c k x.0 d m y →
+    (((but_two y ≡ true) × (m ≤ value_of (measured 1 0 0 3) d)) ⊎ ((but_two y ≡ true → ⊥) × (m ≤ value_of (measured 1 0 0 3) d → ⊥))) →
         (but_two x.0 ≡ true) ↔ (k ≤ value_of (measured 1 0 0 3) c)
     exactly c k x {d} {m} {y} b which =
         let t : but_two x.0 ≡ but_two y = ap but_two b.var in
@@ -155,23 +171,27 @@ short_log_is_met = record {
 
 -- ---- what it certifies
 
-says : (greatest : Criterion → ℕ) (c : Criterion) (k x : ℕ) → k ≤ greatest c → Contains short_log (Bound c k (variable x)) → SaysAtLeast greatest short_log c k (positive_of x)
+says : (greatest : Criterion → ℕ) (c : Criterion) (k x : ℕ) → k ≤ greatest c → Contains short_log (Bound c k (variable x)) →
+    SaysAtLeast greatest short_log c k (positive_of x)
 says greatest c k x within told = record { within = within; variable = variable x; told = told; is = refl }
 
 pub height_then_width_certified : Certifies (height_up_to 9) short_log height_then_width (measured 1 0 0 3) 2
-height_then_width_certified zero c low at = subst (λ b. IsCertifiedLeast (height_up_to 9) short_log [] b (measured 1 0 0 3)) (same_Some Height c at) (λ positive. record {
+height_then_width_certified zero c low at = subst (λ b. IsCertifiedLeast (height_up_to 9) short_log [] b (measured 1 0 0 3)) (same_Some Height c at)
+    (λ positive. record {
   clause = positive_of 1 ∷ [];
   among = (6, omega arith, refl);
   each =
       let P : Literal → Type 0 = IsOutOfReach (height_up_to 9) short_log [] Height (measured 1 0 0 3) in
       All-cons P (positive_of 1) [] (inr (says (height_up_to 9) Height 1 1 (omega arith) (2, omega arith, refl))) (All-nil P);
 })
-height_then_width_certified (suc zero) c low at = subst (λ b. IsCertifiedLeast (height_up_to 9) short_log (Height ∷ []) b (measured 1 0 0 3)) (same_Some Width c at) (λ positive. record {
+height_then_width_certified (suc zero) c low at = subst (λ b. IsCertifiedLeast (height_up_to 9) short_log (Height ∷ []) b (measured 1 0 0 3))
+    (same_Some Width c at) (λ positive. record {
   clause = positive_of 2 ∷ positive_of 3 ∷ [];
   among = (8, omega arith, refl);
   each =
       let P : Literal → Type 0 = IsOutOfReach (height_up_to 9) short_log (Height ∷ []) Width (measured 1 0 0 3) in
-      All-cons P (positive_of 2) (positive_of 3 ∷ []) (inl (0, Height, omega arith, refl, says (height_up_to 9) Height 2 2 (omega arith) (3, omega arith, refl)))
+      All-cons P (positive_of 2) (positive_of 3 ∷ []) (inl (0, Height, omega arith, refl, says (height_up_to 9) Height 2 2 (omega arith)
+      (3, omega arith, refl)))
       (All-cons P (positive_of 3) [] (inr (says (height_up_to 9) Width 3 3 (omega arith) (4, omega arith, refl))) (All-nil P));
 })
 height_then_width_certified (suc (suc i)) c low at = absurd (omega arith)

@@ -10,7 +10,8 @@ use Rattle.cnf_core.proofs.ClauseLemmas.{words_append}
 use Rattle.cnf_core.proofs.StepLemmas.{grown, passes_more, passes_after, one_less}
 
 -- a call that makes no variables
-pub block_of_clauses : {T : Type 0} (r : Result T CnfFault) (old new : Cnf) (xs : Clauses) (longest : ℕ) → AddsClauses r old new xs longest → AddsBlock r old new 0 xs longest
+pub block_of_clauses : {T : Type 0} (r : Result T CnfFault) (old new : Cnf) (xs : Clauses) (longest : ℕ) → AddsClauses r old new xs longest →
+    AddsBlock r old new 0 xs longest
 block_of_clauses (Ok x) old new xs longest a = let v = a.vars in record {
   made = omega arith;
   added = a.added;
@@ -33,7 +34,8 @@ block_of_clauses (Err e) old new xs longest a = let v = a.vars in record {
 }
 
 -- the same answer, handed on with another value or as the same error
-pub block_same : {T U : Type 0} (r : Result T CnfFault) (y : U) (old new : Cnf) (count : ℕ) (xs : Clauses) (longest : ℕ) (x : T) → r ≡ Ok x → AddsBlock r old new count xs longest → AddsBlock (Ok y) old new count xs longest
+pub block_same : {T U : Type 0} (r : Result T CnfFault) (y : U) (old new : Cnf) (count : ℕ) (xs : Clauses) (longest : ℕ) (x : T) → r ≡ Ok x →
+    AddsBlock r old new count xs longest → AddsBlock (Ok y) old new count xs longest
 block_same r y old new count xs longest x e a = let b = subst (λ s. AddsBlock s old new count xs longest) e a in record {
   made = b.made;
   added = b.added;
@@ -45,7 +47,8 @@ block_same r y old new count xs longest x e a = let b = subst (λ s. AddsBlock s
   room = b.room;
 }
 
-pub block_longer : {T : Type 0} (r : Result T CnfFault) (old new : Cnf) (count : ℕ) (xs : Clauses) (shorter longest : ℕ) → shorter ≤ longest → AddsBlock r old new count xs shorter → AddsBlock r old new count xs longest
+pub block_longer : {T : Type 0} (r : Result T CnfFault) (old new : Cnf) (count : ℕ) (xs : Clauses) (shorter longest : ℕ) → shorter ≤ longest →
+    AddsBlock r old new count xs shorter → AddsBlock r old new count xs longest
 block_longer r old new count xs shorter longest le a = record {
   made = a.made;
   added = a.added;
@@ -58,7 +61,8 @@ block_longer r old new count xs shorter longest le a = record {
 }
 
 -- the first of two calls was refused, and so the whole is
-pub block_refused : {T U : Type 0} (r : Result T CnfFault) (s : Result U CnfFault) (old new : Cnf) (m n : ℕ) (xs ys : Clauses) (longest : ℕ) → IsErr s → (IsErrOf s Room → IsErrOf r Room) → AddsBlock r old new m xs longest → AddsBlock s old new (m + n) (xs ++ ys) longest
+pub block_refused : {T U : Type 0} (r : Result T CnfFault) (s : Result U CnfFault) (old new : Cnf) (m n : ℕ) (xs ys : Clauses) (longest : ℕ) → IsErr s →
+    (IsErrOf s Room → IsErrOf r Room) → AddsBlock r old new m xs longest → AddsBlock s old new (m + n) (xs ++ ys) longest
 block_refused r (Ok y) old new m n xs ys longest err same a = absurd (cc)
 block_refused r (Err e) old new m n xs ys longest err same a = let from = a.from in let vars = a.vars in record {
   made = tt;
@@ -71,14 +75,16 @@ block_refused r (Err e) old new m n xs ys longest err same a = let from = a.from
   room = a.room;
 }
 
-pub block_fault : {T U : Type 0} (r : Result T CnfFault) (s : Result U CnfFault) (old new : Cnf) (count : ℕ) (xs : Clauses) (longest : ℕ) → IsErr s → (IsErrOf s Room → IsErrOf r Room) → AddsBlock r old new count xs longest → AddsBlock s old new count xs longest
+pub block_fault : {T U : Type 0} (r : Result T CnfFault) (s : Result U CnfFault) (old new : Cnf) (count : ℕ) (xs : Clauses) (longest : ℕ) → IsErr s →
+    (IsErrOf s Room → IsErrOf r Room) → AddsBlock r old new count xs longest → AddsBlock s old new count xs longest
 block_fault r s old new count xs longest err same a =
     let z : count + 0 ≡ count = omega arith in
     let b = block_refused r s old new count 0 xs [] longest err same a in
     subst (λ n. AddsBlock s old new n xs longest) z (subst (λ (cs : Clauses). AddsBlock s old new (count + 0) cs longest) (append-nil xs) b)
 
 -- the second call behind the first
-pub block_after : {T U : Type 0} (x : T) (r : Result U CnfFault) (old mid new : Cnf) (m n : ℕ) (xs ys : Clauses) (longest : ℕ) → AddsBlock (Ok x) old mid m xs longest → AddsBlock r mid new n ys longest → AddsBlock r old new (m + n) (xs ++ ys) longest
+pub block_after : {T U : Type 0} (x : T) (r : Result U CnfFault) (old mid new : Cnf) (m n : ℕ) (xs ys : Clauses) (longest : ℕ) →
+    AddsBlock (Ok x) old mid m xs longest → AddsBlock r mid new n ys longest → AddsBlock r old new (m + n) (xs ++ ys) longest
 block_after x (Ok y) old mid new m n xs ys longest a b =
     let made = a.made in
     let more = b.made in
@@ -117,15 +123,18 @@ pub record IsBuilding (count : ℕ → ℕ) (f : ℕ → Clauses) (old now : Cnf
 count_next : (count : ℕ → ℕ) (k end : ℕ) → k < end → count_each count k (end - k) ≡ count k + count_each count (k + 1) (end - (k + 1))
 count_next count k end h = ap (λ n. count_each count k n) (one_less k end h)
 
-pub building_more : {T : Type 0} (x : T) (count : ℕ → ℕ) (f : ℕ → Clauses) (old now new : Cnf) (total : ℕ) (clauses : Clauses) (k end longest : ℕ) → k < end → IsBuilding count f old now total clauses k end → AddsBlock (Ok x) now new (count k) (f k) longest → IsBuilding count f old new total clauses (k + 1) end
+pub building_more : {T : Type 0} (x : T) (count : ℕ → ℕ) (f : ℕ → Clauses) (old now new : Cnf) (total : ℕ) (clauses : Clauses) (k end longest : ℕ) → k < end →
+    IsBuilding count f old now total clauses k end → AddsBlock (Ok x) now new (count k) (f k) longest → IsBuilding count f old new total clauses (k + 1) end
 building_more x count f old now new total clauses k end longest h a b = record {
   vars = let made = b.made in let v = a.vars in omega (arith, count_next count k end h);
   from = let low = a.from in let more = b.from in omega arith;
-  left = ap (λ (z : Clauses). z ++ each f (k + 1) (end - (k + 1))) b.added ∙ append_assoc now.clauses (f k) (each f (k + 1) (end - (k + 1))) ∙ (rw (one_less k end h) at a.left);
+  left = ap (λ (z : Clauses). z ++ each f (k + 1) (end - (k + 1))) b.added ∙ append_assoc now.clauses (f k) (each f (k + 1) (end - (k + 1)))
+      ∙ (rw (one_less k end h) at a.left);
   room = b.room ∙ a.room;
 }
 
-pub building_done : {T : Type 0} (x : T) (count : ℕ → ℕ) (f : ℕ → Clauses) (old now : Cnf) (total : ℕ) (clauses : Clauses) (k end longest : ℕ) → end ≤ k → IsBuilding count f old now total clauses k end → AddsBlock (Ok x) old now total clauses longest
+pub building_done : {T : Type 0} (x : T) (count : ℕ → ℕ) (f : ℕ → Clauses) (old now : Cnf) (total : ℕ) (clauses : Clauses) (k end longest : ℕ) → end ≤ k →
+    IsBuilding count f old now total clauses k end → AddsBlock (Ok x) old now total clauses longest
 building_done x count f old now total clauses k end longest h a =
     let z : end - k ≡ 0 = omega arith in
     let e : now.clauses ≡ old.clauses ++ clauses = sym (append-nil now.clauses) ∙ (rw z at a.left) in
@@ -143,7 +152,9 @@ building_done x count f old now total clauses k end longest h a =
       room = a.room;
     }
 
-pub building_refused : {T U : Type 0} (r : Result T CnfFault) (s : Result U CnfFault) (count : ℕ → ℕ) (f : ℕ → Clauses) (old now new : Cnf) (total : ℕ) (clauses : Clauses) (k end longest : ℕ) → IsErr s → (IsErrOf s Room → IsErrOf r Room) → k < end → IsBuilding count f old now total clauses k end → AddsBlock r now new (count k) (f k) longest → AddsBlock s old new total clauses longest
+pub building_refused : {T U : Type 0} (r : Result T CnfFault) (s : Result U CnfFault) (count : ℕ → ℕ) (f : ℕ → Clauses) (old now new : Cnf) (total : ℕ)
+    (clauses : Clauses) (k end longest : ℕ) → IsErr s → (IsErrOf s Room → IsErrOf r Room) → k < end → IsBuilding count f old now total clauses k end →
+    AddsBlock r now new (count k) (f k) longest → AddsBlock s old new total clauses longest
 building_refused r (Ok y) count f old now new total clauses k end longest err same h a b = absurd (cc)
 building_refused r (Err g) count f old now new total clauses k end longest err same h a b =
     let rest = each f (k + 1) (end - (k + 1)) in

@@ -22,15 +22,18 @@ satisfies_right v [] ys h = h
 satisfies_right v (c ∷ xs) ys h = satisfies_right v xs ys h.1
 
 -- the clauses of a range of numbers, number by number
-pub satisfies_each : (v : Assignment) (f : ℕ → Clauses) (first n : ℕ) → ((k : ℕ) → first ≤ k → k < first + n → SatisfiesAll v (f k)) → SatisfiesAll v (each f first n)
+pub satisfies_each : (v : Assignment) (f : ℕ → Clauses) (first n : ℕ) → ((k : ℕ) → first ≤ k → k < first + n → SatisfiesAll v (f k)) →
+    SatisfiesAll v (each f first n)
 satisfies_each v f first zero h = tt
-satisfies_each v f first (suc n) h = satisfies_append v (f first) (each f (first + 1) n) (h first (omega arith) (omega arith)) (satisfies_each v f (first + 1) n (λ k from to. h k (omega arith) (omega arith)))
+satisfies_each v f first (suc n) h = satisfies_append v (f first) (each f (first + 1) n) (h first (omega arith) (omega arith))
+    (satisfies_each v f (first + 1) n (λ k from to. h k (omega arith) (omega arith)))
 
 -- a number from a on is a itself, or from a + 1 on
 pub first_or_later : (a b : ℕ) → a ≤ b → (a ≡ b) ⊎ (a + 1 ≤ b)
 first_or_later a b h = elim (eqb_tells a b) [ inl e ↦ inl e.1 | inr e ↦ inr (let ne = e.1 in omega arith) ]
 
-pub satisfies_at : (v : Assignment) (f : ℕ → Clauses) (first n : ℕ) → SatisfiesAll v (each f first n) → (k : ℕ) → first ≤ k → k < first + n → SatisfiesAll v (f k)
+pub satisfies_at : (v : Assignment) (f : ℕ → Clauses) (first n : ℕ) → SatisfiesAll v (each f first n) → (k : ℕ) → first ≤ k → k < first + n →
+    SatisfiesAll v (f k)
 satisfies_at v f first zero h k from to = absurd (omega arith)
 satisfies_at v f first (suc n) h k from to =
     elim (first_or_later first k from) [
@@ -44,7 +47,8 @@ satisfies_same v w vars [] there same h = h
 satisfies_same v w vars (l ∷ c) there same (inl h) = inl (ap (λ (b : Bool). same_sign l.positive b) (same l.var there.0.1) ∙ h)
 satisfies_same v w vars (l ∷ c) there same (inr h) = inr (satisfies_same v w vars c there.1 same h)
 
-pub satisfies_all_same : (v w : Assignment) (vars : ℕ) (cs : Clauses) → AllThere vars cs → ((x : ℕ) → x ≤ vars → w x ≡ v x) → SatisfiesAll v cs → SatisfiesAll w cs
+pub satisfies_all_same : (v w : Assignment) (vars : ℕ) (cs : Clauses) → AllThere vars cs → ((x : ℕ) → x ≤ vars → w x ≡ v x) → SatisfiesAll v cs →
+    SatisfiesAll w cs
 satisfies_all_same v w vars [] there same h = tt
 satisfies_all_same v w vars (c ∷ cs) there same h = (satisfies_same v w vars c there.0 same h.0, satisfies_all_same v w vars cs there.1 same h.1)
 
@@ -63,7 +67,8 @@ all_there_append vars (c ∷ xs) ys h k = (h.0, all_there_append vars xs ys h.1 
 
 pub all_there_each : (vars : ℕ) (f : ℕ → Clauses) (first n : ℕ) → ((k : ℕ) → first ≤ k → k < first + n → AllThere vars (f k)) → AllThere vars (each f first n)
 all_there_each vars f first zero h = tt
-all_there_each vars f first (suc n) h = all_there_append vars (f first) (each f (first + 1) n) (h first (omega arith) (omega arith)) (all_there_each vars f (first + 1) n (λ k from to. h k (omega arith) (omega arith)))
+all_there_each vars f first (suc n) h = all_there_append vars (f first) (each f (first + 1) n) (h first (omega arith) (omega arith))
+    (all_there_each vars f (first + 1) n (λ k from to. h k (omega arith) (omega arith)))
 
 pub there_at : (vars : ℕ) (cs : Clauses) (c : ℕ) → AllThere vars cs → AreThere vars (get_or cs c [])
 there_at vars [] c h = tt
@@ -84,9 +89,16 @@ pub words_append : (xs ys : Clauses) → words_of (xs ++ ys) ≡ words_of xs + w
 words_append [] ys = omega arith
 words_append (c ∷ xs) ys = omega (arith, words_append xs ys)
 
-pub words_each : (most : ℕ) (f : ℕ → Clauses) (first n : ℕ) → ((k : ℕ) → first ≤ k → k < first + n → words_of (f k) ≤ most) → words_of (each f first n) ≤ n * most
+pub words_each : (most : ℕ) (f : ℕ → Clauses) (first n : ℕ) → ((k : ℕ) → first ≤ k → k < first + n → words_of (f k) ≤ most) →
+    words_of (each f first n) ≤ n * most
 words_each most f first zero h = omega arith
-words_each most f first (suc n) h = omega (arith, h first (omega arith) (omega arith), words_append (f first) (each f (first + 1) n), words_each most f (first + 1) n (λ k from to. h k (omega arith) (omega arith)))
+words_each most f first (suc n) h = omega (
+  arith,
+  h first (omega arith) (omega arith),
+  words_append (f first) (each f (first + 1) n),
+  words_each most f
+      (first + 1) n (λ k from to. h k (omega arith) (omega arith)),
+)
 
 pub words_at : (cs : Clauses) (c : ℕ) → length (get_or cs c []) ≤ words_of cs
 words_at [] c = omega arith
@@ -98,4 +110,5 @@ pub includes_from : (allowed lits c : List Literal) → lits ≡ c → All (λ l
 includes_from allowed lits c e all = λ l m. All-contains (Contains allowed) c l (subst (λ (ls : List Literal). All (Contains allowed) ls) e all) m
 
 pub includes_to : (allowed lits c : List Literal) → lits ≡ c → HasAllOf allowed c → All (λ l. Contains allowed l) lits
-includes_to allowed lits c e h = subst (λ (ls : List Literal). All (Contains allowed) ls) (sym e) (All-weaker (Contains c) (Contains allowed) (λ l m. h l m) c (All-contains_itself c))
+includes_to allowed lits c e h = subst (λ (ls : List Literal). All (Contains allowed) ls) (sym e)
+    (All-weaker (Contains c) (Contains allowed) (λ l m. h l m) c (All-contains_itself c))

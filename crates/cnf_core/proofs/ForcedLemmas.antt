@@ -1,5 +1,6 @@
 -- What follows from clauses alone is made true by one of them: a trail is grown until it is closed.
-use Rattle.std.proofs.Common.{◌≡◌, ℕ, ◌+◌, ◌<◌, ◌≤◌, ◌⊎◌, Bool, true, false, cond, zero, suc, List, [], ◌∷◌, ◌++◌, length, get_or, refl, sym, ◌∙◌, ap, subst, inl, inr, arith}
+use Rattle.std.proofs.Common.{◌≡◌, ℕ, ◌+◌, ◌<◌, ◌≤◌, ◌⊎◌, Bool, true, false, cond, zero, suc, List, [], ◌∷◌, ◌++◌, length, get_or, refl, sym, ◌∙◌, ap, subst}
+use Rattle.std.proofs.Common.{inl, inr, arith}
 use Rattle.std.specs.Prelude.{All, Contains}
 use Rattle.std.proofs.lemmas.Bool.{both_ways}
 use Rattle.std.proofs.lemmas.List.Elements.{All-weaker, All-nil, All-cons, All-head, All-tail, Contains-append_left, Contains-append_right}
@@ -61,7 +62,11 @@ look_in set c (d ∷ ds) = elim (look_in set c ds) [
     | true ↦ λ t. inr (λ l h all. elim (either_of d l ds h) [ inl e ↦ subst (IsIn set) e t | inr m ↦ rest l m all ])
     | false ↦ λ f. elim (others_or set d c) [
       | inl all ↦ inl (record { lit = d; inside = first_of d ds; others = all; lacks = f })
-      | inr never ↦ inr (λ l h all. elim (either_of d l ds h) [ inl e ↦ absurd (never (subst (λ (k : Literal). All (IsOther set k) c) (sym e) all)) | inr m ↦ rest l m all ])
+      | inr never ↦ inr (λ l h all. elim (either_of d l ds h) [
+        | inl e ↦ absurd (never (subst (λ (k : Literal). All (IsOther set k) c) (sym e) all))
+        | inr m ↦
+            rest l m all
+      ])
     ]
   ] refl
 ]
@@ -102,7 +107,8 @@ missing_less : (trail : List Literal) (l : Literal) (ks : List Literal) → miss
 missing_less trail l [] = omega arith
 missing_less trail l (k ∷ ks) = omega (arith, lacks_less (has trail k) (has (trail ++ l ∷ []) k) (push_keeps trail l k), missing_less trail l ks)
 
-missing_one : (trail : List Literal) (l : Literal) (ks : List Literal) → Contains ks l → has trail l ≡ false → missing (has (trail ++ l ∷ [])) ks + 1 ≤ missing (has trail) ks
+missing_one : (trail : List Literal) (l : Literal) (ks : List Literal) → Contains ks l → has trail l ≡ false →
+    missing (has (trail ++ l ∷ [])) ks + 1 ≤ missing (has trail) ks
 missing_one trail l [] h f = let lt = h.1 in absurd (omega arith)
 missing_one trail l (k ∷ ks) h f = elim (either_of k l ks h) [
   | inl e ↦
@@ -130,7 +136,8 @@ record Saturated (clauses : Clauses) : Type 0 where
   closed : IsClosed clauses (has trail)
   forced : (l : Literal) → IsIn (has trail) l → IsForced clauses l
 
-forced_push : (clauses : Clauses) (trail : List Literal) → ((l : Literal) → IsIn (has trail) l → IsForced clauses l) → (m : MissedBy (has trail) clauses) → (l : Literal) → IsIn (has (trail ++ m.missed.lit ∷ [])) l → IsForced clauses l
+forced_push : (clauses : Clauses) (trail : List Literal) → ((l : Literal) → IsIn (has trail) l → IsForced clauses l) → (m : MissedBy (has trail) clauses) →
+    (l : Literal) → IsIn (has (trail ++ m.missed.lit ∷ [])) l → IsForced clauses l
 forced_push clauses trail forced m l h =
     let x : Missed (has trail) m.clause m.clause = m.missed in
     elim (same_literal_or l x.lit) [
@@ -144,15 +151,26 @@ forced_push clauses trail forced m l h =
       | inr ne ↦ forced l (sym (has_front trail x.lit l ne) ∙ h)
     ]
 
-saturate : (n : ℕ) (clauses : Clauses) (trail : List Literal) → missing (has trail) (literals_of clauses) ≤ n → ((l : Literal) → IsIn (has trail) l → IsForced clauses l) → Saturated clauses
+saturate : (n : ℕ) (clauses : Clauses) (trail : List Literal) → missing (has trail) (literals_of clauses) ≤ n →
+    ((l : Literal) → IsIn (has trail) l → IsForced clauses l) → Saturated clauses
 saturate zero clauses trail few forced = elim (look_at_all (has trail) clauses) [
-  | inl m ↦ let x = m.missed in absurd (omega (arith, few, missing_one trail x.lit (literals_of clauses) (among_literals clauses m.clause x.lit m.among x.inside) x.lacks))
+  | inl m ↦ let x = m.missed in absurd (omega (
+    arith,
+    few,
+    missing_one trail x.lit (literals_of clauses)
+        (among_literals clauses m.clause x.lit m.among x.inside) x.lacks,
+  ))
   | inr closed ↦ record { trail = trail; closed = closed; forced = forced }
 ]
 saturate (suc n) clauses trail few forced = elim (look_at_all (has trail) clauses) [
   | inl m ↦
       let x = m.missed in
-      saturate n clauses (trail ++ x.lit ∷ []) (omega (arith, few, missing_one trail x.lit (literals_of clauses) (among_literals clauses m.clause x.lit m.among x.inside) x.lacks))
+      saturate n clauses (trail ++ x.lit ∷ []) (omega (
+        arith,
+        few,
+        missing_one trail x.lit (literals_of clauses)
+            (among_literals clauses m.clause x.lit m.among x.inside) x.lacks,
+      ))
       (forced_push clauses trail forced m)
   | inr closed ↦ record { trail = trail; closed = closed; forced = forced }
 ]
@@ -166,10 +184,12 @@ forced_by_closure clauses l h =
 all_forced : (clauses : Clauses) (ls : List Literal) → All (Closure clauses nothing) ls → All (IsForced clauses) ls
 all_forced clauses ls all = All-weaker (Closure clauses nothing) (IsForced clauses) (forced_by_closure clauses) ls all
 
-pub closure_without_known : (clauses : Clauses) (ls : List Literal) (start : LiteralSet) (l : Literal) → All (Closure clauses nothing) ls → Closure (clauses ++ units ls) start l → Closure clauses start l
+pub closure_without_known : (clauses : Clauses) (ls : List Literal) (start : LiteralSet) (l : Literal) → All (Closure clauses nothing) ls →
+    Closure (clauses ++ units ls) start l → Closure clauses start l
 closure_without_known clauses ls start l all h = closure_without clauses ls start l (all_forced clauses ls all) h
 
-pub falsifies_without_known : (clauses : Clauses) (ls : List Literal) (start : LiteralSet) → All (Closure clauses nothing) ls → Falsifies (clauses ++ units ls) start → Falsifies clauses start
+pub falsifies_without_known : (clauses : Clauses) (ls : List Literal) (start : LiteralSet) → All (Closure clauses nothing) ls →
+    Falsifies (clauses ++ units ls) start → Falsifies clauses start
 falsifies_without_known clauses ls start all h = falsifies_without clauses ls start (all_forced clauses ls all) h
 
 pub rup_without_known : (clauses : Clauses) (ls c : List Literal) → All (Closure clauses nothing) ls → Rup (clauses ++ units ls) c → Rup clauses c

@@ -1,5 +1,6 @@
 -- The clause of literals and truth values: what it says, its variables, and its words.
-use Rattle.std.proofs.Common.{◌≡◌, ℕ, ◌+◌, ◌≤◌, ◌⊎◌, ◌≢◌, Bool, true, false, not, cond, List, [], ◌∷◌, ◌++◌, length, refl, sym, ◌∙◌, ap, subst, inl, inr, arith, length-append, append_assoc, append-nil}
+use Rattle.std.proofs.Common.{◌≡◌, ℕ, ◌+◌, ◌≤◌, ◌⊎◌, ◌≢◌, Bool, true, false, not, cond, List, [], ◌∷◌, ◌++◌, length, refl, sym, ◌∙◌, ap, subst, inl, inr}
+use Rattle.std.proofs.Common.{arith, length-append, append_assoc, append-nil}
 use Rattle.std.specs.Prelude.{map}
 use Rattle.std.proofs.lemmas.Bool.Decides.{eqb_tells}
 use Rattle.std.proofs.lemmas.List.{map-append}
@@ -76,29 +77,38 @@ satisfies_pushed v (k ∷ front) l (inr h) = elim (satisfies_pushed v front l h)
 -- what the clause says, from it and to it
 gathered_says : (v : Assignment) (front : List Literal) (ts : List LitOrTruth) → SatisfiesAll v (gathered front ts) → Satisfies v front ⊎ SomeTrue v ts
 gathered_says v front [] h = inl h.0
-gathered_says v front (OfLit l ∷ ts) h = elim (has front l) as (λ b. SatisfiesAll v (cond b (gathered front ts) (cond (has front (negate l)) [] (gathered (front ++ l ∷ []) ts))) → Satisfies v front ⊎ SomeTrue v (OfLit l ∷ ts)) [
-  | true ↦ λ k. elim (gathered_says v front ts k) [ inl a ↦ inl a | inr a ↦ inr (inr a) ]
-  | false ↦ λ k. elim (has front (negate l)) as (λ b. has front (negate l) ≡ b → SatisfiesAll v (cond b [] (gathered (front ++ l ∷ []) ts)) → Satisfies v front ⊎ SomeTrue v (OfLit l ∷ ts)) [
-    | true ↦ λ e _. elim (either_sign v l) [ inl t ↦ inr (inl t) | inr t ↦ inl (has_true v front (negate l) e t) ]
-    | false ↦ λ e m. elim (gathered_says v (front ++ l ∷ []) ts m) [
-      | inl a ↦ elim (satisfies_pushed v front l a) [ inl x ↦ inl x | inr x ↦ inr (inl x) ]
-      | inr a ↦ inr (inr a)
-    ]
-  ] refl k
-] h
+gathered_says v front (OfLit l ∷ ts) h = elim (has front l) as (λ b. SatisfiesAll v
+    (cond b (gathered front ts) (cond (has front (negate l)) [] (gathered (front ++ l ∷ []) ts))) → Satisfies v front ⊎ SomeTrue v (OfLit l ∷ ts)) [
+      | true ↦ λ k. elim (gathered_says v front ts k) [ inl a ↦ inl a | inr a ↦ inr (inr a) ]
+      | false ↦ λ k. elim (has front (negate l)) as (λ b. has front (negate l) ≡ b → SatisfiesAll v (cond b [] (gathered (front ++ l ∷ []) ts)) → Satisfies v
+          front
+          ⊎ SomeTrue v (OfLit l ∷ ts)) [
+            | true ↦ λ e _. elim (either_sign v l) [ inl t ↦ inr (inl t) | inr t ↦ inl (has_true v front (negate l) e t) ]
+            | false ↦ λ e m. elim (gathered_says v (front ++ l ∷ []) ts m) [
+              | inl a ↦ elim (satisfies_pushed v front l a) [ inl x ↦ inl x | inr x ↦ inr (inl x) ]
+              | inr a ↦ inr (inr a)
+            ]
+          ] refl k
+    ] h
 gathered_says v front (True ∷ ts) h = inr (inl refl)
 gathered_says v front (False ∷ ts) h = elim (gathered_says v front ts h) [ inl k ↦ inl k | inr k ↦ inr (inr k) ]
 
 gathered_holds : (v : Assignment) (front : List Literal) (ts : List LitOrTruth) → Satisfies v front ⊎ SomeTrue v ts → SatisfiesAll v (gathered front ts)
 gathered_holds v front [] (inl h) = (h, tt)
 gathered_holds v front [] (inr h) = absurd h
-gathered_holds v front (OfLit l ∷ ts) h = elim (has front l) as (λ b. has front l ≡ b → SatisfiesAll v (cond b (gathered front ts) (cond (has front (negate l)) [] (gathered (front ++ l ∷ []) ts)))) [
-  | true ↦ λ e. gathered_holds v front ts (elim h [ inl a ↦ inl a | inr (inl t) ↦ inl (has_true v front l e t) | inr (inr a) ↦ inr a ])
-  | false ↦ λ e. elim (has front (negate l)) as (λ b. SatisfiesAll v (cond b [] (gathered (front ++ l ∷ []) ts))) [
-    | true ↦ tt
-    | false ↦ gathered_holds v (front ++ l ∷ []) ts (elim h [ inl a ↦ inl (satisfies_push v front l (inl a)) | inr (inl t) ↦ inl (satisfies_push v front l (inr t)) | inr (inr a) ↦ inr a ])
-  ]
-] refl
+gathered_holds v front (OfLit l ∷ ts) h = elim (has front l) as (λ b. has front l ≡ b → SatisfiesAll v
+    (cond b (gathered front ts) (cond (has front (negate l)) [] (gathered (front ++ l ∷ []) ts)))) [
+      | true ↦ λ e. gathered_holds v front ts (elim h [ inl a ↦ inl a | inr (inl t) ↦ inl (has_true v front l e t) | inr (inr a) ↦ inr a ])
+      | false ↦ λ e. elim (has front (negate l)) as (λ b. SatisfiesAll v (cond b [] (gathered (front ++ l ∷ []) ts))) [
+        | true ↦ tt
+        | false ↦ gathered_holds v (front ++ l ∷ []) ts (elim h [
+          | inl a ↦ inl (satisfies_push v front l (inl a))
+          | inr (inl t) ↦ inl
+              (satisfies_push v front l (inr t))
+          | inr (inr a) ↦ inr a
+        ])
+      ]
+    ] refl
 gathered_holds v front (True ∷ ts) h = tt
 gathered_holds v front (False ∷ ts) (inl h) = gathered_holds v front ts (inl h)
 gathered_holds v front (False ∷ ts) (inr (inl h)) = cc
@@ -127,7 +137,8 @@ pub avoids_push : (x : ℕ) (front : List Literal) (l : Literal) → Avoids x fr
 avoids_push x [] l h ne = (ne, tt)
 avoids_push x (k ∷ front) l h ne = (h.0, avoids_push x front l h.1 ne)
 
-distinct_gathered : (front : List Literal) (l : Literal) → AreDistinct front → has front l ≡ false → has front (negate l) ≡ false → AreDistinct (front ++ l ∷ [])
+distinct_gathered : (front : List Literal) (l : Literal) → AreDistinct front → has front l ≡ false → has front (negate l) ≡ false →
+    AreDistinct (front ++ l ∷ [])
 distinct_gathered [] l d h n = (tt, tt)
 distinct_gathered (k ∷ front) l d h n = elim (eqb_tells k.var l.var) [
   | inl e ↦ absurd (either k.positive l.positive (has front l) (has front (negate l)) (rw e.0 at h) (rw e.0 at n))
@@ -151,37 +162,40 @@ within_append vars (l ∷ ls) ts h k = (h.0, within_append vars ls ts h.1 k)
 -- a clause that was gathered has distinct variables
 gathered_distinct : (front : List Literal) (ts : List LitOrTruth) (c : List Literal) → AreDistinct front → gathered front ts ≡ c ∷ [] → AreDistinct c
 gathered_distinct front [] c d e = let z : front ≡ c = cc in subst AreDistinct z d
-gathered_distinct front (OfLit l ∷ ts) c d e = elim (has front l) as (λ b. has front l ≡ b → cond b (gathered front ts) (cond (has front (negate l)) [] (gathered (front ++ l ∷ []) ts)) ≡ c ∷ [] → AreDistinct c) [
-  | true ↦ λ _ k. gathered_distinct front ts c d k
-  | false ↦ λ h k. elim (has front (negate l)) as (λ b. has front (negate l) ≡ b → cond b [] (gathered (front ++ l ∷ []) ts) ≡ c ∷ [] → AreDistinct c) [
-    | true ↦ λ _ m. cc
-    | false ↦ λ n m. gathered_distinct (front ++ l ∷ []) ts c (distinct_gathered front l d h n) m
-  ] refl k
-] refl e
+gathered_distinct front (OfLit l ∷ ts) c d e = elim (has front l) as (λ b. has front l ≡ b → cond b (gathered front ts)
+    (cond (has front (negate l)) [] (gathered (front ++ l ∷ []) ts)) ≡ c ∷ [] → AreDistinct c) [
+      | true ↦ λ _ k. gathered_distinct front ts c d k
+      | false ↦ λ h k. elim (has front (negate l)) as (λ b. has front (negate l) ≡ b → cond b [] (gathered (front ++ l ∷ []) ts) ≡ c ∷ [] → AreDistinct c) [
+        | true ↦ λ _ m. cc
+        | false ↦ λ n m. gathered_distinct (front ++ l ∷ []) ts c (distinct_gathered front l d h n) m
+      ] refl k
+    ] refl e
 gathered_distinct front (True ∷ ts) c d e = cc
 gathered_distinct front (False ∷ ts) c d e = gathered_distinct front ts c d e
 
 gathered_there : (vars : ℕ) (front : List Literal) (ts : List LitOrTruth) → AreThere vars front → AreWithin vars ts → AllThere vars (gathered front ts)
 gathered_there vars front [] h w = (h, tt)
-gathered_there vars front (OfLit l ∷ ts) h w = elim (has front l) as (λ b. AllThere vars (cond b (gathered front ts) (cond (has front (negate l)) [] (gathered (front ++ l ∷ []) ts)))) [
-  | true ↦ gathered_there vars front ts h w.1
-  | false ↦ elim (has front (negate l)) as (λ b. AllThere vars (cond b [] (gathered (front ++ l ∷ []) ts))) [
-    | true ↦ tt
-    | false ↦ gathered_there vars (front ++ l ∷ []) ts (there_push vars front l h w.0) w.1
-  ]
-]
+gathered_there vars front (OfLit l ∷ ts) h w = elim (has front l) as (λ b. AllThere vars
+    (cond b (gathered front ts) (cond (has front (negate l)) [] (gathered (front ++ l ∷ []) ts)))) [
+      | true ↦ gathered_there vars front ts h w.1
+      | false ↦ elim (has front (negate l)) as (λ b. AllThere vars (cond b [] (gathered (front ++ l ∷ []) ts))) [
+        | true ↦ tt
+        | false ↦ gathered_there vars (front ++ l ∷ []) ts (there_push vars front l h w.0) w.1
+      ]
+    ]
 gathered_there vars front (True ∷ ts) h w = tt
 gathered_there vars front (False ∷ ts) h w = gathered_there vars front ts h w.1
 
 gathered_words : (front : List Literal) (ts : List LitOrTruth) → words_of (gathered front ts) ≤ length front + length ts + 3
 gathered_words front [] = omega arith
-gathered_words front (OfLit l ∷ ts) = elim (has front l) as (λ b. words_of (cond b (gathered front ts) (cond (has front (negate l)) [] (gathered (front ++ l ∷ []) ts))) ≤ length front + length (OfLit l ∷ ts) + 3) [
-  | true ↦ omega (arith, gathered_words front ts)
-  | false ↦ elim (has front (negate l)) as (λ b. words_of (cond b [] (gathered (front ++ l ∷ []) ts)) ≤ length front + length (OfLit l ∷ ts) + 3) [
-    | true ↦ omega arith
-    | false ↦ omega (arith, gathered_words (front ++ l ∷ []) ts, length-append front (l ∷ []))
-  ]
-]
+gathered_words front (OfLit l ∷ ts) = elim (has front l) as (λ b. words_of (cond b (gathered front ts)
+    (cond (has front (negate l)) [] (gathered (front ++ l ∷ []) ts))) ≤ length front + length (OfLit l ∷ ts) + 3) [
+      | true ↦ omega (arith, gathered_words front ts)
+      | false ↦ elim (has front (negate l)) as (λ b. words_of (cond b [] (gathered (front ++ l ∷ []) ts)) ≤ length front + length (OfLit l ∷ ts) + 3) [
+        | true ↦ omega arith
+        | false ↦ omega (arith, gathered_words (front ++ l ∷ []) ts, length-append front (l ∷ []))
+      ]
+    ]
 gathered_words front (True ∷ ts) = omega arith
 gathered_words front (False ∷ ts) = omega (arith, gathered_words front ts)
 
@@ -199,7 +213,8 @@ pub clause_words : (unless : List Literal) (ts : List LitOrTruth) → words_of (
 clause_words unless ts = omega (arith, gathered_words [] (map OfLit unless ++ ts), length-given unless ts)
 
 -- the one clause that was gathered
-pub gathered_there_one : (vars : ℕ) (unless : List Literal) (ts : List LitOrTruth) (c : List Literal) → clause_of unless ts ≡ c ∷ [] → AreThere vars unless → AreWithin vars ts → AreThere vars c
+pub gathered_there_one : (vars : ℕ) (unless : List Literal) (ts : List LitOrTruth) (c : List Literal) → clause_of unless ts ≡ c ∷ [] → AreThere vars unless →
+    AreWithin vars ts → AreThere vars c
 gathered_there_one vars unless ts c e h w = let all = subst (λ (cs : Clauses). AllThere vars cs) e (clause_there vars unless ts h w) in all.0
 
 pub gathered_length : (unless : List Literal) (ts : List LitOrTruth) (c : List Literal) → clause_of unless ts ≡ c ∷ [] → length c ≤ length unless + length ts

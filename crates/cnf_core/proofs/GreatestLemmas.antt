@@ -47,5 +47,6 @@ greatest_among clauses more there =
     greatest_var_least clauses (greatest_var more) (All-weaker (Contains clauses) Low (λ c among.
     let d = there c among in
     greatest_in_least c (greatest_var more)
-    (All-weaker (Contains c) (λ l. l.var ≤ greatest_var more) (λ l inside. let a = below_greatest d.0 l ((d.2 l).0 inside) in let b = clause_below_greatest more d.0 d.1 in omega arith) c (All-contains_itself c)))
+    (All-weaker (Contains c) (λ l. l.var ≤ greatest_var more) (λ l inside. let a = below_greatest d.0 l ((d.2 l).0 inside) in let b = clause_below_greatest more
+    d.0 d.1 in omega arith) c (All-contains_itself c)))
     clauses (All-contains_itself clauses))

@@ -30,33 +30,40 @@ grows_more clauses old mid new a b = record {
     | inl front ↦
         let at : get_or mid i d ≡ get_or new i d = ap (λ (ls : List Literal). get_or ls i d) (sym b.front) ∙ get_or-take (length mid) new i d front in
         let before : take i mid ≡ take i new = ap (take i) (sym b.front) ∙ take-take i (length mid) new (omega arith) in
-        subst (λ (m : Literal). HasReason clauses (has (take i new)) m) at (subst (λ (ls : List Literal). HasReason clauses (has ls) (get_or mid i d)) before (a.reason i d from front))
+        subst (λ (m : Literal). HasReason clauses (has (take i new)) m) at (subst (λ (ls : List Literal). HasReason clauses (has ls) (get_or mid i d)) before
+        (a.reason i d from front))
     | inr behind ↦ b.reason i d behind below
   ];
 }
 
-pub grows_unit : (clauses : Clauses) (trail : List Literal) (c : List Literal) (l : Literal) → Contains clauses c → IsUnit (has trail) c l → Grows clauses trail (trail ++ l ∷ [])
+pub grows_unit : (clauses : Clauses) (trail : List Literal) (c : List Literal) (l : Literal) → Contains clauses c → IsUnit (has trail) c l →
+    Grows clauses trail (trail ++ l ∷ [])
 grows_unit clauses trail c l among unit = record {
   front = take_at trail (l ∷ []) (length trail) refl;
   longer = omega (arith, length-append trail (l ∷ []));
   keeps = push_keeps trail l;
   within = λ k h. elim (same_literal_or k l) [
-    | inl e ↦ subst (λ (m : Literal). Closure clauses (has trail) m) (sym e) (closure_unit clauses (has trail) c l among unit.among (All-weaker (λ m. (m ≡ l) ⊎ IsIn (has trail) (negate m)) (λ m. (m ≡ l) ⊎ Closure clauses (has trail) (negate m)) (λ m o. elim o [ inl s ↦ inl s | inr f ↦ inr (closure_start clauses (has trail) (negate m) f) ]) c unit.others))
+    | inl e ↦ subst (λ (m : Literal). Closure clauses (has trail) m) (sym e) (closure_unit clauses (has trail) c l among unit.among
+        (All-weaker (λ m. (m ≡ l) ⊎ IsIn (has trail) (negate m)) (λ m. (m ≡ l) ⊎ Closure clauses (has trail) (negate m))
+        (λ m o. elim o [ inl s ↦ inl s | inr f ↦ inr (closure_start clauses (has trail) (negate m) f) ]) c unit.others))
     | inr ne ↦ closure_start clauses (has trail) k (sym (has_front trail l k ne) ∙ h)
   ];
   reason = λ i d from below.
       let size = length-append trail (l ∷ []) in
       let is : length trail ≡ i = omega arith in
-      subst (λ (m : Literal). HasReason clauses (has (take i (trail ++ l ∷ []))) m) (sym (get_or_push trail l d i is)) (subst (λ (ls : List Literal). HasReason clauses (has ls) l) (sym (take_at trail (l ∷ []) i is)) (record { reason = c; among = among; unit = unit }));
+      subst (λ (m : Literal). HasReason clauses (has (take i (trail ++ l ∷ []))) m) (sym (get_or_push trail l d i is))
+      (subst (λ (ls : List Literal). HasReason clauses (has ls) l) (sym (take_at trail (l ∷ []) i is)) (record { reason = c; among = among; unit = unit }));
 }
 
 -- a literal of the new trail is an old one, or some clause makes it true by the others
-pub grows_reason : (clauses : Clauses) (old new : List Literal) → Grows clauses old new → (l : Literal) → IsIn (has new) l → IsIn (has old) l ⊎ HasReason clauses (has new) l
+pub grows_reason : (clauses : Clauses) (old new : List Literal) → Grows clauses old new → (l : Literal) → IsIn (has new) l →
+    IsIn (has old) l ⊎ HasReason clauses (has new) l
 grows_reason clauses old new g l h =
     let c = contains_from_has new l h in
     elim (cases_lt c.0 (length old)) [
       | inl front ↦
           let same : get_or old c.0 l ≡ l = ap (λ (ls : List Literal). get_or ls c.0 l) (sym g.front) ∙ get_or-take (length old) new c.0 l front ∙ c.2 in
           inl (has_from_contains old l (c.0, front, same))
-      | inr behind ↦ inr (reason_more clauses (has (take c.0 new)) (has new) l (front_includes new c.0) (subst (HasReason clauses (has (take c.0 new))) c.2 (g.reason c.0 l behind c.1)))
+      | inr behind ↦ inr (reason_more clauses (has (take c.0 new)) (has new) l (front_includes new c.0)
+          (subst (HasReason clauses (has (take c.0 new))) c.2 (g.reason c.0 l behind c.1)))
     ]

@@ -1,12 +1,15 @@
 -- What follows by unit propagation.
-use Rattle.std.proofs.Common.{◌≡◌, ℕ, ◌<◌, ◌≤◌, ◌⊎◌, Bool, true, false, not, cond, zero, suc, List, [], ◌∷◌, ◌++◌, length, get_or, refl, sym, ◌∙◌, ap, subst, inl, inr, arith}
+use Rattle.std.proofs.Common.{◌≡◌, ℕ, ◌<◌, ◌≤◌, ◌⊎◌, Bool, true, false, not, cond, zero, suc, List, [], ◌∷◌, ◌++◌, length, get_or, refl, sym, ◌∙◌, ap, subst}
+use Rattle.std.proofs.Common.{inl, inr, arith}
 use Rattle.std.specs.Prelude.{All, Contains}
 use Rattle.std.proofs.lemmas.Bool.Decides.{eqb_tells}
-use Rattle.std.proofs.lemmas.List.Elements.{All-contains, All-weaker, All-nil, All-cons, All-head, All-tail, All-contains_itself, Contains-get_or, Contains-append_left, Contains-append_right, Contains-append_cases}
+use Rattle.std.proofs.lemmas.List.Elements.{All-contains, All-weaker, All-nil, All-cons, All-head, All-tail, All-contains_itself, Contains-get_or}
+use Rattle.std.proofs.lemmas.List.Elements.{Contains-append_left, Contains-append_right, Contains-append_cases}
 use Rattle.cnf_core.specs.Lit.{Literal, literal, negate, same_sign, same_literal, has}
 use Rattle.cnf_core.specs.Clause.{Clauses}
 use Rattle.cnf_core.specs.Assignment.{Assignment, truth, Satisfies, SatisfiesAll}
-use Rattle.cnf_core.specs.Propagation.{LiteralSet, IsIn, nothing, Includes, IsUnit, HasReason, Falsified, IsClosed, Closure, IsClosure, units, Falsifies, negations, Rup, IsNew, greatest_var, SameLiterals, AreAmong, IsWitness}
+use Rattle.cnf_core.specs.Propagation.{LiteralSet, IsIn, nothing, Includes, IsUnit, HasReason, Falsified, IsClosed, Closure, IsClosure, units, Falsifies}
+use Rattle.cnf_core.specs.Propagation.{negations, Rup, IsNew, greatest_var, SameLiterals, AreAmong, IsWitness}
 use Rattle.cnf_core.proofs.GatherLemmas.{not_not, truth-negate, signs_same}
 use Rattle.cnf_core.proofs.QuantifierLemmas.{some_from_satisfies}
 use Rattle.cnf_core.proofs.GreatestLemmas.{greatest_among}
@@ -59,24 +62,30 @@ has_from_contains ls l h = has_at ls l h.0 h.1 h.2
 pub closure_start : (clauses : Clauses) (start : LiteralSet) (l : Literal) → IsIn start l → Closure clauses start l
 closure_start clauses start l h = λ set closed includes. includes l h
 
-pub closure_unit : (clauses : Clauses) (start : LiteralSet) (clause : List Literal) (l : Literal) → Contains clauses clause → Contains clause l → All (λ k. (k ≡ l) ⊎ Closure clauses start (negate k)) clause → Closure clauses start l
+pub closure_unit : (clauses : Clauses) (start : LiteralSet) (clause : List Literal) (l : Literal) → Contains clauses clause → Contains clause l →
+    All (λ k. (k ≡ l) ⊎ Closure clauses start (negate k)) clause → Closure clauses start l
 closure_unit clauses start clause l among in_clause others = λ set closed includes. closed clause among l (record {
   among = in_clause;
-  others = All-weaker (λ k. (k ≡ l) ⊎ Closure clauses start (negate k)) (λ k. (k ≡ l) ⊎ IsIn set (negate k)) (λ k h. elim h [ inl e ↦ inl e | inr c ↦ inr (c set closed includes) ]) clause others;
+  others = All-weaker (λ k. (k ≡ l) ⊎ Closure clauses start (negate k)) (λ k. (k ≡ l) ⊎ IsIn set (negate k))
+      (λ k h. elim h [ inl e ↦ inl e | inr c ↦ inr (c set closed includes) ]) clause others;
 })
 
-pub closure_least : (clauses : Clauses) (start set : LiteralSet) (l : Literal) → IsClosed clauses set → Includes set start → Closure clauses start l → IsIn set l
+pub closure_least : (clauses : Clauses) (start set : LiteralSet) (l : Literal) → IsClosed clauses set → Includes set start → Closure clauses start l →
+    IsIn set l
 closure_least clauses start set l closed includes h = h set closed includes
 
 -- what follows of what follows, follows
-pub closure_again : (clauses : Clauses) (start more : LiteralSet) (l : Literal) → ((k : Literal) → IsIn more k → Closure clauses start k) → Closure clauses more l → Closure clauses start l
+pub closure_again : (clauses : Clauses) (start more : LiteralSet) (l : Literal) → ((k : Literal) → IsIn more k → Closure clauses start k) →
+    Closure clauses more l → Closure clauses start l
 closure_again clauses start more l f h = λ set closed includes. h set closed (λ k m. f k m set closed includes)
 
-pub falsifies_again : (clauses : Clauses) (start more : LiteralSet) → ((k : Literal) → IsIn more k → Closure clauses start k) → Falsifies clauses more → Falsifies clauses start
+pub falsifies_again : (clauses : Clauses) (start more : LiteralSet) → ((k : Literal) → IsIn more k → Closure clauses start k) → Falsifies clauses more →
+    Falsifies clauses start
 falsifies_again clauses start more f h = record {
   clause = h.clause;
   among = h.among;
-  each = All-weaker (λ k. Closure clauses more (negate k)) (λ k. Closure clauses start (negate k)) (λ k c. closure_again clauses start more (negate k) f c) h.clause h.each;
+  each = All-weaker (λ k. Closure clauses more (negate k)) (λ k. Closure clauses start (negate k)) (λ k c. closure_again clauses start more (negate k) f c)
+      h.clause h.each;
 }
 
 -- what follows of nothing follows of anything
@@ -87,20 +96,24 @@ closure_any clauses start l h = closure_again clauses start nothing l (λ k m. c
 pub unit_more : (set more : LiteralSet) (c : List Literal) (l : Literal) → Includes more set → IsUnit set c l → IsUnit more c l
 unit_more set more c l within unit = record {
   among = unit.among;
-  others = All-weaker (λ k. (k ≡ l) ⊎ IsIn set (negate k)) (λ k. (k ≡ l) ⊎ IsIn more (negate k)) (λ k h. elim h [ inl e ↦ inl e | inr f ↦ inr (within (negate k) f) ]) c unit.others;
+  others = All-weaker (λ k. (k ≡ l) ⊎ IsIn set (negate k)) (λ k. (k ≡ l) ⊎ IsIn more (negate k))
+      (λ k h. elim h [ inl e ↦ inl e | inr f ↦ inr (within (negate k) f) ]) c unit.others;
 }
 
 pub reason_more : (clauses : Clauses) (set more : LiteralSet) (l : Literal) → Includes more set → HasReason clauses set l → HasReason clauses more l
 reason_more clauses set more l within r = record { reason = r.reason; among = r.among; unit = unit_more set more r.reason l within r.unit }
 
 -- a set within the closure of start: its reasons and what it falsifies
-pub reason_follows : (clauses : Clauses) (start set : LiteralSet) (l : Literal) → ((k : Literal) → IsIn set k → Closure clauses start k) → HasReason clauses set l → Closure clauses start l
+pub reason_follows : (clauses : Clauses) (start set : LiteralSet) (l : Literal) → ((k : Literal) → IsIn set k → Closure clauses start k) →
+    HasReason clauses set l → Closure clauses start l
 reason_follows clauses start set l within r =
     let unit = r.unit in
     closure_unit clauses start r.reason l r.among unit.among
-    (All-weaker (λ k. (k ≡ l) ⊎ IsIn set (negate k)) (λ k. (k ≡ l) ⊎ Closure clauses start (negate k)) (λ k h. elim h [ inl e ↦ inl e | inr f ↦ inr (within (negate k) f) ]) r.reason unit.others)
+    (All-weaker (λ k. (k ≡ l) ⊎ IsIn set (negate k)) (λ k. (k ≡ l) ⊎ Closure clauses start (negate k))
+    (λ k h. elim h [ inl e ↦ inl e | inr f ↦ inr (within (negate k) f) ]) r.reason unit.others)
 
-pub falsified_within : (clauses : Clauses) (start set : LiteralSet) → ((l : Literal) → IsIn set l → Closure clauses start l) → Falsified clauses set → Falsifies clauses start
+pub falsified_within : (clauses : Clauses) (start set : LiteralSet) → ((l : Literal) → IsIn set l → Closure clauses start l) → Falsified clauses set →
+    Falsifies clauses start
 falsified_within clauses start set within f = record {
   clause = f.clause;
   among = f.among;
@@ -140,7 +153,8 @@ falsifies_more clauses more start there h =
       clause = d.0;
       among = d.1;
       each = all_same (λ k. Closure more start (negate k)) h.clause d.0 d.2
-          (All-weaker (λ k. Closure clauses start (negate k)) (λ k. Closure more start (negate k)) (λ k c. closure_more clauses more start (negate k) there c) h.clause h.each);
+          (All-weaker (λ k. Closure clauses start (negate k)) (λ k. Closure more start (negate k)) (λ k c. closure_more clauses more start (negate k) there c)
+          h.clause h.each);
     }
 
 pub rup_more : (clauses more : Clauses) (clause : List Literal) → AreAmong clauses more → Rup clauses clause → Rup more clause
@@ -165,15 +179,18 @@ rup_same clauses c d same h = falsifies_start clauses (negations c) (negations d
 pub same_back : (c d : List Literal) → SameLiterals c d → SameLiterals d c
 same_back c d same = λ l. ((same l).1, (same l).0)
 
-pub new_same : (clauses more : Clauses) (first : Literal) (others again : List Literal) → AreAmong clauses more → AreAmong more clauses → SameLiterals others again → IsNew clauses first others → IsNew more first again
+pub new_same : (clauses more : Clauses) (first : Literal) (others again : List Literal) → AreAmong clauses more → AreAmong more clauses →
+    SameLiterals others again → IsNew clauses first others → IsNew more first again
 new_same clauses more first others again there back same new =
     let Named : Literal → Type 0 = λ l. l.var ≤ greatest_var more in
     let rise = greatest_among clauses more there in
     let named : All Named (first ∷ others) = All-weaker (λ l. l.var ≤ greatest_var clauses) Named (λ l h. omega arith) (first ∷ others) new.named in
     record {
       named = All-cons Named first again (All-head Named first others named) (all_same Named others again same (All-tail Named first others named));
-      unfalsified = λ f. new.unfalsified (falsifies_more more clauses (negations others) back (falsifies_start more (negations again) (negations others) (negations_same again others (same_back others again same)) f));
-      unknown = λ h. new.unknown (closure_more more clauses (negations others) first back (closure_more_start more (negations again) (negations others) first (negations_same again others (same_back others again same)) h));
+      unfalsified = λ f. new.unfalsified (falsifies_more more clauses (negations others) back
+          (falsifies_start more (negations again) (negations others) (negations_same again others (same_back others again same)) f));
+      unknown = λ h. new.unknown (closure_more more clauses (negations others) first back
+          (closure_more_start more (negations again) (negations others) first (negations_same again others (same_back others again same)) h));
     }
 
 pub among_left : (xs ys : Clauses) → AreAmong xs (xs ++ ys)
@@ -222,12 +239,14 @@ rup_sound v clauses clause rup h = elim (satisfies_or_false v clause) [
       let f = All-contains (λ k. truth v k ≡ false) clause (negate l) all (contains_from_has clause (negate l) m) in
       sym (not_not (truth v l)) ∙ ap not (sym (truth-negate v l) ∙ f) in
       let some = some_from_satisfies v rup.clause (satisfies_one v clauses rup.clause h rup.among) in
-      let f = All-contains (λ k. Closure clauses (negations clause) (negate k)) rup.clause some.1 rup.each (some.0, some.2, some.3) (truth v) (closed_by_model v clauses h) includes in
+      let f = All-contains (λ k. Closure clauses (negations clause) (negate k)) rup.clause some.1 rup.each (some.0, some.2, some.3) (truth v)
+      (closed_by_model v clauses h) includes in
       absurd (true_and_false v some.1 some.4 f)
 ]
 
 -- a clause is new where a closed set shows it
-pub new_by_witness : (clauses : Clauses) (first : Literal) (others : List Literal) (set : LiteralSet) → IsWitness clauses first others set → (Falsifies clauses (negations others) → ⊥) × (Closure clauses (negations others) first → ⊥)
+pub new_by_witness : (clauses : Clauses) (first : Literal) (others : List Literal) (set : LiteralSet) → IsWitness clauses first others set →
+    (Falsifies clauses (negations others) → ⊥) × (Closure clauses (negations others) first → ⊥)
 new_by_witness clauses first others set w = (
   λ f. w.unfalsified (record {
     clause = f.clause;
@@ -238,7 +257,8 @@ new_by_witness clauses first others set w = (
 )
 
 -- no clause has only literals of a new one
-pub new_includes_none : (clauses : Clauses) (first : Literal) (others : List Literal) → IsNew clauses first others → (d : List Literal) → Contains clauses d → ((l : Literal) → Contains d l → (l ≡ first) ⊎ Contains others l) → ⊥
+pub new_includes_none : (clauses : Clauses) (first : Literal) (others : List Literal) → IsNew clauses first others → (d : List Literal) → Contains clauses d →
+    ((l : Literal) → Contains d l → (l ≡ first) ⊎ Contains others l) → ⊥
 new_includes_none clauses first others new d among within =
     elim (has d first) as (λ b. has d first ≡ b → ⊥) [
       | true ↦ λ t. new.unknown (closure_unit clauses (negations others) d first among (contains_from_has d first t) (λ k e lt.
@@ -266,7 +286,8 @@ pub record IsForced (clauses : Clauses) (l : Literal) : Type 0 where
 -- clauses of one literal that follow from the others add nothing
 pub forced_follows : (clauses : Clauses) (start : LiteralSet) (l : Literal) → IsForced clauses l → Closure clauses start l
 forced_follows clauses start l f = closure_unit clauses start f.clause l f.among f.inside
-    (All-weaker (λ k. (k ≡ l) ⊎ Closure clauses nothing (negate k)) (λ k. (k ≡ l) ⊎ Closure clauses start (negate k)) (λ k h. elim h [ inl e ↦ inl e | inr c ↦ inr (closure_any clauses start (negate k) c) ]) f.clause f.others)
+    (All-weaker (λ k. (k ≡ l) ⊎ Closure clauses nothing (negate k)) (λ k. (k ≡ l) ⊎ Closure clauses start (negate k))
+    (λ k h. elim h [ inl e ↦ inl e | inr c ↦ inr (closure_any clauses start (negate k) c) ]) f.clause f.others)
 
 pub record IsUnitClause (ls c : List Literal) : Type 0 where
   pub lit : Literal
@@ -288,7 +309,8 @@ only_one k l h = at_place h.0 h.1 h.2
     at_place zero lt e = e
     at_place (suc i) lt e = absurd (omega arith)
 
-pub closure_without : (clauses : Clauses) (ls : List Literal) (start : LiteralSet) (l : Literal) → All (IsForced clauses) ls → Closure (clauses ++ units ls) start l → Closure clauses start l
+pub closure_without : (clauses : Clauses) (ls : List Literal) (start : LiteralSet) (l : Literal) → All (IsForced clauses) ls →
+    Closure (clauses ++ units ls) start l → Closure clauses start l
 closure_without clauses ls start l forced h = λ set closed includes. h set (λ c among m unit. elim (Contains-append_cases clauses (units ls) c among) [
   | inl old ↦ closed c old m unit
   | inr r ↦
@@ -297,17 +319,20 @@ closure_without clauses ls start l forced h = λ set closed includes. h set (λ 
       subst (IsIn set) is (forced_follows clauses start u.lit (All-contains (IsForced clauses) ls u.lit forced u.among) set closed includes)
 ]) includes
 
-pub falsifies_without : (clauses : Clauses) (ls : List Literal) (start : LiteralSet) → All (IsForced clauses) ls → Falsifies (clauses ++ units ls) start → Falsifies clauses start
+pub falsifies_without : (clauses : Clauses) (ls : List Literal) (start : LiteralSet) → All (IsForced clauses) ls → Falsifies (clauses ++ units ls) start →
+    Falsifies clauses start
 falsifies_without clauses ls start forced f = elim (Contains-append_cases clauses (units ls) f.clause f.among) [
   | inl old ↦ record {
     clause = f.clause;
     among = old;
-    each = All-weaker (λ k. Closure (clauses ++ units ls) start (negate k)) (λ k. Closure clauses start (negate k)) (λ k h. closure_without clauses ls start (negate k) forced h) f.clause f.each;
+    each = All-weaker (λ k. Closure (clauses ++ units ls) start (negate k)) (λ k. Closure clauses start (negate k))
+        (λ k h. closure_without clauses ls start (negate k) forced h) f.clause f.each;
   }
   | inr r ↦
       let u = from_units ls f.clause r in
       let reason = All-contains (IsForced clauses) ls u.lit forced u.among in
-      let off : Closure (clauses ++ units ls) start (negate u.lit) = All-contains (λ k. Closure (clauses ++ units ls) start (negate k)) f.clause u.lit f.each (subst (λ (d : List Literal). Contains d u.lit) u.is (contains_first u.lit [])) in
+      let off : Closure (clauses ++ units ls) start (negate u.lit) = All-contains (λ k. Closure (clauses ++ units ls) start (negate k)) f.clause u.lit f.each
+      (subst (λ (d : List Literal). Contains d u.lit) u.is (contains_first u.lit [])) in
       record {
         clause = reason.clause;
         among = reason.among;

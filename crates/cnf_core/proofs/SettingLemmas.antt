@@ -18,20 +18,25 @@ same_both first m n u v w a b = record {
 }
 
 -- clauses of the variables before the block say the same
-pub satisfies_before : (first count vars : ℕ) (v w : Assignment) (cs : Clauses) → vars < first → AllThere vars cs → SameOutside first count v w → SatisfiesAll v cs → SatisfiesAll w cs
+pub satisfies_before : (first count vars : ℕ) (v w : Assignment) (cs : Clauses) → vars < first → AllThere vars cs → SameOutside first count v w →
+    SatisfiesAll v cs → SatisfiesAll w cs
 satisfies_before first count vars v w cs before there s h = satisfies_all_same v w vars cs there (λ x le. s.below x (omega arith)) h
 
 -- one block after another
-pub extends_both : (first m n : ℕ) (v : Assignment) (P Q : Assignment → Type 0) → Extends first m v P → ((w : Assignment) → SameOutside first m v w → P w → Extends (first + m) n w Q) → Extends first (m + n) v Q
+pub extends_both : (first m n : ℕ) (v : Assignment) (P Q : Assignment → Type 0) → Extends first m v P →
+    ((w : Assignment) → SameOutside first m v w → P w → Extends (first + m) n w Q) → Extends first (m + n) v Q
 extends_both first m n v P Q a f =
     let b : Extends (first + m) n a.to Q = f a.to a.same a.holds in
     record { to = b.to; same = same_both first m n v a.to b.to a.same b.same; holds = b.holds }
 
-pub extends_weaker : (first n : ℕ) (v : Assignment) (P Q : Assignment → Type 0) → ((w : Assignment) → SameOutside first n v w → P w → Q w) → Extends first n v P → Extends first n v Q
+pub extends_weaker : (first n : ℕ) (v : Assignment) (P Q : Assignment → Type 0) → ((w : Assignment) → SameOutside first n v w → P w → Q w) →
+    Extends first n v P → Extends first n v Q
 extends_weaker first n v P Q f a = record { to = a.to; same = a.same; holds = f a.to a.same a.holds }
 
 -- clauses behind clauses: what the first say stays, since they speak of variables before the second block
-pub extends_clauses : (first m n vars : ℕ) (v : Assignment) (xs ys : Clauses) → vars < first + m → AllThere vars xs → Extends first m v (λ w. SatisfiesAll w xs) → ((w : Assignment) → SameOutside first m v w → SatisfiesAll w xs → Extends (first + m) n w (λ u. SatisfiesAll u ys)) → Extends first (m + n) v (λ u. SatisfiesAll u (xs ++ ys))
+pub extends_clauses : (first m n vars : ℕ) (v : Assignment) (xs ys : Clauses) → vars < first + m → AllThere vars xs →
+    Extends first m v (λ w. SatisfiesAll w xs) → ((w : Assignment) → SameOutside first m v w → SatisfiesAll w xs → Extends (first + m) n w
+    (λ u. SatisfiesAll u ys)) → Extends first (m + n) v (λ u. SatisfiesAll u (xs ++ ys))
 extends_clauses first m n vars v xs ys before there a f = extends_both first m n v (λ w. SatisfiesAll w xs) (λ u. SatisfiesAll u (xs ++ ys)) a
     (λ w same h. extends_weaker (first + m) n w (λ u. SatisfiesAll u ys) (λ u. SatisfiesAll u (xs ++ ys))
     (λ u later k. satisfies_append u xs ys (satisfies_before (first + m) n vars w u xs before there later h) k) (f w same h))

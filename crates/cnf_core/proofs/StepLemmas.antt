@@ -21,7 +21,8 @@ passes_more f xs ys h = omega (arith, words_append f.clauses xs, words_append f.
 
 pub passes_after : (old mid : Cnf) (xs ys : Clauses) → mid.room ≡ old.room → mid.clauses ≡ old.clauses ++ xs → Passes mid ys → Passes old (xs ++ ys)
 passes_after old mid xs ys r e p =
-    let s : words_of (mid.clauses ++ ys) ≡ words_of (old.clauses ++ (xs ++ ys)) = ap (λ (z : Clauses). words_of (z ++ ys)) e ∙ ap words_of (append_assoc old.clauses xs ys) in
+    let s : words_of (mid.clauses ++ ys) ≡ words_of (old.clauses ++ (xs ++ ys)) = ap (λ (z : Clauses). words_of (z ++ ys)) e
+    ∙ ap words_of (append_assoc old.clauses xs ys) in
     omega arith
 
 -- nothing to add
@@ -36,7 +37,8 @@ adds_nothing x f longest = record {
 }
 
 -- the same answer, handed on with another value or as the same error
-pub adds_same : {T U : Type 0} (r : Result T CnfFault) (y : U) (old new : Cnf) (xs : Clauses) (longest : ℕ) (x : T) → r ≡ Ok x → AddsClauses r old new xs longest → AddsClauses (Ok y) old new xs longest
+pub adds_same : {T U : Type 0} (r : Result T CnfFault) (y : U) (old new : Cnf) (xs : Clauses) (longest : ℕ) (x : T) → r ≡ Ok x →
+    AddsClauses r old new xs longest → AddsClauses (Ok y) old new xs longest
 adds_same r y old new xs longest x e a = let b = subst (λ s. AddsClauses s old new xs longest) e a in record {
   added = b.added;
   passes = λ k. cc;
@@ -46,7 +48,8 @@ adds_same r y old new xs longest x e a = let b = subst (λ s. AddsClauses s old 
   room = b.room;
 }
 
-pub adds_fault : {T U : Type 0} (r : Result T CnfFault) (s : Result U CnfFault) (old new : Cnf) (xs : Clauses) (longest : ℕ) → IsErr s → (IsErrOf s Room → IsErrOf r Room) → AddsClauses r old new xs longest → AddsClauses s old new xs longest
+pub adds_fault : {T U : Type 0} (r : Result T CnfFault) (s : Result U CnfFault) (old new : Cnf) (xs : Clauses) (longest : ℕ) → IsErr s →
+    (IsErrOf s Room → IsErrOf r Room) → AddsClauses r old new xs longest → AddsClauses s old new xs longest
 adds_fault r (Ok y) old new xs longest err same a = absurd (cc)
 adds_fault r (Err e) old new xs longest err same a = record {
   added = tt;
@@ -57,7 +60,8 @@ adds_fault r (Err e) old new xs longest err same a = record {
   room = a.room;
 }
 
-pub adds_longer : {T : Type 0} (r : Result T CnfFault) (old new : Cnf) (xs : Clauses) (shorter longest : ℕ) → shorter ≤ longest → AddsClauses r old new xs shorter → AddsClauses r old new xs longest
+pub adds_longer : {T : Type 0} (r : Result T CnfFault) (old new : Cnf) (xs : Clauses) (shorter longest : ℕ) → shorter ≤ longest →
+    AddsClauses r old new xs shorter → AddsClauses r old new xs longest
 adds_longer r old new xs shorter longest le a = record {
   added = a.added;
   passes = a.passes;
@@ -68,7 +72,8 @@ adds_longer r old new xs shorter longest le a = record {
 }
 
 -- one clause, as it is added exactly
-pub added_one : {T : Type 0} (r : Result T CnfFault) (old new : Cnf) (c : List Literal) → OnOk r (new ≡ record old { clauses = old.clauses ++ c ∷ [] }) → (IsErrOf r Room → Full old (length c)) → OnErr r (new ≡ old) → AddsClauses r old new (c ∷ []) (length c)
+pub added_one : {T : Type 0} (r : Result T CnfFault) (old new : Cnf) (c : List Literal) → OnOk r (new ≡ record old { clauses = old.clauses ++ c ∷ [] }) →
+    (IsErrOf r Room → Full old (length c)) → OnErr r (new ≡ old) → AddsClauses r old new (c ∷ []) (length c)
 added_one (Ok x) old new c ok room err =
     let e = ap (λ (f : Cnf). f.clauses) ok in
     record {
@@ -89,7 +94,8 @@ added_one (Err e) old new c ok room err = record {
 }
 
 -- the first of two calls was refused, and so the whole is
-pub adds_refused : {T U : Type 0} (r : Result T CnfFault) (s : Result U CnfFault) (old new : Cnf) (xs ys : Clauses) (longest : ℕ) → IsErr s → (IsErrOf s Room → IsErrOf r Room) → AddsClauses r old new xs longest → AddsClauses s old new (xs ++ ys) longest
+pub adds_refused : {T U : Type 0} (r : Result T CnfFault) (s : Result U CnfFault) (old new : Cnf) (xs ys : Clauses) (longest : ℕ) → IsErr s →
+    (IsErrOf s Room → IsErrOf r Room) → AddsClauses r old new xs longest → AddsClauses s old new (xs ++ ys) longest
 adds_refused r (Ok y) old new xs ys longest err same a = absurd (cc)
 adds_refused r (Err e) old new xs ys longest err same a = record {
   added = tt;
@@ -101,7 +107,8 @@ adds_refused r (Err e) old new xs ys longest err same a = record {
 }
 
 -- the second call behind the first
-pub adds_after : {T U : Type 0} (x : T) (r : Result U CnfFault) (old mid new : Cnf) (xs ys : Clauses) (longest : ℕ) → AddsClauses (Ok x) old mid xs longest → AddsClauses r mid new ys longest → AddsClauses r old new (xs ++ ys) longest
+pub adds_after : {T U : Type 0} (x : T) (r : Result U CnfFault) (old mid new : Cnf) (xs ys : Clauses) (longest : ℕ) → AddsClauses (Ok x) old mid xs longest →
+    AddsClauses r mid new ys longest → AddsClauses r old new (xs ++ ys) longest
 adds_after x (Ok y) old mid new xs ys longest a b = record {
   added = b.added ∙ ap (λ (z : Clauses). z ++ ys) a.added ∙ append_assoc old.clauses xs ys;
   passes = λ k. cc;
@@ -135,14 +142,17 @@ adding_first f old first n = let z : first + n - first ≡ n = omega arith in re
 pub one_less : (k end : ℕ) → k < end → end - k ≡ suc (end - (k + 1))
 one_less k end h = omega arith
 
-pub adding_more : {T : Type 0} (x : T) (f : ℕ → Clauses) (old now new : Cnf) (total : Clauses) (k end longest : ℕ) → k < end → IsAdding f old now total k end → AddsClauses (Ok x) now new (f k) longest → IsAdding f old new total (k + 1) end
+pub adding_more : {T : Type 0} (x : T) (f : ℕ → Clauses) (old now new : Cnf) (total : Clauses) (k end longest : ℕ) → k < end → IsAdding f old now total k end →
+    AddsClauses (Ok x) now new (f k) longest → IsAdding f old new total (k + 1) end
 adding_more x f old now new total k end longest h a b = record {
-  left = ap (λ (z : Clauses). z ++ each f (k + 1) (end - (k + 1))) b.added ∙ append_assoc now.clauses (f k) (each f (k + 1) (end - (k + 1))) ∙ (rw (one_less k end h) at a.left);
+  left = ap (λ (z : Clauses). z ++ each f (k + 1) (end - (k + 1))) b.added ∙ append_assoc now.clauses (f k) (each f (k + 1) (end - (k + 1)))
+      ∙ (rw (one_less k end h) at a.left);
   vars = b.vars ∙ a.vars;
   room = b.room ∙ a.room;
 }
 
-pub adding_done : {T : Type 0} (x : T) (f : ℕ → Clauses) (old now : Cnf) (total : Clauses) (k end longest : ℕ) → end ≤ k → IsAdding f old now total k end → AddsClauses (Ok x) old now total longest
+pub adding_done : {T : Type 0} (x : T) (f : ℕ → Clauses) (old now : Cnf) (total : Clauses) (k end longest : ℕ) → end ≤ k → IsAdding f old now total k end →
+    AddsClauses (Ok x) old now total longest
 adding_done x f old now total k end longest h a =
     let z : end - k ≡ 0 = omega arith in
     let e : now.clauses ≡ old.clauses ++ total = sym (append-nil now.clauses) ∙ (rw z at a.left) in
@@ -155,7 +165,9 @@ adding_done x f old now total k end longest h a =
       room = a.room;
     }
 
-pub adding_refused : {T U : Type 0} (r : Result T CnfFault) (s : Result U CnfFault) (f : ℕ → Clauses) (old now new : Cnf) (total : Clauses) (k end longest : ℕ) → IsErr s → (IsErrOf s Room → IsErrOf r Room) → k < end → IsAdding f old now total k end → AddsClauses r now new (f k) longest → AddsClauses s old new total longest
+pub adding_refused : {T U : Type 0} (r : Result T CnfFault) (s : Result U CnfFault) (f : ℕ → Clauses) (old now new : Cnf) (total : Clauses) (k end longest : ℕ)
+    → IsErr s → (IsErrOf s Room → IsErrOf r Room) → k < end → IsAdding f old now total k end → AddsClauses r now new (f k) longest →
+    AddsClauses s old new total longest
 adding_refused r (Ok y) f old now new total k end longest err same h a b = absurd (cc)
 adding_refused r (Err g) f old now new total k end longest err same h a b =
     let rest = each f (k + 1) (end - (k + 1)) in

@@ -1,5 +1,6 @@
 -- Lists of literals of distinct variables: clauses whose variables rise, and trails.
-use Rattle.std.proofs.Common.{◌≡◌, ◌≢◌, ℕ, ◌+◌, ◌*◌, ◌<◌, ◌≤◌, ◌⊎◌, Bool, true, false, not, cond, zero, suc, List, [], ◌∷◌, ◌++◌, length, take, drop, get_or, refl, sym, ◌∙◌, ap, subst, inl, inr, arith, length-take-le}
+use Rattle.std.proofs.Common.{◌≡◌, ◌≢◌, ℕ, ◌+◌, ◌*◌, ◌<◌, ◌≤◌, ◌⊎◌, Bool, true, false, not, cond, zero, suc, List, [], ◌∷◌, ◌++◌, length, take, drop, get_or}
+use Rattle.std.proofs.Common.{refl, sym, ◌∙◌, ap, subst, inl, inr, arith, length-take-le}
 use Rattle.std.specs.Prelude.{All, Contains}
 use Rattle.std.proofs.lemmas.Bool.{false_from_ne_true}
 use Rattle.std.proofs.lemmas.Bool.Decides.{eqb_tells}
@@ -107,7 +108,11 @@ rising_there low high vars (l ∷ ls) le h = ((omega (arith, h.0), omega (arith,
 -- lists of literals of distinct variables
 pub distinct_push : (ls : List Literal) (l : Literal) → AreDistinct ls → ((k : Literal) → Contains ls k → k.var ≢ l.var) → AreDistinct (ls ++ l ∷ [])
 distinct_push [] l h other = (tt, tt)
-distinct_push (k ∷ ls) l h other = (avoids_push k.var ls l h.0 (other k (contains_first k ls)), distinct_push ls l h.1 (λ m among. other m (contains_later k m ls among)))
+distinct_push (k ∷ ls) l h other = (
+  avoids_push k.var ls l h.0 (other k (contains_first k ls)),
+  distinct_push ls l h.1
+      (λ m among. other m (contains_later k m ls among)),
+)
 
 avoids_front : (x : ℕ) (ls : List Literal) (l : Literal) → Avoids x (ls ++ l ∷ []) → Avoids x ls
 avoids_front x [] l h = tt
@@ -122,8 +127,10 @@ pub same_place : (ls : List Literal) (k l : Literal) → AreDistinct ls → Cont
 same_place ls k l distinct a b e = elim (eqb_tells a.0 b.0) [
   | inl same ↦ sym a.2 ∙ get_or_default ls a.0 k l a.1 ∙ ap (λ i. get_or ls i l) same.1 ∙ b.2
   | inr other ↦ elim (order a.0 b.0 other.1) [
-    | inl lt ↦ absurd (pairs_from_distinct ls distinct a.0 b.0 k lt b.1 (ap (λ (m : Literal). m.var) a.2 ∙ e ∙ sym (ap (λ (m : Literal). m.var) (get_or_default ls b.0 k l b.1 ∙ b.2))))
-    | inr lt ↦ absurd (pairs_from_distinct ls distinct b.0 a.0 l lt a.1 (ap (λ (m : Literal). m.var) b.2 ∙ sym e ∙ sym (ap (λ (m : Literal). m.var) (get_or_default ls a.0 l k a.1 ∙ a.2))))
+    | inl lt ↦ absurd (pairs_from_distinct ls distinct a.0 b.0 k lt b.1 (ap (λ (m : Literal). m.var) a.2 ∙ e
+        ∙ sym (ap (λ (m : Literal). m.var) (get_or_default ls b.0 k l b.1 ∙ b.2))))
+    | inr lt ↦ absurd (pairs_from_distinct ls distinct b.0 a.0 l lt a.1 (ap (λ (m : Literal). m.var) b.2 ∙ sym e
+        ∙ sym (ap (λ (m : Literal). m.var) (get_or_default ls a.0 l k a.1 ∙ a.2))))
   ]
 ]
   where
@@ -132,7 +139,8 @@ same_place ls k l distinct a b e = elim (eqb_tells a.0 b.0) [
 
 -- such a list has no literal beside its negation
 pub distinct_consistent : (ls : List Literal) → AreDistinct ls → IsConsistent (has ls)
-distinct_consistent ls distinct = λ l h k. negate_differs l (same_place ls l (negate l) distinct (contains_from_has ls l h) (contains_from_has ls (negate l) k) refl)
+distinct_consistent ls distinct = λ l h k. negate_differs l (same_place ls l (negate l) distinct (contains_from_has ls l h) (contains_from_has ls (negate l) k)
+    refl)
 
 -- where the variables lie
 pub there_front : (vars : ℕ) (ls : List Literal) (l : Literal) → AreThere vars (ls ++ l ∷ []) → AreThere vars ls
@@ -153,7 +161,8 @@ there_all vars c h = λ i d within. there_get vars c i d within h
 
 -- fronts: a literal of a front isn't the next one
 pub front_includes : (trail : List Literal) (n : ℕ) → Includes (has trail) (has (take n trail))
-front_includes trail n = λ l h. has_from_contains trail l (subst (λ (ls : List Literal). Contains ls l) (take-append-drop n trail) (Contains-append_left (take n trail) (drop n trail) l (contains_from_has (take n trail) l h)))
+front_includes trail n = λ l h. has_from_contains trail l (subst (λ (ls : List Literal). Contains ls l) (take-append-drop n trail)
+    (Contains-append_left (take n trail) (drop n trail) l (contains_from_has (take n trail) l h)))
 
 pub front_differs : (c : List Literal) (i : ℕ) (u d : Literal) → AreDistinct c → i < length c → Contains (take i c) u → get_or c i d ≡ u → ⊥
 front_differs c i u d distinct within among e =
@@ -164,8 +173,11 @@ front_differs c i u d distinct within among e =
     let same : get_or c i u ≡ u = get_or_default c i u d within ∙ e in
     pairs_from_distinct c distinct j i u below within (ap (λ (l : Literal). l.var) at ∙ sym (ap (λ (l : Literal). l.var) same))
 
-pub front_lacks : (trail : List Literal) (front : ℕ) (l : Literal) → AreDistinct trail → front < length trail → get_or trail front l ≡ l → has (take front trail) l ≡ false
-front_lacks trail front l distinct within e = false_from_ne_true (has (take front trail) l) (λ h. front_differs trail front l l distinct within (contains_from_has (take front trail) l h) e)
+pub front_lacks : (trail : List Literal) (front : ℕ) (l : Literal) → AreDistinct trail → front < length trail → get_or trail front l ≡ l →
+    has (take front trail) l ≡ false
+front_lacks trail front l distinct within e = false_from_ne_true (has (take front trail) l)
+    (λ h. front_differs trail front l l distinct within (contains_from_has (take front trail) l h) e)
 
-pub next_front : (trail : List Literal) (front : ℕ) (l : Literal) → front < length trail → get_or trail front l ≡ l → take (front + 1) trail ≡ take front trail ++ l ∷ []
+pub next_front : (trail : List Literal) (front : ℕ) (l : Literal) → front < length trail → get_or trail front l ≡ l →
+    take (front + 1) trail ≡ take front trail ++ l ∷ []
 next_front trail front l within e = take_more trail front l within ∙ ap (λ (k : Literal). take front trail ++ k ∷ []) e

@@ -49,13 +49,16 @@ two_true v t u (inr (inr (inr (inr (inl h))))) = cc
 two_true v t u (inr (inr (inr (inr (inr h))))) = absurd h
 
 -- LAW 2
-below_means : (v : Assignment) (a b : IntVars) (m n : ℕ) (unless : List Literal) → Reads v a m → Reads v b n → (Satisfies v unless → ⊥) → SatisfiesAll v (guarded_order a b 0 no_guards unless) → m ≤ n
+below_means : (v : Assignment) (a b : IntVars) (m n : ℕ) (unless : List Literal) → Reads v a m → Reads v b n → (Satisfies v unless → ⊥) →
+    SatisfiesAll v (guarded_order a b 0 no_guards unless) → m ≤ n
 below_means v a b m n unless ra rb on h = elim (guarded_means v a b m n 0 no_guards unless ra rb on h) [ inl t ↦ absurd (none_true v t) | inr le ↦ omega arith ]
 
-below_holds : (v : Assignment) (a b : IntVars) (m n : ℕ) (unless : List Literal) → Reads v a m → Reads v b n → Satisfies v unless ⊎ (m ≤ n) → SatisfiesAll v (guarded_order a b 0 no_guards unless)
+below_holds : (v : Assignment) (a b : IntVars) (m n : ℕ) (unless : List Literal) → Reads v a m → Reads v b n → Satisfies v unless ⊎ (m ≤ n) →
+    SatisfiesAll v (guarded_order a b 0 no_guards unless)
 below_holds v a b m n unless ra rb h = guarded_holds v a b m n 0 no_guards unless ra rb (elim h [ inl u ↦ inl u | inr le ↦ inr (inr (omega arith)) ])
 
-pub ordered_means : (v : Assignment) (o : Ordering) (a b : IntVars) (m n : ℕ) (unless : List Literal) → Reads v a m → Reads v b n → (Satisfies v unless → ⊥) → SatisfiesAll v (ordered_clauses o a b unless) → InOrder o m n
+pub ordered_means : (v : Assignment) (o : Ordering) (a b : IntVars) (m n : ℕ) (unless : List Literal) → Reads v a m → Reads v b n → (Satisfies v unless → ⊥) →
+    SatisfiesAll v (ordered_clauses o a b unless) → InOrder o m n
 ordered_means v Less a b m n unless ra rb on h = below_means v a b m n unless ra rb on h
 ordered_means v Equal a b m n unless ra rb on h =
     let up = guarded_order a b 0 no_guards unless in
@@ -65,7 +68,8 @@ ordered_means v Equal a b m n unless ra rb on h =
     omega arith
 ordered_means v Greater a b m n unless ra rb on h = below_means v b a n m unless rb ra on h
 
-pub ordered_holds : (v : Assignment) (o : Ordering) (a b : IntVars) (m n : ℕ) (unless : List Literal) → Reads v a m → Reads v b n → Satisfies v unless ⊎ InOrder o m n → SatisfiesAll v (ordered_clauses o a b unless)
+pub ordered_holds : (v : Assignment) (o : Ordering) (a b : IntVars) (m n : ℕ) (unless : List Literal) → Reads v a m → Reads v b n →
+    Satisfies v unless ⊎ InOrder o m n → SatisfiesAll v (ordered_clauses o a b unless)
 ordered_holds v Less a b m n unless ra rb h = below_holds v a b m n unless ra rb h
 ordered_holds v Equal a b m n unless ra rb h = satisfies_append v (guarded_order a b 0 no_guards unless) (guarded_order b a 0 no_guards unless)
     (below_holds v a b m n unless ra rb (elim h [ inl u ↦ inl u | inr e ↦ inr (omega arith) ]))
@@ -77,7 +81,8 @@ pub flipped : (b : Bool) → not b ≡ true → b ≡ false
 flipped true h = cc
 flipped false h = refl
 
-differ_means : (v : Assignment) (below : ℕ) (guard : LitOrTruth) (a b : IntVars) (m n : ℕ) (unless : List Literal) → Reads v a m → Reads v b n → (Satisfies v unless → ⊥) → SatisfiesAll v (apart_rows_clauses below guard a b unless) → Is (value v guard) ⊎ (m ≢ n)
+differ_means : (v : Assignment) (below : ℕ) (guard : LitOrTruth) (a b : IntVars) (m n : ℕ) (unless : List Literal) → Reads v a m → Reads v b n →
+    (Satisfies v unless → ⊥) → SatisfiesAll v (apart_rows_clauses below guard a b unless) → Is (value v guard) ⊎ (m ≢ n)
 differ_means v below guard a b m n unless ra rb on h =
     let one = guarded_order a b 1 (two_guards guard (flip (yes below))) unless in
     let two = guarded_order b a 1 (two_guards guard (yes below)) unless in
@@ -95,8 +100,10 @@ differ_means v below guard a b m n unless ra rb on h =
       ]
     ]
 
-pub differ_holds : (v : Assignment) (below : ℕ) (guard : LitOrTruth) (a b : IntVars) (m n : ℕ) (unless : List Literal) → Reads v a m → Reads v b n → Satisfies v unless ⊎ (Is (value v guard) ⊎ ((m ≢ n) × (v below ≡ nat_lt m n))) → SatisfiesAll v (apart_rows_clauses below guard a b unless)
-differ_holds v below guard a b m n unless ra rb h = satisfies_append v (guarded_order a b 1 (two_guards guard (flip (yes below))) unless) (guarded_order b a 1 (two_guards guard (yes below)) unless)
+pub differ_holds : (v : Assignment) (below : ℕ) (guard : LitOrTruth) (a b : IntVars) (m n : ℕ) (unless : List Literal) → Reads v a m → Reads v b n →
+    Satisfies v unless ⊎ (Is (value v guard) ⊎ ((m ≢ n) × (v below ≡ nat_lt m n))) → SatisfiesAll v (apart_rows_clauses below guard a b unless)
+differ_holds v below guard a b m n unless ra rb h = satisfies_append v (guarded_order a b 1 (two_guards guard (flip (yes below))) unless)
+    (guarded_order b a 1 (two_guards guard (yes below)) unless)
     (guarded_holds v a b m n 1 (two_guards guard (flip (yes below))) unless ra rb (elim h [
       | inl u ↦ inl u
       | inr (inl t) ↦ inr (inl (inl t))
@@ -114,7 +121,8 @@ differ_holds v below guard a b m n unless ra rb h = satisfies_append v (guarded_
       ])
     ]))
 
-west_means : (v : Assignment) (first : ℕ) (a b : NodeInts) (p q : Point) (unless : List Literal) → ReadsPoint v a p → ReadsPoint v b q → (Satisfies v unless → ⊥) → SatisfiesAll v (west_clauses first a b unless) → p ≢ q
+west_means : (v : Assignment) (first : ℕ) (a b : NodeInts) (p q : Point) (unless : List Literal) → ReadsPoint v a p → ReadsPoint v b q →
+    (Satisfies v unless → ⊥) → SatisfiesAll v (west_clauses first a b unless) → p ≢ q
 west_means v first a b p q unless ra rb on h e =
     let one = guarded_order a.x b.x 1 (one_guard (yes first)) unless in
     let two = apart_rows_clauses (first + 1) (flip (yes first)) a.y b.y unless in
@@ -129,8 +137,11 @@ west_means v first a b p q unless ra rb on h e =
     ]
 
 -- the first isn't east of the second, by law 2
-pub west_holds : (v : Assignment) (first : ℕ) (a b : NodeInts) (p q : Point) (unless : List Literal) → ReadsPoint v a p → ReadsPoint v b q → Satisfies v unless ⊎ ((p.x ≤ q.x) × ((p ≢ q) × ((v first ≡ nat_le q.x p.x) × (v (first + 1) ≡ nat_lt p.y q.y)))) → SatisfiesAll v (west_clauses first a b unless)
-west_holds v first a b p q unless ra rb h = satisfies_append v (guarded_order a.x b.x 1 (one_guard (yes first)) unless) (apart_rows_clauses (first + 1) (flip (yes first)) a.y b.y unless)
+pub west_holds : (v : Assignment) (first : ℕ) (a b : NodeInts) (p q : Point) (unless : List Literal) → ReadsPoint v a p → ReadsPoint v b q →
+    Satisfies v unless ⊎ ((p.x ≤ q.x) × ((p ≢ q) × ((v first ≡ nat_le q.x p.x) × (v (first + 1) ≡ nat_lt p.y q.y)))) →
+    SatisfiesAll v (west_clauses first a b unless)
+west_holds v first a b p q unless ra rb h = satisfies_append v (guarded_order a.x b.x 1 (one_guard (yes first)) unless)
+    (apart_rows_clauses (first + 1) (flip (yes first)) a.y b.y unless)
     (guarded_holds v a.x b.x p.x q.x 1 (one_guard (yes first)) unless ra.x rb.x (elim h [
       | inl u ↦ inl u
       | inr f ↦ inr (elim (leb_tells q.x p.x) [
@@ -146,12 +157,15 @@ west_holds v first a b p q unless ra rb h = satisfies_append v (guarded_order a.
       ])
     ]))
 
-pub apart_means : (v : Assignment) (o : Ordering) (first : ℕ) (a b : NodeInts) (p q : Point) (unless : List Literal) → ReadsPoint v a p → ReadsPoint v b q → (Satisfies v unless → ⊥) → SatisfiesAll v (apart_clauses o first a b unless) → p ≢ q
+pub apart_means : (v : Assignment) (o : Ordering) (first : ℕ) (a b : NodeInts) (p q : Point) (unless : List Literal) → ReadsPoint v a p → ReadsPoint v b q →
+    (Satisfies v unless → ⊥) → SatisfiesAll v (apart_clauses o first a b unless) → p ≢ q
 apart_means v Less first a b p q unless ra rb on h e = west_means v first a b p q unless ra rb on h e
-apart_means v Equal first a b p q unless ra rb on h e = elim (differ_means v first False a.y b.y p.y q.y unless ra.y rb.y on h) [ inl f ↦ cc | inr ne ↦ ne (ap (λ (r : Point). r.y) e) ]
+apart_means v Equal first a b p q unless ra rb on h e = elim (differ_means v first False a.y b.y p.y q.y unless ra.y rb.y on h)
+    [ inl f ↦ cc | inr ne ↦ ne (ap (λ (r : Point). r.y) e) ]
 apart_means v Greater first a b p q unless ra rb on h e = west_means v first b a q p unless rb ra on h (sym e)
 
-point_stays : (first count : ℕ) (v w : Assignment) (a : NodeInts) (p : Point) → LieBefore first a → SameOutside first count v w → ReadsPoint v a p → ReadsPoint w a p
+point_stays : (first count : ℕ) (v w : Assignment) (a : NodeInts) (p : Point) → LieBefore first a → SameOutside first count v w → ReadsPoint v a p →
+    ReadsPoint w a p
 point_stays first count v w a p before same r = record {
   x = let b = before.x in reads_same v w a.x p.x (λ x from to. same.below x (omega arith)) r.x;
   y = let b = before.y in reads_same v w a.y p.y (λ x from to. same.below x (omega arith)) r.y;
@@ -161,7 +175,8 @@ abbrev pub apart_bits : Point → Point → ℕ → Bool
 apart_bits p q zero = nat_le q.x p.x
 apart_bits p q (suc k) = nat_lt p.y q.y
 
-west_extends : (v : Assignment) (first : ℕ) (a b : NodeInts) (p q : Point) (unless : List Literal) → LieBefore first a → LieBefore first b → ReadsPoint v a p → ReadsPoint v b q → p.x ≤ q.x → p ≢ q → Extends first 2 v (λ w. SatisfiesAll w (west_clauses first a b unless))
+west_extends : (v : Assignment) (first : ℕ) (a b : NodeInts) (p q : Point) (unless : List Literal) → LieBefore first a → LieBefore first b → ReadsPoint v a p →
+    ReadsPoint v b q → p.x ≤ q.x → p ≢ q → Extends first 2 v (λ w. SatisfiesAll w (west_clauses first a b unless))
 west_extends v first a b p q unless ba bb ra rb order ne =
     let w = patch first 2 (apart_bits p q) v in
     let same = patch_same first 2 (apart_bits p q) v in
@@ -173,7 +188,8 @@ west_extends v first a b p q unless ba bb ra rb order ne =
           (inr (order, (ne, (ap w z ∙ patch_at first 2 (apart_bits p q) v 0 (omega arith), patch_at first 2 (apart_bits p q) v 1 (omega arith)))));
     }
 
-pub apart_extends : (v : Assignment) (o : Ordering) (first : ℕ) (a b : NodeInts) (p q : Point) (unless : List Literal) → LieBefore first a → LieBefore first b → ReadsPoint v a p → ReadsPoint v b q → InOrder o p.x q.x → p ≢ q → Extends first (apart_size o) v (λ w. SatisfiesAll w (apart_clauses o first a b unless))
+pub apart_extends : (v : Assignment) (o : Ordering) (first : ℕ) (a b : NodeInts) (p q : Point) (unless : List Literal) → LieBefore first a → LieBefore first b →
+    ReadsPoint v a p → ReadsPoint v b q → InOrder o p.x q.x → p ≢ q → Extends first (apart_size o) v (λ w. SatisfiesAll w (apart_clauses o first a b unless))
 apart_extends v Less first a b p q unless ba bb ra rb order ne = west_extends v first a b p q unless ba bb ra rb order ne
 apart_extends v Equal first a b p q unless ba bb ra rb order ne =
     let f : ℕ → Bool = λ k. nat_lt p.y q.y in
@@ -189,7 +205,8 @@ apart_extends v Equal first a b p q unless ba bb ra rb order ne =
 apart_extends v Greater first a b p q unless ba bb ra rb order ne = west_extends v first b a q p unless bb ba rb ra order (λ e. ne (sym e))
 
 -- TWO NODES IN ANY ORDER
-pub anywhere_means : (v : Assignment) (first : ℕ) (a b : NodeInts) (p q : Point) (unless : List Literal) → ReadsPoint v a p → ReadsPoint v b q → (Satisfies v unless → ⊥) → SatisfiesAll v (anywhere_clauses first a b unless) → p ≢ q
+pub anywhere_means : (v : Assignment) (first : ℕ) (a b : NodeInts) (p q : Point) (unless : List Literal) → ReadsPoint v a p → ReadsPoint v b q →
+    (Satisfies v unless → ⊥) → SatisfiesAll v (anywhere_clauses first a b unless) → p ≢ q
 anywhere_means v first a b p q unless ra rb on h e =
     let one = apart_rows_clauses (first + 1) (yes first) a.x b.x unless in
     let two = apart_rows_clauses (first + 1) (flip (yes first)) a.y b.y unless in
@@ -207,15 +224,20 @@ anywhere_bits same p q zero = same
 anywhere_bits true p q (suc k) = nat_lt p.y q.y
 anywhere_bits false p q (suc k) = nat_lt p.x q.x
 
-anywhere_set : (w : Assignment) (first : ℕ) (a b : NodeInts) (p q : Point) (unless : List Literal) → ReadsPoint w a p → ReadsPoint w b q → ((p.x ≡ q.x) × (p.y ≢ q.y) × (w first ≡ true) × (w (first + 1) ≡ nat_lt p.y q.y)) ⊎ ((p.x ≢ q.x) × (w first ≡ false) × (w (first + 1) ≡ nat_lt p.x q.x)) → SatisfiesAll w (anywhere_clauses first a b unless)
-anywhere_set w first a b p q unless ra rb (inl h) = satisfies_append w (apart_rows_clauses (first + 1) (yes first) a.x b.x unless) (apart_rows_clauses (first + 1) (flip (yes first)) a.y b.y unless)
+anywhere_set : (w : Assignment) (first : ℕ) (a b : NodeInts) (p q : Point) (unless : List Literal) → ReadsPoint w a p → ReadsPoint w b q →
+    ((p.x ≡ q.x) × (p.y ≢ q.y) × (w first ≡ true) × (w (first + 1) ≡ nat_lt p.y q.y)) ⊎ ((p.x ≢ q.x) × (w first ≡ false) × (w (first + 1) ≡ nat_lt p.x q.x)) →
+    SatisfiesAll w (anywhere_clauses first a b unless)
+anywhere_set w first a b p q unless ra rb (inl h) = satisfies_append w (apart_rows_clauses (first + 1) (yes first) a.x b.x unless)
+    (apart_rows_clauses (first + 1) (flip (yes first)) a.y b.y unless)
     (differ_holds w (first + 1) (yes first) a.x b.x p.x q.x unless ra.x rb.x (inr (inl h.2)))
     (differ_holds w (first + 1) (flip (yes first)) a.y b.y p.y q.y unless ra.y rb.y (inr (inr (h.1, h.3))))
-anywhere_set w first a b p q unless ra rb (inr h) = satisfies_append w (apart_rows_clauses (first + 1) (yes first) a.x b.x unless) (apart_rows_clauses (first + 1) (flip (yes first)) a.y b.y unless)
+anywhere_set w first a b p q unless ra rb (inr h) = satisfies_append w (apart_rows_clauses (first + 1) (yes first) a.x b.x unless)
+    (apart_rows_clauses (first + 1) (flip (yes first)) a.y b.y unless)
     (differ_holds w (first + 1) (yes first) a.x b.x p.x q.x unless ra.x rb.x (inr (inr (h.0, h.2))))
     (differ_holds w (first + 1) (flip (yes first)) a.y b.y p.y q.y unless ra.y rb.y (inr (inl (ap not h.1))))
 
-pub anywhere_extends : (v : Assignment) (first : ℕ) (a b : NodeInts) (p q : Point) (unless : List Literal) → LieBefore first a → LieBefore first b → ReadsPoint v a p → ReadsPoint v b q → Satisfies v unless ⊎ (p ≢ q) → Extends first 2 v (λ w. SatisfiesAll w (anywhere_clauses first a b unless))
+pub anywhere_extends : (v : Assignment) (first : ℕ) (a b : NodeInts) (p q : Point) (unless : List Literal) → LieBefore first a → LieBefore first b →
+    ReadsPoint v a p → ReadsPoint v b q → Satisfies v unless ⊎ (p ≢ q) → Extends first 2 v (λ w. SatisfiesAll w (anywhere_clauses first a b unless))
 anywhere_extends v first a b p q unless ba bb ra rb (inl u) = record {
   to = v;
   same = same_none first 2 v;
@@ -231,7 +253,13 @@ anywhere_extends v first a b p q unless ba bb ra rb (inr ne) = elim (eqb_tells p
         to = w;
         same = same;
         holds = anywhere_set w first a b p q unless (point_stays first 2 v w a p ba same ra) (point_stays first 2 v w b q bb same rb)
-            (inl (one.1, (λ ey. ne (same_coordinates p q (one.1, ey))), ap w z ∙ patch_at first 2 (anywhere_bits true p q) v 0 (omega arith), patch_at first 2 (anywhere_bits true p q) v 1 (omega arith)));
+            (inl (
+              one.1,
+              (λ ey. ne (same_coordinates p q (one.1, ey))),
+              ap w z ∙ patch_at first 2 (anywhere_bits true p q) v 0 (omega arith),
+              patch_at first 2
+                  (anywhere_bits true p q) v 1 (omega arith),
+            ));
       }
   | inr two ↦
       let w = patch first 2 (anywhere_bits false p q) v in

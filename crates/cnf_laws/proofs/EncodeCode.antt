@@ -16,7 +16,8 @@ use Rattle.cnf_laws.specs.Expected.{drawing_vars, laws_first, base_clauses, expe
 use Rattle.cnf_laws.specs.AddsLaws.{AddsLaws}
 use Rattle.cnf_laws.proofs.CodeLemmas.{count_const}
 
-pub adds_count : {T : Type 0} (r : Result T CnfFault) (old new : Cnf) (f : ℕ → Clauses) (s n m longest : ℕ) → n ≡ m → AddsBlock r old new (n * s) (each f 0 n) longest → AddsBlock r old new (m * s) (each f 0 m) longest
+pub adds_count : {T : Type 0} (r : Result T CnfFault) (old new : Cnf) (f : ℕ → Clauses) (s n m longest : ℕ) → n ≡ m →
+    AddsBlock r old new (n * s) (each f 0 n) longest → AddsBlock r old new (m * s) (each f 0 m) longest
 adds_count r old new f s n m longest e h = subst (λ k. AddsBlock r old new (k * s) (each f 0 k) longest) e h
 
 pub building_start : (s : ℕ) (f : ℕ → Clauses) (old : Cnf) (n m : ℕ) → n ≡ m → IsBuilding (λ k. s) f old old (m * s) (each f 0 m) 0 n
@@ -33,15 +34,21 @@ base_size g grid = length g.nodes * (grid.height + grid.width) + length g.edges 
 total : (g : Graph) (grid : GridSize) (laws : List Instance) → base_size g grid + laws_size g laws ≡ expected_size g grid laws
 total g grid laws = omega arith
 
-pub formula_refused : {T U : Type 0} (r : Result T CnfFault) (s : Result U CnfFault) (old new : Cnf) (g : Graph) (grid : GridSize) (laws : List Instance) → IsErr s → (IsErrOf s Room → IsErrOf r Room) → AddsBlock r old new (base_size g grid) (base_clauses g (drawing_vars g grid) grid) 7 → AddsBlock s old new (expected_size g grid laws) (expected_clauses g grid laws) 7
+pub formula_refused : {T U : Type 0} (r : Result T CnfFault) (s : Result U CnfFault) (old new : Cnf) (g : Graph) (grid : GridSize) (laws : List Instance) →
+    IsErr s → (IsErrOf s Room → IsErrOf r Room) → AddsBlock r old new (base_size g grid) (base_clauses g (drawing_vars g grid) grid) 7 →
+    AddsBlock s old new (expected_size g grid laws) (expected_clauses g grid laws) 7
 formula_refused r s old new g grid laws err same h =
     subst (λ n. AddsBlock s old new n (expected_clauses g grid laws) 7) (total g grid laws)
-    (block_refused r s old new (base_size g grid) (laws_size g laws) (base_clauses g (drawing_vars g grid) grid) (laws_clauses g (drawing_vars g grid) grid.width (laws_first g grid) laws) 7 err same h)
+    (block_refused r s old new (base_size g grid) (laws_size g laws) (base_clauses g (drawing_vars g grid) grid)
+    (laws_clauses g (drawing_vars g grid) grid.width (laws_first g grid) laws) 7 err same h)
 
-pub formula_after : {T U : Type 0} (y : T) (r : Result U CnfFault) (old mid new : Cnf) (g : Graph) (grid : GridSize) (laws : List Instance) → old.vars ≡ 0 → AddsBlock (Ok y) old mid (base_size g grid) (base_clauses g (drawing_vars g grid) grid) 7 → AddsLaws r mid new g (drawing_vars g grid) grid.width laws 7 → AddsBlock r old new (expected_size g grid laws) (expected_clauses g grid laws) 7
+pub formula_after : {T U : Type 0} (y : T) (r : Result U CnfFault) (old mid new : Cnf) (g : Graph) (grid : GridSize) (laws : List Instance) → old.vars ≡ 0 →
+    AddsBlock (Ok y) old mid (base_size g grid) (base_clauses g (drawing_vars g grid) grid) 7 → AddsLaws r mid new g (drawing_vars g grid) grid.width laws 7 →
+    AddsBlock r old new (expected_size g grid laws) (expected_clauses g grid laws) 7
 formula_after y r old mid new g grid laws empty a b =
     let made : mid.vars ≡ old.vars + base_size g grid = a.made in
     let place : mid.vars + 1 ≡ laws_first g grid = omega arith in
     subst (λ n. AddsBlock r old new n (expected_clauses g grid laws) 7) (total g grid laws)
-    (block_after y r old mid new (base_size g grid) (laws_size g laws) (base_clauses g (drawing_vars g grid) grid) (laws_clauses g (drawing_vars g grid) grid.width (laws_first g grid) laws) 7 a
+    (block_after y r old mid new (base_size g grid) (laws_size g laws) (base_clauses g (drawing_vars g grid) grid)
+    (laws_clauses g (drawing_vars g grid) grid.width (laws_first g grid) laws) 7 a
     (subst (λ n. AddsBlock r mid new (laws_size g laws) (laws_clauses g (drawing_vars g grid) grid.width n laws) 7) place b))

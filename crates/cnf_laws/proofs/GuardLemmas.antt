@@ -32,18 +32,21 @@ some_to v (t ∷ ts) us (inr h) = inr (some_to v ts us (inr h))
 abbrev pub order_list : IntVars → IntVars → ℕ → ℕ → List LitOrTruth
 order_list a b plus k = flip (int_at_least a k) ∷ int_at_least b (k + plus) ∷ []
 
-guarded_says : (v : Assignment) (a b : IntVars) (m n plus : ℕ) (g : Guards) (unless : List Literal) (k : ℕ) → Reads v a m → Reads v b n → SatisfiesAll v (guarded_clause a b plus g unless k) → Satisfies v unless ⊎ (SomeTrue v (guard_list g) ⊎ (k ≤ m → k + plus ≤ n))
+guarded_says : (v : Assignment) (a b : IntVars) (m n plus : ℕ) (g : Guards) (unless : List Literal) (k : ℕ) → Reads v a m → Reads v b n →
+    SatisfiesAll v (guarded_clause a b plus g unless k) → Satisfies v unless ⊎ (SomeTrue v (guard_list g) ⊎ (k ≤ m → k + plus ≤ n))
 guarded_says v a b m n plus g unless k ra rb h = elim (clause_says v unless (guard_list g ++ order_list a b plus k) h) [
   | inl u ↦ inl u
   | inr s ↦ elim (some_from v (guard_list g) (order_list a b plus k) s) [
     | inl t ↦ inr (inl t)
-    | inr (inl s) ↦ inr (inr (λ le. let t : not (nat_le k m) ≡ true = sym (ap not (ra.each k)) ∙ sym (value-flip v (int_at_least a k)) ∙ s in let e : nat_le k m ≡ true = grind (arith, nat_tests) in absurd (cc (rw e at t))))
+    | inr (inl s) ↦ inr (inr (λ le. let t : not (nat_le k m) ≡ true = sym (ap not (ra.each k)) ∙ sym (value-flip v (int_at_least a k))
+        ∙ s in let e : nat_le k m ≡ true = grind (arith, nat_tests) in absurd (cc (rw e at t))))
     | inr (inr (inl s)) ↦ inr (inr (λ le. let t : nat_le (k + plus) n ≡ true = sym (rb.each (k + plus)) ∙ s in grind (arith, nat_tests, t)))
     | inr (inr (inr s)) ↦ absurd s
   ]
 ]
 
-guarded_true : (v : Assignment) (a b : IntVars) (m n plus : ℕ) (g : Guards) (unless : List Literal) (k : ℕ) → Reads v a m → Reads v b n → Satisfies v unless ⊎ (SomeTrue v (guard_list g) ⊎ (k ≤ m → k + plus ≤ n)) → SatisfiesAll v (guarded_clause a b plus g unless k)
+guarded_true : (v : Assignment) (a b : IntVars) (m n plus : ℕ) (g : Guards) (unless : List Literal) (k : ℕ) → Reads v a m → Reads v b n →
+    Satisfies v unless ⊎ (SomeTrue v (guard_list g) ⊎ (k ≤ m → k + plus ≤ n)) → SatisfiesAll v (guarded_clause a b plus g unless k)
 guarded_true v a b m n plus g unless k ra rb h = clause_holds v unless (guard_list g ++ order_list a b plus k) (elim h [
   | inl u ↦ inl u
   | inr (inl t) ↦ inr (some_to v (guard_list g) (order_list a b plus k) (inl t))
@@ -54,7 +57,8 @@ guarded_true v a b m n plus g unless k ra rb h = clause_holds v unless (guard_li
 ])
 
 -- where none of unless is true: a guard is, or the numbers are in order
-pub guarded_means : (v : Assignment) (a b : IntVars) (m n plus : ℕ) (g : Guards) (unless : List Literal) → Reads v a m → Reads v b n → (Satisfies v unless → ⊥) → SatisfiesAll v (guarded_order a b plus g unless) → SomeTrue v (guard_list g) ⊎ (m + plus ≤ n)
+pub guarded_means : (v : Assignment) (a b : IntVars) (m n plus : ℕ) (g : Guards) (unless : List Literal) → Reads v a m → Reads v b n →
+    (Satisfies v unless → ⊥) → SatisfiesAll v (guarded_order a b plus g unless) → SomeTrue v (guard_list g) ⊎ (m + plus ≤ n)
 guarded_means v a b m n plus g unless ra rb on h =
     let low = ra.low in
     let high = ra.high in
@@ -64,24 +68,35 @@ guarded_means v a b m n plus g unless ra rb on h =
       | inr (inr f) ↦ inr (f (omega arith))
     ]
 
-pub guarded_holds : (v : Assignment) (a b : IntVars) (m n plus : ℕ) (g : Guards) (unless : List Literal) → Reads v a m → Reads v b n → Satisfies v unless ⊎ (SomeTrue v (guard_list g) ⊎ (m + plus ≤ n)) → SatisfiesAll v (guarded_order a b plus g unless)
-guarded_holds v a b m n plus g unless ra rb h = satisfies_each v (guarded_clause a b plus g unless) a.low (size a + 1) (λ k from to. guarded_true v a b m n plus g unless k ra rb (elim h [
-  | inl u ↦ inl u
-  | inr (inl t) ↦ inr (inl t)
-  | inr (inr le) ↦ inr (inr (λ x. omega arith))
-]))
+pub guarded_holds : (v : Assignment) (a b : IntVars) (m n plus : ℕ) (g : Guards) (unless : List Literal) → Reads v a m → Reads v b n →
+    Satisfies v unless ⊎ (SomeTrue v (guard_list g) ⊎ (m + plus ≤ n)) → SatisfiesAll v (guarded_order a b plus g unless)
+guarded_holds v a b m n plus g unless ra rb h = satisfies_each v (guarded_clause a b plus g unless) a.low (size a + 1)
+    (λ k from to. guarded_true v a b m n plus g unless k ra rb (elim h [
+      | inl u ↦ inl u
+      | inr (inl t) ↦ inr (inl t)
+      | inr (inr le) ↦ inr (inr (λ x. omega arith))
+    ]))
 
 -- rules
-pub unless_rules_say : (v : Assignment) (unless : List Literal) (rs : List Rule) → (Satisfies v unless → ⊥) → SatisfiesAll v (unless_rules unless rs) → FollowsRules v rs
+pub unless_rules_say : (v : Assignment) (unless : List Literal) (rs : List Rule) → (Satisfies v unless → ⊥) → SatisfiesAll v (unless_rules unless rs) →
+    FollowsRules v rs
 unless_rules_say v unless [] on h = tt
 unless_rules_say v unless (r ∷ rs) on h =
     let first = satisfies_left v (clause_of unless (pair_literals r)) (unless_rules unless rs) h in
-    let rest = satisfies_right v (clause_of unless (pair_literals r)) (unless_rules unless rs) h in
-    (λ a. elim (clause_says v unless (pair_literals r) first) [ inl u ↦ absurd (on u) | inr s ↦ some_says v r.premises r.conclusions (fill_says v 2 (map flip r.premises ++ r.conclusions) s) a ], unless_rules_say v unless rs on rest)
+    let rest = satisfies_right v (clause_of unless (pair_literals r)) (unless_rules unless rs) h in (
+      λ a. elim (clause_says v unless (pair_literals r) first) [
+        | inl u ↦ absurd (on u)
+        | inr s ↦ some_says v r.premises r.conclusions
+            (fill_says v 2 (map flip r.premises ++ r.conclusions) s) a
+      ],
+      unless_rules_say v unless rs on rest,
+    )
 
-pub unless_rules_hold : (v : Assignment) (unless : List Literal) (rs : List Rule) → Satisfies v unless ⊎ FollowsRules v rs → SatisfiesAll v (unless_rules unless rs)
+pub unless_rules_hold : (v : Assignment) (unless : List Literal) (rs : List Rule) → Satisfies v unless ⊎ FollowsRules v rs →
+    SatisfiesAll v (unless_rules unless rs)
 unless_rules_hold v unless [] h = tt
-unless_rules_hold v unless (r ∷ rs) (inl u) = satisfies_append v (clause_of unless (pair_literals r)) (unless_rules unless rs) (clause_holds v unless (pair_literals r) (inl u)) (unless_rules_hold v unless rs (inl u))
+unless_rules_hold v unless (r ∷ rs) (inl u) = satisfies_append v (clause_of unless (pair_literals r)) (unless_rules unless rs)
+    (clause_holds v unless (pair_literals r) (inl u)) (unless_rules_hold v unless rs (inl u))
 unless_rules_hold v unless (r ∷ rs) (inr f) = satisfies_append v (clause_of unless (pair_literals r)) (unless_rules unless rs)
     (clause_holds v unless (pair_literals r) (inr (fill_holds v 2 (map flip r.premises ++ r.conclusions) (some_holds v r.premises r.conclusions f.0))))
     (unless_rules_hold v unless rs (inr f.1))

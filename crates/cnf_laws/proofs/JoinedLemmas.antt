@@ -19,12 +19,14 @@ base_sound g grid is size v h =
     let b = base_means v g grid is size h in
     record { drawing = b.drawing; joined = b.loose; reads = b.reads; stands = reads_stand v g (drawing_vars g grid) grid b.drawing b.reads b.loose }
 
-pub base_covers : (g : Graph) (grid : GridSize) → IsTrackGraph g → IsGrid grid → laws_first g grid ≤ VARS + 1 → CoversJoined g grid (base_clauses g (drawing_vars g grid) grid)
+pub base_covers : (g : Graph) (grid : GridSize) → IsTrackGraph g → IsGrid grid → laws_first g grid ≤ VARS + 1 →
+    CoversJoined g grid (base_clauses g (drawing_vars g grid) grid)
 base_covers g grid is size few d joined =
     let b : Extends 1 (base_last g grid) (λ y. false) (λ w. BaseHolds w g grid d) = base_extends g grid d (λ y. false) is size few joined in
     record { to = b.to; satisfies = b.holds.satisfies; reads = b.holds.reads; stands = reads_stand b.to g (drawing_vars g grid) grid d b.holds.reads joined }
 
-pub least_one : (g : Graph) (above overlap : ℕ → ℕ → Bool) (grid : GridSize) → grid.least ≡ 1 → formula_clauses g above overlap grid ≡ clauses_without_least g above overlap grid
+pub least_one : (g : Graph) (above overlap : ℕ → ℕ → Bool) (grid : GridSize) → grid.least ≡ 1 →
+    formula_clauses g above overlap grid ≡ clauses_without_least g above overlap grid
 least_one g above overlap grid one =
     let x = drawing_vars g grid in
     ap (λ least. (each (λ n. node_clauses (x.node n)) 0 (length g.nodes)

@@ -104,7 +104,8 @@ unfolding west_rank
 rank_below g n lt = count_fewer (λ u. comes_before g u n) (length g.nodes) n lt (never_before_itself g n (comes_before g n n) refl)
 
 -- a count over all nodes
-pub rank_of_count : (g : Graph) (n u count end : ℕ) → end ≤ u → u ≤ end → end ≡ length g.nodes → count ≡ count_below (λ k. comes_before g k n) u → count ≡ west_rank g n
+pub rank_of_count : (g : Graph) (n u count end : ℕ) → end ≤ u → u ≤ end → end ≡ length g.nodes → count ≡ count_below (λ k. comes_before g k n) u →
+    count ≡ west_rank g n
 unfolding west_rank
 rank_of_count g n u count end from to e h = let z : u ≡ length g.nodes = omega arith in h ∙ ap (count_below (λ k. comes_before g k n)) z
 

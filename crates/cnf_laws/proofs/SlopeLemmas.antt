@@ -143,11 +143,13 @@ greater_facts Up Down h = not_less Up Down h refl
 greater_facts Up Level h = not_less Up Level h refl
 greater_facts Up Up h = not_less Up Up h refl
 
-greater_mean : (v : Assignment) (a b : SlopeVars) (s t : Slope) → ReadsSlope v a s → ReadsSlope v b t → FollowsRules v (greater_rules a b) → steepness s <ℤ steepness t
+greater_mean : (v : Assignment) (a b : SlopeVars) (s t : Slope) → ReadsSlope v a s → ReadsSlope v b t → FollowsRules v (greater_rules a b) →
+    steepness s <ℤ steepness t
 greater_mean v a b s t r q h = greater_case s t (λ e. h.0 (q.falls ∙ e, tt)) (λ e. h.1.0 (r.rises ∙ e, tt))
     (elim (h.1.1.0 tt) [ inl x ↦ inl (sym q.rises ∙ x) | inr (inl x) ↦ inr (sym r.falls ∙ x) | inr (inr x) ↦ absurd x ])
 
-greater_hold : (v : Assignment) (a b : SlopeVars) (s t : Slope) → ReadsSlope v a s → ReadsSlope v b t → steepness s <ℤ steepness t → FollowsRules v (greater_rules a b)
+greater_hold : (v : Assignment) (a b : SlopeVars) (s t : Slope) → ReadsSlope v a s → ReadsSlope v b t → steepness s <ℤ steepness t →
+    FollowsRules v (greater_rules a b)
 greater_hold v a b s t r q h =
     let f = greater_facts s t h in (
       (λ x. not_so (v b.falls) (is_down t) q.falls f.not_down x.0),
@@ -158,22 +160,26 @@ greater_hold v a b s t r q h =
     )
 
 -- the diverging leg
-diverge_mean : (v : Assignment) (legs : Compass) (branch : Side) (a b : SlopeVars) (s t : Slope) → ReadsSlope v a s → ReadsSlope v b t → FollowsRules v (diverge_rules legs branch a b) → Diverges legs branch s t
+diverge_mean : (v : Assignment) (legs : Compass) (branch : Side) (a b : SlopeVars) (s t : Slope) → ReadsSlope v a s → ReadsSlope v b t →
+    FollowsRules v (diverge_rules legs branch a b) → Diverges legs branch s t
 diverge_mean v East Upper a b s t r q h = one_more_mean v a b s t r q h
 diverge_mean v East Lower a b s t r q h = one_more_mean v b a t s q r h
 diverge_mean v West Upper a b s t r q h = one_more_mean v b a t s q r h
 diverge_mean v West Lower a b s t r q h = one_more_mean v a b s t r q h
 
-diverge_hold : (v : Assignment) (legs : Compass) (branch : Side) (a b : SlopeVars) (s t : Slope) → ReadsSlope v a s → ReadsSlope v b t → Diverges legs branch s t → FollowsRules v (diverge_rules legs branch a b)
+diverge_hold : (v : Assignment) (legs : Compass) (branch : Side) (a b : SlopeVars) (s t : Slope) → ReadsSlope v a s → ReadsSlope v b t →
+    Diverges legs branch s t → FollowsRules v (diverge_rules legs branch a b)
 diverge_hold v East Upper a b s t r q h = one_more_hold v a b s t r q h
 diverge_hold v East Lower a b s t r q h = one_more_hold v b a t s q r h
 diverge_hold v West Upper a b s t r q h = one_more_hold v b a t s q r h
 diverge_hold v West Lower a b s t r q h = one_more_hold v a b s t r q h
 
 -- all kinds of nodes
-pub ports_mean : (v : Assignment) (at : ℕ → SlopeVars) (slopes : ℕ → Slope) (m : ℕ) (ports : Ports) → ((e : ℕ) → e < m → ReadsSlope v (at e) (slopes e)) → All (λ e. e < m) (edges_of ports) → FollowsRules v (ports_rules at ports) → PortsAreAligned slopes ports
+pub ports_mean : (v : Assignment) (at : ℕ → SlopeVars) (slopes : ℕ → Slope) (m : ℕ) (ports : Ports) → ((e : ℕ) → e < m → ReadsSlope v (at e) (slopes e)) →
+    All (λ e. e < m) (edges_of ports) → FollowsRules v (ports_rules at ports) → PortsAreAligned slopes ports
 ports_mean v at slopes m (End e side) r there h = flat_mean v (at e) (slopes e) (r e (there 0 e (omega arith))) h
-ports_mean v at slopes m (Joint a b) r there h = same_mean v (at a) (at b) (slopes a) (slopes b) (r a (there 0 a (omega arith))) (r b (there 1 a (omega arith))) h
+ports_mean v at slopes m (Joint a b) r there h = same_mean v (at a) (at b) (slopes a) (slopes b) (r a (there 0 a (omega arith))) (r b (there 1 a (omega arith)))
+    h
 ports_mean v at slopes m (Switch legs branch t s d) r there h =
     let rt = r t (there 0 t (omega arith)) in
     let rs = r s (there 1 t (omega arith)) in
@@ -199,9 +205,11 @@ ports_mean v at slopes m (Crossing wu wl eu el) r there h =
       rising_is_greater = greater_mean v (at wu) (at wl) (slopes wu) (slopes wl) a b (follows_right v two three rest);
     }
 
-pub ports_hold : (v : Assignment) (at : ℕ → SlopeVars) (slopes : ℕ → Slope) (m : ℕ) (ports : Ports) → ((e : ℕ) → e < m → ReadsSlope v (at e) (slopes e)) → All (λ e. e < m) (edges_of ports) → PortsAreAligned slopes ports → FollowsRules v (ports_rules at ports)
+pub ports_hold : (v : Assignment) (at : ℕ → SlopeVars) (slopes : ℕ → Slope) (m : ℕ) (ports : Ports) → ((e : ℕ) → e < m → ReadsSlope v (at e) (slopes e)) →
+    All (λ e. e < m) (edges_of ports) → PortsAreAligned slopes ports → FollowsRules v (ports_rules at ports)
 ports_hold v at slopes m (End e side) r there h = flat_hold v (at e) (slopes e) (r e (there 0 e (omega arith))) h
-ports_hold v at slopes m (Joint a b) r there h = same_hold v (at a) (at b) (slopes a) (slopes b) (r a (there 0 a (omega arith))) (r b (there 1 a (omega arith))) h
+ports_hold v at slopes m (Joint a b) r there h = same_hold v (at a) (at b) (slopes a) (slopes b) (r a (there 0 a (omega arith))) (r b (there 1 a (omega arith)))
+    h
 ports_hold v at slopes m (Switch legs branch t s d) r there h =
     let rt = r t (there 0 t (omega arith)) in
     let rs = r s (there 1 t (omega arith)) in
@@ -218,26 +226,32 @@ ports_hold v at slopes m (Crossing wu wl eu el) r there h =
     let two = same_rules (at wu) (at el) in
     let three = greater_rules (at wu) (at wl) in
     follows_both v one (two ++ three) (same_hold v (at wl) (at eu) (slopes wl) (slopes eu) b c h.rising_path)
-    (follows_both v two three (same_hold v (at wu) (at el) (slopes wu) (slopes el) a d h.falling_path) (greater_hold v (at wu) (at wl) (slopes wu) (slopes wl) a b h.rising_is_greater))
+    (follows_both v two three (same_hold v (at wu) (at el) (slopes wu) (slopes el) a d h.falling_path)
+    (greater_hold v (at wu) (at wl) (slopes wu) (slopes wl) a b h.rising_is_greater))
 
 -- the slope at a node
-pub slope_read : (v : Assignment) (g : Graph) (x : DrawingVars) (width : ℕ) (d : Drawing) (n e : ℕ) → ReadsDrawing v g x width d → e < length g.edges → ReadsSlope v (slope_vars g x n e) (slope_at g d n e)
-slope_read v g x width d n e r lt = elim ((edge g e).west == n) as (λ (b : Bool). ReadsSlope v (if b then west_slope (x.edge e) else east_slope (x.edge e)) (if b then slope_west (line d e) else slope_east (line d e))) [
-  | true ↦ (r.lines e lt).west
-  | false ↦ (r.lines e lt).east
-]
+pub slope_read : (v : Assignment) (g : Graph) (x : DrawingVars) (width : ℕ) (d : Drawing) (n e : ℕ) → ReadsDrawing v g x width d → e < length g.edges →
+    ReadsSlope v (slope_vars g x n e) (slope_at g d n e)
+slope_read v g x width d n e r lt = elim ((edge g e).west == n) as (λ (b : Bool). ReadsSlope v (if b then west_slope (x.edge e) else east_slope (x.edge e))
+    (if b then slope_west (line d e) else slope_east (line d e))) [
+      | true ↦ (r.lines e lt).west
+      | false ↦ (r.lines e lt).east
+    ]
 
 -- LAW 4
-pub aligned_means : (v : Assignment) (g : Graph) (x : DrawingVars) (width : ℕ) (d : Drawing) (n : ℕ) (unless : List Literal) → IsTrackGraph g → n < length g.nodes → ReadsDrawing v g x width d → (Satisfies v unless → ⊥) → SatisfiesAll v (aligned_clauses g x n unless) → NodeIsAligned g d n
+pub aligned_means : (v : Assignment) (g : Graph) (x : DrawingVars) (width : ℕ) (d : Drawing) (n : ℕ) (unless : List Literal) → IsTrackGraph g →
+    n < length g.nodes → ReadsDrawing v g x width d → (Satisfies v unless → ⊥) → SatisfiesAll v (aligned_clauses g x n unless) → NodeIsAligned g d n
 aligned_means v g x width d n unless is lt r on h =
     let ports = (node g n).ports in
     ports_mean v (slope_vars g x n) (slope_at g d n) (length g.edges) ports (λ e le. slope_read v g x width d n e r le) (is.ports n lt).there
     (unless_rules_say v unless (ports_rules (slope_vars g x n) ports) on h)
 
-pub aligned_holds : (v : Assignment) (g : Graph) (x : DrawingVars) (width : ℕ) (d : Drawing) (n : ℕ) (unless : List Literal) → IsTrackGraph g → n < length g.nodes → ReadsDrawing v g x width d → Satisfies v unless ⊎ NodeIsAligned g d n → SatisfiesAll v (aligned_clauses g x n unless)
+pub aligned_holds : (v : Assignment) (g : Graph) (x : DrawingVars) (width : ℕ) (d : Drawing) (n : ℕ) (unless : List Literal) → IsTrackGraph g →
+    n < length g.nodes → ReadsDrawing v g x width d → Satisfies v unless ⊎ NodeIsAligned g d n → SatisfiesAll v (aligned_clauses g x n unless)
 aligned_holds v g x width d n unless is lt r h =
     let ports = (node g n).ports in
     unless_rules_hold v unless (ports_rules (slope_vars g x n) ports) (elim h [
       | inl u ↦ inl u
-      | inr a ↦ inr (ports_hold v (slope_vars g x n) (slope_at g d n) (length g.edges) ports (λ e le. slope_read v g x width d n e r le) (is.ports n lt).there a)
+      | inr a ↦ inr (ports_hold v (slope_vars g x n) (slope_at g d n) (length g.edges) ports (λ e le. slope_read v g x width d n e r le) (is.ports n lt).there
+          a)
     ])

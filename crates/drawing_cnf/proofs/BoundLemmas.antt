@@ -1,5 +1,6 @@
 -- Bounds by sums: a variable is as a literal, the sum's variables tell a value, and the edges from west to east are all edges.
-use Rattle.std.proofs.Common.{◌≡◌, ◌⊎◌, ℕ, zero, suc, ◌+◌, ◌-◌, ◌≤◌, ◌<◌, Bool, true, false, not, List, [], ◌∷◌, length, get_or, inl, inr, refl, sym, ◌∙◌, ap, arith}
+use Rattle.std.proofs.Common.{◌≡◌, ◌⊎◌, ℕ, zero, suc, ◌+◌, ◌-◌, ◌≤◌, ◌<◌, Bool, true, false, not, List, [], ◌∷◌, length, get_or, inl, inr, refl, sym, ◌∙◌, ap}
+use Rattle.std.proofs.Common.{arith}
 use Rattle.std.specs.Prelude.{nat_le, All}
 use Rattle.std.specs.List.{sum_by, range_with_len, insert}
 use Rattle.std.proofs.lemmas.List.Sums.{sum_by-cons}
@@ -45,7 +46,8 @@ pub same_as_holds : (v : Assignment) (b : ℕ) (t : LitOrTruth) → v b ≡ valu
 same_as_holds v b t e = cases (v b) refl
   where
     both : SomeTrue v (flip (yes b) ∷ t ∷ []) → SomeTrue v (flip t ∷ yes b ∷ []) → SatisfiesAll v (same_as b t)
-    both x y = satisfies_append v (clause_of [] (flip (yes b) ∷ t ∷ [])) (clause_of [] (flip t ∷ yes b ∷ [])) (clause_holds v [] (flip (yes b) ∷ t ∷ []) (inr x)) (clause_holds v [] (flip t ∷ yes b ∷ []) (inr y))
+    both x y = satisfies_append v (clause_of [] (flip (yes b) ∷ t ∷ [])) (clause_of [] (flip t ∷ yes b ∷ []))
+    (clause_holds v [] (flip (yes b) ∷ t ∷ []) (inr x)) (clause_holds v [] (flip t ∷ yes b ∷ []) (inr y))
 
     cases : (c : Bool) → v b ≡ c → SatisfiesAll v (same_as b t)
     cases true s = both (inr (inl (sym e ∙ s))) (inr (inl s))
@@ -54,24 +56,28 @@ same_as_holds v b t e = cases (v b) refl
 pub same_as_there : (vars b : ℕ) (t : LitOrTruth) → 1 ≤ b → b ≤ vars → IsWithin vars t → AllThere vars (same_as b t)
 same_as_there vars b t from to w =
     all_there_append vars (clause_of [] (flip (yes b) ∷ t ∷ [])) (clause_of [] (flip t ∷ yes b ∷ []))
-    (clause_there vars [] (flip (yes b) ∷ t ∷ []) tt ((from, to), (w, tt))) (clause_there vars [] (flip t ∷ yes b ∷ []) tt (flip_within vars t w, ((from, to), tt)))
+    (clause_there vars [] (flip (yes b) ∷ t ∷ []) tt ((from, to), (w, tt))) (clause_there vars [] (flip t ∷ yes b ∷ []) tt
+    (flip_within vars t w, ((from, to), tt)))
 
 -- a block of bound variables that tell the value
 pub set_bound : (v : Assignment) (last cap n : ℕ) → IsExact (patch (last + 1) cap (λ k. nat_le (k + 1) n) v) last cap n
 set_bound v last cap n k from to =
     let place : last + k ≡ last + 1 + (k - 1) = omega arith in
     let back : k - 1 + 1 ≡ k = omega arith in
-    ap (patch (last + 1) cap (λ k. nat_le (k + 1) n) v) place ∙ patch_at (last + 1) cap (λ k. nat_le (k + 1) n) v (k - 1) (omega arith) ∙ ap (λ j. nat_le j n) back
+    ap (patch (last + 1) cap (λ k. nat_le (k + 1) n) v) place ∙ patch_at (last + 1) cap (λ k. nat_le (k + 1) n) v (k - 1) (omega arith)
+    ∙ ap (λ j. nat_le j n) back
 
 -- A BOUND BY A SUM
 abbrev pub bound_outputs : SumVars → ℕ → ℕ → Clauses
 bound_outputs s last k = same_as (last + k) (sum_at_least s k)
 
-pub sum_bound_means : (v : Assignment) (inputs : List Literal) (last cap vars : ℕ) → SatisfiesAll v (sum_bound (sum_vars inputs cap vars) last) → IsExact v last cap (count_true v inputs)
+pub sum_bound_means : (v : Assignment) (inputs : List Literal) (last cap vars : ℕ) → SatisfiesAll v (sum_bound (sum_vars inputs cap vars) last) →
+    IsExact v last cap (count_true v inputs)
 sum_bound_means v inputs last cap vars h k from to =
     let s = sum_vars inputs cap vars in
     let bounds = each (bound_outputs s last) 1 cap in
-    same_as_means v (last + k) (sum_at_least s k) (satisfies_at v (bound_outputs s last) 1 cap (satisfies_right v (sum_clauses s) bounds h) k from (omega arith))
+    same_as_means v (last + k) (sum_at_least s k) (satisfies_at v (bound_outputs s last) 1 cap (satisfies_right v (sum_clauses s) bounds h) k from
+    (omega arith))
     ∙ sum_means v cap vars inputs (satisfies_left v (sum_clauses s) bounds h) k to
 
 pub count_same : (v w : Assignment) (vars : ℕ) (ls : List Literal) → AreThere vars ls → ((y : ℕ) → y ≤ vars → w y ≡ v y) → count_true w ls ≡ count_true v ls
@@ -81,7 +87,9 @@ count_same v w vars (l ∷ ls) there e =
     omega (arith, one, count_same v w vars ls there.1 e)
 
 -- the sum's variables can be set where the bound's variables are as it will say
-pub sum_bound_extends : (v : Assignment) (inputs : List Literal) (last cap vars : ℕ) → AreThere vars inputs → last + cap ≤ vars → IsExact v last cap (count_true v inputs) → Extends (vars + 1) (sum_count (sum_vars inputs cap vars)) v (λ w. SatisfiesAll w (sum_bound (sum_vars inputs cap vars) last))
+pub sum_bound_extends : (v : Assignment) (inputs : List Literal) (last cap vars : ℕ) → AreThere vars inputs → last + cap ≤ vars →
+    IsExact v last cap (count_true v inputs) → Extends (vars + 1) (sum_count (sum_vars inputs cap vars)) v
+    (λ w. SatisfiesAll w (sum_bound (sum_vars inputs cap vars) last))
 sum_bound_extends v inputs last cap vars there le exact =
     let s = sum_vars inputs cap vars in
     let bounds = each (bound_outputs s last) 1 cap in
@@ -91,17 +99,20 @@ sum_bound_extends v inputs last cap vars there le exact =
     ∙ ap (nat_le k) (sym (count_same v w vars inputs there (λ y low. later.below y (omega arith)))) ∙ sym (sum_means w cap vars inputs h k (omega arith))))))
     (sum_extends v cap vars inputs there)
 
-pub output_within : (inputs : List Literal) (most vars k : ℕ) → AreThere vars inputs → IsWithin (vars + sum_count (sum_vars inputs most vars)) (sum_at_least (sum_vars inputs most vars) k)
+pub output_within : (inputs : List Literal) (most vars k : ℕ) → AreThere vars inputs →
+    IsWithin (vars + sum_count (sum_vars inputs most vars)) (sum_at_least (sum_vars inputs most vars) k)
 output_within inputs most vars k there =
     let t = tree_of (length inputs) inputs in
     at_within (vars + sum_count (sum_vars inputs most vars)) (tree_top most vars t) k (top_there most vars t (tree_there vars (length inputs) inputs there))
 
-pub sum_bound_there : (inputs : List Literal) (last cap vars : ℕ) → AreThere vars inputs → last + cap ≤ vars → AllThere (vars + sum_count (sum_vars inputs cap vars)) (sum_bound (sum_vars inputs cap vars) last)
+pub sum_bound_there : (inputs : List Literal) (last cap vars : ℕ) → AreThere vars inputs → last + cap ≤ vars →
+    AllThere (vars + sum_count (sum_vars inputs cap vars)) (sum_bound (sum_vars inputs cap vars) last)
 sum_bound_there inputs last cap vars there le =
     let s = sum_vars inputs cap vars in
     let all = vars + sum_count s in
     all_there_append all (sum_clauses s) (each (bound_outputs s last) 1 cap) (sum_there cap vars inputs there)
-    (all_there_each all (bound_outputs s last) 1 cap (λ k from to. same_as_there all (last + k) (sum_at_least s k) (omega arith) (omega arith) (output_within inputs cap vars k there)))
+    (all_there_each all (bound_outputs s last) 1 cap (λ k from to. same_as_there all (last + k) (sum_at_least s k) (omega arith) (omega arith)
+    (output_within inputs cap vars k there)))
 
 -- ALL EDGES, FROM WEST TO EAST
 pub record AreEdges (g : Graph) (edges : List ℕ) : Type 0 where
@@ -141,17 +152,20 @@ pub all_edges : (g : Graph) → AreEdges g (west_first g)
 all_edges g = record { there = first_there g (length g.edges); sums = first_sums g (length g.edges) }
 
 -- a sum over edges by number is one over their lines
-sum_places : (f : List Point → ℕ) (h : ℕ → ℕ) (lines : List (List Point)) (a : ℕ) → ((i : ℕ) → i < length lines → h (a + i) ≡ f (get_or lines i [])) → sum_by h (range_with_len a (length lines)) ≡ sum_by f lines
+sum_places : (f : List Point → ℕ) (h : ℕ → ℕ) (lines : List (List Point)) (a : ℕ) → ((i : ℕ) → i < length lines → h (a + i) ≡ f (get_or lines i [])) →
+    sum_by h (range_with_len a (length lines)) ≡ sum_by f lines
 sum_places f h [] a e = refl
 sum_places f h (l ∷ lines) a e =
     let z : h a ≡ h (a + 0) = (let y : a ≡ a + 0 = omega arith in ap h y) in
     let here : h a ≡ f l = z ∙ e 0 (omega arith) in
     let one = sum_by-cons h a (range_with_len (a + 1) (length lines)) in
     let two = sum_by-cons f l lines in
-    let rest = sum_places f h lines (a + 1) (λ i lt. let s : h (a + 1 + i) ≡ h (a + suc i) = (let y : a + 1 + i ≡ a + suc i = omega arith in ap h y) in s ∙ e (suc i) (omega arith)) in
+    let rest = sum_places f h lines (a + 1) (λ i lt. let s : h (a + 1 + i) ≡ h (a + suc i) = (let y : a + 1 + i ≡ a + suc i = omega arith in ap h y) in s
+    ∙ e (suc i) (omega arith)) in
     omega (arith, here, one, two, rest)
 
-pub sum_over_lines : (g : Graph) (f : List Point → ℕ) (lines : List (List Point)) (edges : List ℕ) → length lines ≡ length g.edges → AreEdges g edges → sum_by (λ e. f (get_or lines e [])) edges ≡ sum_by f lines
+pub sum_over_lines : (g : Graph) (f : List Point → ℕ) (lines : List (List Point)) (edges : List ℕ) → length lines ≡ length g.edges → AreEdges g edges →
+    sum_by (λ e. f (get_or lines e [])) edges ≡ sum_by f lines
 sum_over_lines g f lines edges same are =
     are.sums (λ e. f (get_or lines e []))
     ∙ ap (λ n. sum_by (λ e. f (get_or lines e [])) (range_with_len 0 n)) (sym same)

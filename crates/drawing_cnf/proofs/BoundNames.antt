@@ -1,5 +1,6 @@
 -- Each variable of a bound stands in one of the bound's clauses.
-use Rattle.std.proofs.Common.{◌≡◌, ◌≢◌, ◌⊎◌, ℕ, zero, suc, ◌+◌, ◌-◌, ◌≤◌, ◌<◌, Bool, true, false, List, [], ◌∷◌, ◌++◌, length, take, drop, inl, inr, refl, sym, ◌∙◌, ap, subst, arith}
+use Rattle.std.proofs.Common.{◌≡◌, ◌≢◌, ◌⊎◌, ℕ, zero, suc, ◌+◌, ◌-◌, ◌≤◌, ◌<◌, Bool, true, false, List, [], ◌∷◌, ◌++◌, length, take, drop, inl, inr, refl, sym}
+use Rattle.std.proofs.Common.{◌∙◌, ap, subst, arith}
 use Rattle.std.specs.Prelude.{⊤, Contains, nat_le, nat_lt, min, cond, All, ◌/◌}
 use Rattle.std.proofs.lemmas.Bool.Decides.{nat_tests}
 use Rattle.std.proofs.lemmas.List.Elements.{All-head, All-tail, Contains-append_left, Contains-append_right}
@@ -24,7 +25,9 @@ use Rattle.unary_sum.specs.Part.{part_at_least, block, part_outputs}
 use Rattle.unary_sum.specs.Sum.{SumVars, sum_count, sum_clauses, sum_outputs, sum_at_least, sum_tree, tree_top, tree_of, tree_count, tree_size}
 use Rattle.cnf_laws.specs.Stands.{DrawingVars}
 use Rattle.cnf_laws.specs.Expected.{drawing_vars, laws_first}
-use Rattle.drawing_cnf.specs.Bounds.{same_as, sum_bound, west_first, bends_sum, some_height_clause, edge_height_gives, height_at, height_lits, gives_bound, some_column_clause, column_gives, width_at, step_lits, steps_sum, edges_steps, edges_outputs, edge_most, diagonal_sum, bound_clauses}
+use Rattle.drawing_cnf.specs.Bounds.{same_as, sum_bound, west_first, bends_sum, some_height_clause, edge_height_gives, height_at, height_lits, gives_bound}
+use Rattle.drawing_cnf.specs.Bounds.{some_column_clause, column_gives, width_at, step_lits, steps_sum, edges_steps, edges_outputs, edge_most, diagonal_sum}
+use Rattle.drawing_cnf.specs.Bounds.{bound_clauses}
 use Rattle.drawing_cnf.proofs.BoundLemmas.{bound_outputs, all_edges}
 use Rattle.cnf_laws.proofs.BaseLemmas.{base_last, base_vars}
 use Rattle.cnf_laws.proofs.ThereLemmas.{AreVars}
@@ -53,13 +56,25 @@ among_each f first (suc n) k c from to h = elim (nat_cases first k) [
     nat_cases (suc i) (suc j) = elim (nat_cases i j) [ inl e ↦ inl (ap suc e) | inr n ↦ inr (λ e. n (omega arith)) ]
 
 named_each : (f : ℕ → Clauses) (first n k x : ℕ) → first ≤ k → k < first + n → IsNamed (f k) x → IsNamed (each f first n) x
-named_each f first n k x from to h = record { clause = h.clause; among = among_each f first n k h.clause from to h.among; lit = h.lit; inside = h.inside; var = h.var }
+named_each f first n k x from to h = record {
+  clause = h.clause;
+  among = among_each f first n k h.clause from to h.among;
+  lit = h.lit;
+  inside = h.inside;
+  var = h.var;
+}
 
 first_of_two : (k l : Literal) → IsNamed ((k ∷ l ∷ []) ∷ []) k.var
 first_of_two k l = record { clause = k ∷ l ∷ []; among = Contains-head (k ∷ l ∷ []) []; lit = k; inside = Contains-head k (l ∷ []); var = refl }
 
 second_of_two : (k l : Literal) → IsNamed ((k ∷ l ∷ []) ∷ []) l.var
-second_of_two k l = record { clause = k ∷ l ∷ []; among = Contains-head (k ∷ l ∷ []) []; lit = l; inside = Contains-tail k (l ∷ []) l (Contains-head l []); var = refl }
+second_of_two k l = record {
+  clause = k ∷ l ∷ [];
+  among = Contains-head (k ∷ l ∷ []) [];
+  lit = l;
+  inside = Contains-tail k (l ∷ []) l (Contains-head l []);
+  var = refl;
+}
 
 alone : (l : Literal) → IsNamed ((l ∷ []) ∷ []) l.var
 alone l = record { clause = l ∷ []; among = Contains-head (l ∷ []) []; lit = l; inside = Contains-head l []; var = refl }
@@ -90,7 +105,8 @@ outputs_other first count b (suc k) lt = cases (nat_lt k count)
     cases true = λ e. omega arith
     cases false = tt
 
-tree_other : (most vars b k depth : ℕ) (ls : List Literal) → b ≤ vars → length ls ≤ 1 + depth → Avoids b ls → IsOther b (part_at_least (tree_top most vars (tree_of depth ls)) k)
+tree_other : (most vars b k depth : ℕ) (ls : List Literal) → b ≤ vars → length ls ≤ 1 + depth → Avoids b ls →
+    IsOther b (part_at_least (tree_top most vars (tree_of depth ls)) k)
 tree_other most vars b k depth [] le deep h = outputs_other (vars + 1) 0 b k (omega arith)
 tree_other most vars b zero depth (l ∷ []) le deep h = tt
 tree_other most vars b (suc zero) depth (l ∷ []) le deep h = h.0
@@ -126,7 +142,8 @@ pub block_avoids : (b first count : ℕ) → b < first → Avoids b (block first
 block_avoids b first zero lt = tt
 block_avoids b first (suc count) lt = ((λ e. omega arith), block_avoids b (first + 1) count (omega arith))
 
-top_avoids : (most vars b depth : ℕ) (ls : List Literal) → b ≤ vars → length ls ≤ 1 + depth → Avoids b ls → Avoids b (part_outputs (tree_top most vars (tree_of depth ls)))
+top_avoids : (most vars b depth : ℕ) (ls : List Literal) → b ≤ vars → length ls ≤ 1 + depth → Avoids b ls →
+    Avoids b (part_outputs (tree_top most vars (tree_of depth ls)))
 top_avoids most vars b depth [] le deep h = tt
 top_avoids most vars b depth (l ∷ []) le deep h = h
 top_avoids most vars b zero (l ∷ m ∷ ls) le deep h = absurd (omega arith)
@@ -136,12 +153,14 @@ top_avoids most vars b (suc depth) (l ∷ m ∷ ls) le deep h =
     let right = tree_of depth (drop (length all / 2) all) in
     block_avoids b (vars + (tree_count most left + tree_count most right) + 1) (min (tree_size most left + tree_size most right) most) (omega arith)
 
-outputs_avoid : (b low vars : ℕ) (g : Graph) (x : DrawingVars) (width most : ℕ) (es : List ℕ) → AreVars low g x width → low < b → b ≤ vars → All (λ e. e < length g.edges) es → Avoids b (edges_outputs x width most vars es)
+outputs_avoid : (b low vars : ℕ) (g : Graph) (x : DrawingVars) (width most : ℕ) (es : List ℕ) → AreVars low g x width → low < b → b ≤ vars →
+    All (λ e. e < length g.edges) es → Avoids b (edges_outputs x width most vars es)
 outputs_avoid b low vars g x width most [] a lt le there = tt
 outputs_avoid b low vars g x width most (e ∷ es) a lt le there =
     let s = steps_sum (x.edge e) width most vars in
     let next = vars + sum_count s in
-    let own = there_avoids low b (step_lits (x.edge e) 0 width) lt (steps_there low (x.edge e) width 0 width (a.edge e (All-head (λ e. e < length g.edges) e es there)) (omega arith)) in
+    let own = there_avoids low b (step_lits (x.edge e) 0 width) lt (steps_there low (x.edge e) width 0 width
+    (a.edge e (All-head (λ e. e < length g.edges) e es there)) (omega arith)) in
     avoids_append b (sum_outputs s) (edges_outputs x width most next es)
     (avoids_take b most (part_outputs (tree_top most vars (sum_tree s))) (top_avoids most vars b (length s.inputs) s.inputs le (omega arith) own))
     (outputs_avoid b low next g x width most es a lt (omega arith) (All-tail (λ e. e < length g.edges) e es there))
@@ -150,9 +169,17 @@ outputs_avoid b low vars g x width most (e ∷ es) a lt le there =
 long_named : (heights : List Literal) (b : ℕ) → IsNamed ((heights ++ negative_of b ∷ []) ∷ []) b
 long_named heights b =
     let c = heights ++ negative_of b ∷ [] in
-    record { clause = c; among = Contains-head c []; lit = negative_of b; inside = Contains-append_right heights (negative_of b ∷ []) (negative_of b) (Contains-head (negative_of b) []); var = refl }
+    record {
+      clause = c;
+      among = Contains-head c [];
+      lit = negative_of b;
+      inside = Contains-append_right heights (negative_of b ∷ []) (negative_of b)
+          (Contains-head (negative_of b) []);
+      var = refl;
+    }
 
-height_named : (g : Graph) (grid : GridSize) (last cap k : ℕ) → laws_first g grid ≤ last + 1 → cap ≤ grid.height → 1 ≤ k → k ≤ cap → IsNamed (bound_clauses g (drawing_vars g grid) grid last cap Height) (last + k)
+height_named : (g : Graph) (grid : GridSize) (last cap k : ℕ) → laws_first g grid ≤ last + 1 → cap ≤ grid.height → 1 ≤ k → k ≤ cap →
+    IsNamed (bound_clauses g (drawing_vars g grid) grid last cap Height) (last + k)
 height_named g grid last cap k there most from to =
     let x = drawing_vars g grid in
     let b = last + k in
@@ -161,21 +188,25 @@ height_named g grid last cap k there most from to =
     (behind (each (edge_height_gives g x grid.width b k) 0 m) (some_height_clause x grid.width m b k) b
     (subst (λ (cs : Clauses). IsNamed cs b) (sym (long_is g grid b k from (omega arith) (omega arith))) (long_named (height_lits x grid.width k 0 m) b)))
 
-bends_named : (g : Graph) (grid : GridSize) (last cap k : ℕ) → IsGrid grid → laws_first g grid ≤ last + 1 → last ≤ VARS → 1 ≤ k → k ≤ cap → IsNamed (bound_clauses g (drawing_vars g grid) grid last cap Bends) (last + k)
+bends_named : (g : Graph) (grid : GridSize) (last cap k : ℕ) → IsGrid grid → laws_first g grid ≤ last + 1 → last ≤ VARS → 1 ≤ k → k ≤ cap →
+    IsNamed (bound_clauses g (drawing_vars g grid) grid last cap Bends) (last + k)
 bends_named g grid last cap k is there limit from to =
     let x = drawing_vars g grid in
     let s = bends_sum x (west_first g) last cap in
     sum_bound_named s last k from to (omega arith)
-    (there_avoids last (last + k) s.inputs (omega arith) (bends_lits_there (base_last g grid) g x grid.width (west_first g) last (omega arith) (all_edges g) (base_vars g grid is (omega arith))))
+    (there_avoids last (last + k) s.inputs (omega arith) (bends_lits_there (base_last g grid) g x grid.width (west_first g) last (omega arith) (all_edges g)
+    (base_vars g grid is (omega arith))))
 
-diagonal_named : (g : Graph) (grid : GridSize) (last cap k : ℕ) → IsGrid grid → laws_first g grid ≤ last + 1 → last ≤ VARS → 1 ≤ k → k ≤ cap → IsNamed (bound_clauses g (drawing_vars g grid) grid last cap Diagonal) (last + k)
+diagonal_named : (g : Graph) (grid : GridSize) (last cap k : ℕ) → IsGrid grid → laws_first g grid ≤ last + 1 → last ≤ VARS → 1 ≤ k → k ≤ cap →
+    IsNamed (bound_clauses g (drawing_vars g grid) grid last cap Diagonal) (last + k)
 diagonal_named g grid last cap k is there limit from to =
     let x = drawing_vars g grid in
     let most = edge_most grid cap in
     let s = diagonal_sum x grid (west_first g) last cap in
     behind (edges_steps x grid.width most (last + cap) (west_first g)) (sum_bound s last) (last + k)
     (sum_bound_named s last k from to (omega arith)
-    (outputs_avoid (last + k) (base_last g grid) (last + cap) g x grid.width most (west_first g) (base_vars g grid is (omega arith)) (omega arith) (omega arith) (all_edges g).there))
+    (outputs_avoid (last + k) (base_last g grid) (last + cap) g x grid.width most (west_first g) (base_vars g grid is (omega arith)) (omega arith) (omega arith)
+    (all_edges g).there))
 
 -- a node's column that is at least k gives the variable
 gives_named : (i : IntVars) (b k : ℕ) → i.low < k → k ≤ i.high → i.first + size i ≤ b → IsNamed (gives_bound i b k) b
@@ -187,13 +218,15 @@ gives_named i b k low high le =
     subst (λ (t : LitOrTruth). IsNamed (clause_of [] (flip t ∷ yes b ∷ [])) b) (sym is)
     (subst (λ (cs : Clauses). IsNamed cs b) (sym (two_is (negative_of v) (positive_of b) (λ e. omega arith))) (second_of_two (negative_of v) (positive_of b)))
 
-columns_named : (x : DrawingVars) (b k n : ℕ) → (0 < n → IsNamed (column_gives x b k 0) b) → IsNamed (each (column_gives x b k) 0 n ++ some_column_clause x n b k) b
+columns_named : (x : DrawingVars) (b k n : ℕ) → (0 < n → IsNamed (column_gives x b k 0) b) →
+    IsNamed (each (column_gives x b k) 0 n ++ some_column_clause x n b k) b
 columns_named x b k zero h = alone (negative_of b)
 columns_named x b k (suc n) h =
     in_front (each (column_gives x b k) 0 (suc n)) (some_column_clause x (suc n) b k) b
     (in_front (column_gives x b k 0) (each (column_gives x b k) 1 n) b (h (omega arith)))
 
-width_named : (g : Graph) (grid : GridSize) (last cap k : ℕ) → IsGrid grid → laws_first g grid ≤ last + 1 → last ≤ VARS → cap ≤ grid.width → 1 ≤ k → k ≤ cap → IsNamed (bound_clauses g (drawing_vars g grid) grid last cap Width) (last + k)
+width_named : (g : Graph) (grid : GridSize) (last cap k : ℕ) → IsGrid grid → laws_first g grid ≤ last + 1 → last ≤ VARS → cap ≤ grid.width → 1 ≤ k → k ≤ cap →
+    IsNamed (bound_clauses g (drawing_vars g grid) grid last cap Width) (last + k)
 width_named g grid last cap k is there limit most from to =
     let x = drawing_vars g grid in
     let b = last + k in
@@ -201,7 +234,8 @@ width_named g grid last cap k is there limit most from to =
     named_each (λ j. width_at g x (last + j) j) 1 cap k b from (omega arith)
     (columns_named x b k (length g.nodes) (λ some. let i = (a.node_x 0 some).to in gives_named (x.node 0).x b k (omega arith) (omega arith) (omega arith)))
 
-pub bound_named : (g : Graph) (grid : GridSize) (last cap : ℕ) (c : Criterion) (k : ℕ) → IsGrid grid → laws_first g grid ≤ last + 1 → last ≤ VARS → cap ≤ limit_of g grid c → 1 ≤ k → k ≤ cap → IsNamed (bound_clauses g (drawing_vars g grid) grid last cap c) (last + k)
+pub bound_named : (g : Graph) (grid : GridSize) (last cap : ℕ) (c : Criterion) (k : ℕ) → IsGrid grid → laws_first g grid ≤ last + 1 → last ≤ VARS →
+    cap ≤ limit_of g grid c → 1 ≤ k → k ≤ cap → IsNamed (bound_clauses g (drawing_vars g grid) grid last cap c) (last + k)
 bound_named g grid last cap Height k is there limit most from to = height_named g grid last cap k there most from to
 bound_named g grid last cap Bends k is there limit most from to = bends_named g grid last cap k is there limit from to
 bound_named g grid last cap Diagonal k is there limit most from to = diagonal_named g grid last cap k is there limit from to

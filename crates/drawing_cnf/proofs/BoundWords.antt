@@ -1,5 +1,6 @@
 -- How many words and variables a criterion's bound has at most.
-use Rattle.std.proofs.Common.{◌≡◌, ℕ, zero, suc, ◌+◌, ◌-◌, ◌*◌, ◌≤◌, Bool, true, false, List, [], ◌∷◌, ◌++◌, length, refl, subst, arith, length-append, length-take}
+use Rattle.std.proofs.Common.{◌≡◌, ℕ, zero, suc, ◌+◌, ◌-◌, ◌*◌, ◌≤◌, Bool, true, false, List, [], ◌∷◌, ◌++◌, length, refl, subst, arith, length-append}
+use Rattle.std.proofs.Common.{length-take}
 use Rattle.std.specs.Prelude.{nat_le, cond}
 use Rattle.std.proofs.Math.Nat.{mul-le-mul_left, mul-le-mul_right}
 use Rattle.plan_core.specs.declared.criterion.Criterion.{Criterion}
@@ -22,7 +23,10 @@ use Rattle.unary_sum.proofs.OutputLemmas.{length-outputs}
 use Rattle.edge_shape.specs.EdgeVars.{EdgeLits}
 use Rattle.cnf_laws.specs.Stands.{DrawingVars}
 use Rattle.cnf_laws.specs.Expected.{parts}
-use Rattle.drawing_cnf.specs.Bounds.{same_as, sum_bound, west_first, bend_lits, bends_sum, column_heights, all_heights, some_height_clause, gives_bound, height_gives, beside_clause, height_beside, edge_height_gives, height_at, height_bound, node_columns, some_column_clause, column_gives, width_at, width_bound, step_lits, steps_sum, gives_output, slope_outputs, end_outputs, steps_beside, edge_steps, edges_steps, edges_outputs, edges_count, edge_most, diagonal_sum, bound_clauses, bound_size}
+use Rattle.drawing_cnf.specs.Bounds.{same_as, sum_bound, west_first, bend_lits, bends_sum, column_heights, all_heights, some_height_clause, gives_bound}
+use Rattle.drawing_cnf.specs.Bounds.{height_gives, beside_clause, height_beside, edge_height_gives, height_at, height_bound, node_columns, some_column_clause}
+use Rattle.drawing_cnf.specs.Bounds.{column_gives, width_at, width_bound, step_lits, steps_sum, gives_output, slope_outputs, end_outputs, steps_beside}
+use Rattle.drawing_cnf.specs.Bounds.{edge_steps, edges_steps, edges_outputs, edges_count, edge_most, diagonal_sum, bound_clauses, bound_size}
 use Rattle.drawing_cnf.proofs.BoundLemmas.{bound_outputs, edges_length}
 
 -- SUMS
@@ -87,22 +91,32 @@ within_cap times width most cap le = mul-le-mul_left (times * (2 * width + 1)) (
 edge_words : (e : EdgeLits) (width most vars cap : ℕ) → most ≤ cap → words_of (edge_steps e (steps_sum e width most vars)) ≤ edge_limit 100 width cap + 26
 edge_words e width most vars cap le =
     let s = steps_sum e width most vars in
-    let own : words_of (sum_clauses s) ≤ edge_limit 100 width most = subst (λ n. words_of (sum_clauses s) ≤ 100 * (n + 1) * (most + 2)) (steps_inputs_length e 0 width) (sum_words most vars s.inputs) in
+    let own : words_of (sum_clauses s) ≤ edge_limit 100 width most = subst (λ n. words_of (sum_clauses s) ≤ 100 * (n + 1) * (most + 2))
+    (steps_inputs_length e 0 width) (sum_words most vars s.inputs) in
     omega (arith, words_append (sum_clauses s) (steps_beside e s), own, within_cap 100 width most cap le, beside_words e s)
 
-steps_words : (x : DrawingVars) (width most vars cap : ℕ) (es : List ℕ) → most ≤ cap → words_of (edges_steps x width most vars es) ≤ length es * (edge_limit 100 width cap + 26)
+steps_words : (x : DrawingVars) (width most vars cap : ℕ) (es : List ℕ) → most ≤ cap →
+    words_of (edges_steps x width most vars es) ≤ length es * (edge_limit 100 width cap + 26)
 steps_words x width most vars cap [] le = omega arith
 steps_words x width most vars cap (e ∷ es) le =
     let s = steps_sum (x.edge e) width most vars in
     let next = vars + sum_count s in
     let one : suc (length es) * (edge_limit 100 width cap + 26) ≡ edge_limit 100 width cap + 26 + length es * (edge_limit 100 width cap + 26) = omega arith in
-    omega (arith, one, words_append (edge_steps (x.edge e) s) (edges_steps x width most next es), edge_words (x.edge e) width most vars cap le, steps_words x width most next cap es le)
+    omega (
+      arith,
+      one,
+      words_append (edge_steps (x.edge e) s) (edges_steps x width most next es),
+      edge_words (x.edge e) width most vars cap le,
+      steps_words x
+          width most next cap es le,
+    )
 
 steps_count : (x : DrawingVars) (width most vars cap : ℕ) (es : List ℕ) → most ≤ cap → edges_count x width most vars es ≤ length es * edge_limit 10 width cap
 steps_count x width most vars cap [] le = omega arith
 steps_count x width most vars cap (e ∷ es) le =
     let s = steps_sum (x.edge e) width most vars in
-    let own : sum_count s ≤ edge_limit 10 width most = subst (λ n. sum_count s ≤ 10 * (n + 1) * (most + 2)) (steps_inputs_length (x.edge e) 0 width) (count_few most s.inputs) in
+    let own : sum_count s ≤ edge_limit 10 width most = subst (λ n. sum_count s ≤ 10 * (n + 1) * (most + 2)) (steps_inputs_length (x.edge e) 0 width)
+    (count_few most s.inputs) in
     let one : suc (length es) * edge_limit 10 width cap ≡ edge_limit 10 width cap + length es * edge_limit 10 width cap = omega arith in
     omega (arith, one, own, within_cap 10 width most cap le, steps_count x width most (vars + sum_count s) cap es le)
 
@@ -110,7 +124,14 @@ steps_count x width most vars cap (e ∷ es) le =
 outputs_length : (s : SumVars) → length (sum_outputs s) ≤ length s.inputs
 outputs_length s =
     let top = tree_top s.most s.vars (sum_tree s) in
-    omega (arith, length-take s.most (part_outputs top), length-outputs top, part_size-top s.most s.vars (sum_tree s), size_bound s.most (length s.inputs) s.inputs (omega arith))
+    omega (
+      arith,
+      length-take s.most (part_outputs top),
+      length-outputs top,
+      part_size-top s.most s.vars (sum_tree s),
+      size_bound s.most (length s.inputs)
+          s.inputs (omega arith),
+    )
 
 all_outputs_length : (x : DrawingVars) (width most vars : ℕ) (es : List ℕ) → length (edges_outputs x width most vars es) ≤ length es * (2 * width)
 all_outputs_length x width most vars [] = omega arith
@@ -118,7 +139,14 @@ all_outputs_length x width most vars (e ∷ es) =
     let s = steps_sum (x.edge e) width most vars in
     let next = vars + sum_count s in
     let one : suc (length es) * (2 * width) ≡ 2 * width + length es * (2 * width) = omega arith in
-    omega (arith, one, length-append (sum_outputs s) (edges_outputs x width most next es), outputs_length s, steps_inputs_length (x.edge e) 0 width, all_outputs_length x width most next es)
+    omega (
+      arith,
+      one,
+      length-append (sum_outputs s) (edges_outputs x width most next es),
+      outputs_length s,
+      steps_inputs_length (x.edge e) 0 width,
+      all_outputs_length x width most next es,
+    )
 
 -- PRODUCTS: m and n in p, and p at least 1
 -- of the parts, the columns and the cap
@@ -153,7 +181,13 @@ all_heights_length : (x : DrawingVars) (width k e n : ℕ) → length (all_heigh
 all_heights_length x width k e zero = omega arith
 all_heights_length x width k e (suc n) =
     let one : suc n * (width + 1) ≡ n * (width + 1) + (width + 1) = omega arith in
-    omega (arith, one, length-append (column_heights x k e 0 (width + 1)) (all_heights x width k (e + 1) n), heights_length x k e 0 (width + 1), all_heights_length x width k (e + 1) n)
+    omega (
+      arith,
+      one,
+      length-append (column_heights x k e 0 (width + 1)) (all_heights x width k (e + 1) n),
+      heights_length x k e 0 (width + 1),
+      all_heights_length x width k (e + 1) n,
+    )
 
 edge_gives_words : (g : Graph) (x : DrawingVars) (width b k e : ℕ) → words_of (edge_height_gives g x width b k e) ≤ (width + 1) * 5 + 12
 edge_gives_words g x width b k e =
@@ -198,7 +232,8 @@ width_at_words g x b k =
       columns_length x k 0 n,
     )
 
-height_words : (g : Graph) (x : DrawingVars) (width last cap : ℕ) → 1 ≤ parts g → words_of (height_bound g x width last cap) ≤ whole_limit 400 (parts g) width cap
+height_words : (g : Graph) (x : DrawingVars) (width last cap : ℕ) → 1 ≤ parts g →
+    words_of (height_bound g x width last cap) ≤ whole_limit 400 (parts g) width cap
 height_words g x width last cap some =
     let m = length g.edges in
     let f = factors m (parts g) width cap (omega arith) some in
@@ -206,7 +241,15 @@ height_words g x width last cap some =
     let columns = f.columns in
     let caps = f.caps in
     let one = f.one in
-    omega (arith, all, columns, caps, one, words_each (m * (6 * (width + 1) + 12) + 4) (λ k. height_at g x width (last + k) k) 1 cap (λ k from to. height_at_words g x width (last + k) k))
+    omega (
+      arith,
+      all,
+      columns,
+      caps,
+      one,
+      words_each (m * (6 * (width + 1) + 12) + 4) (λ k. height_at g x width (last + k) k) 1 cap
+          (λ k from to. height_at_words g x width (last + k) k),
+    )
 
 width_words : (g : Graph) (x : DrawingVars) (width last cap : ℕ) → 1 ≤ parts g → words_of (width_bound g x last cap) ≤ whole_limit 400 (parts g) width cap
 width_words g x width last cap some =
@@ -218,7 +261,8 @@ width_words g x width last cap some =
     let one = f.one in
     omega (arith, all, columns, caps, one, words_each (n * 6 + 4) (λ k. width_at g x (last + k) k) 1 cap (λ k from to. width_at_words g x (last + k) k))
 
-bends_words : (g : Graph) (x : DrawingVars) (width last cap : ℕ) → 1 ≤ parts g → words_of (sum_bound (bends_sum x (west_first g) last cap) last) ≤ whole_limit 400 (parts g) width cap
+bends_words : (g : Graph) (x : DrawingVars) (width last cap : ℕ) → 1 ≤ parts g →
+    words_of (sum_bound (bends_sum x (west_first g) last cap) last) ≤ whole_limit 400 (parts g) width cap
 bends_words g x width last cap some =
     let m = length g.edges in
     let s = bends_sum x (west_first g) last cap in
@@ -228,7 +272,8 @@ bends_words g x width last cap some =
     let caps = f.caps in
     let one = f.one in
     let inputs : length s.inputs ≡ 2 * m = omega (arith, bends_inputs_length x (west_first g), edges_length g) in
-    let own : words_of (sum_bound s last) ≤ 100 * (2 * m + 1) * (cap + 2) + cap * 10 = subst (λ n. words_of (sum_bound s last) ≤ 100 * (n + 1) * (cap + 2) + cap * 10) inputs (sum_bound_words s last) in
+    let own : words_of (sum_bound s last) ≤ 100 * (2 * m + 1) * (cap + 2) + cap * 10 = subst
+    (λ n. words_of (sum_bound s last) ≤ 100 * (n + 1) * (cap + 2) + cap * 10) inputs (sum_bound_words s last) in
     omega (arith, all, columns, caps, one, own)
 
 -- a sum of at most n inputs
@@ -237,7 +282,8 @@ top_limit times k n cap le =
     let one : times * (k + 1) ≤ times * (n + 1) = mul-le-mul_left times (omega arith) in
     mul-le-mul_right (cap + 2) one
 
-diagonal_words : (g : Graph) (x : DrawingVars) (grid : GridSize) (last cap : ℕ) → 1 ≤ parts g → words_of (bound_clauses g x grid last cap Diagonal) ≤ whole_limit 400 (parts g) grid.width cap
+diagonal_words : (g : Graph) (x : DrawingVars) (grid : GridSize) (last cap : ℕ) → 1 ≤ parts g →
+    words_of (bound_clauses g x grid last cap Diagonal) ≤ whole_limit 400 (parts g) grid.width cap
 diagonal_words g x grid last cap some =
     let m = length g.edges in
     let es = west_first g in
@@ -249,20 +295,24 @@ diagonal_words g x grid last cap some =
     let columns = f.columns in
     let caps = f.caps in
     let one = f.one in
-    let inputs : length s.inputs ≤ m * (2 * grid.width) = subst (λ n. length s.inputs ≤ n * (2 * grid.width)) (edges_length g) (all_outputs_length x grid.width most (last + cap) es) in
-    let edges : words_of steps ≤ m * (edge_limit 100 grid.width cap + 26) = subst (λ n. words_of steps ≤ n * (edge_limit 100 grid.width cap + 26)) (edges_length g) (steps_words x grid.width most (last + cap) cap es (omega arith)) in
+    let inputs : length s.inputs ≤ m * (2 * grid.width) = subst (λ n. length s.inputs ≤ n * (2 * grid.width)) (edges_length g)
+    (all_outputs_length x grid.width most (last + cap) es) in
+    let edges : words_of steps ≤ m * (edge_limit 100 grid.width cap + 26) = subst (λ n. words_of steps ≤ n * (edge_limit 100 grid.width cap + 26))
+    (edges_length g) (steps_words x grid.width most (last + cap) cap es (omega arith)) in
     let top = top_limit 100 (length s.inputs) (m * (2 * grid.width)) cap inputs in
     let own = sum_bound_words s last in
     omega (arith, all, columns, caps, one, words_append steps (sum_bound s last), edges, top, own)
 
-pub bound_words : (g : Graph) (x : DrawingVars) (grid : GridSize) (last cap : ℕ) (c : Criterion) → 1 ≤ parts g → words_of (bound_clauses g x grid last cap c) ≤ 400 * (parts g * (grid.width + 1) * (cap + 2))
+pub bound_words : (g : Graph) (x : DrawingVars) (grid : GridSize) (last cap : ℕ) (c : Criterion) → 1 ≤ parts g →
+    words_of (bound_clauses g x grid last cap c) ≤ 400 * (parts g * (grid.width + 1) * (cap + 2))
 bound_words g x grid last cap Height some = height_words g x grid.width last cap some
 bound_words g x grid last cap Bends some = bends_words g x grid.width last cap some
 bound_words g x grid last cap Diagonal some = diagonal_words g x grid last cap some
 bound_words g x grid last cap Width some = width_words g x grid.width last cap some
 
 -- VARIABLES
-bends_count : (g : Graph) (x : DrawingVars) (width last cap : ℕ) → 1 ≤ parts g → cap + sum_count (bends_sum x (west_first g) last cap) ≤ whole_limit 40 (parts g) width cap
+bends_count : (g : Graph) (x : DrawingVars) (width last cap : ℕ) → 1 ≤ parts g →
+    cap + sum_count (bends_sum x (west_first g) last cap) ≤ whole_limit 40 (parts g) width cap
 bends_count g x width last cap some =
     let m = length g.edges in
     let s = bends_sum x (west_first g) last cap in
@@ -275,7 +325,8 @@ bends_count g x width last cap some =
     let own : sum_count s ≤ 10 * (2 * m + 1) * (cap + 2) = subst (λ n. sum_count s ≤ 10 * (n + 1) * (cap + 2)) inputs (count_few cap s.inputs) in
     omega (arith, all, columns, caps, one, own)
 
-diagonal_count : (g : Graph) (x : DrawingVars) (grid : GridSize) (last cap : ℕ) → 1 ≤ parts g → bound_size g x grid last cap Diagonal ≤ whole_limit 40 (parts g) grid.width cap
+diagonal_count : (g : Graph) (x : DrawingVars) (grid : GridSize) (last cap : ℕ) → 1 ≤ parts g →
+    bound_size g x grid last cap Diagonal ≤ whole_limit 40 (parts g) grid.width cap
 diagonal_count g x grid last cap some =
     let m = length g.edges in
     let es = west_first g in
@@ -287,14 +338,19 @@ diagonal_count g x grid last cap some =
     let columns = f.columns in
     let caps = f.caps in
     let one = f.one in
-    let inputs : length s.inputs ≤ m * (2 * grid.width) = subst (λ n. length s.inputs ≤ n * (2 * grid.width)) (edges_length g) (all_outputs_length x grid.width most (last + cap) es) in
-    let edges : count ≤ m * edge_limit 10 grid.width cap = subst (λ n. count ≤ n * edge_limit 10 grid.width cap) (edges_length g) (steps_count x grid.width most (last + cap) cap es (omega arith)) in
+    let inputs : length s.inputs ≤ m * (2 * grid.width) = subst (λ n. length s.inputs ≤ n * (2 * grid.width)) (edges_length g)
+    (all_outputs_length x grid.width most (last + cap) es) in
+    let edges : count ≤ m * edge_limit 10 grid.width cap = subst (λ n. count ≤ n * edge_limit 10 grid.width cap) (edges_length g)
+    (steps_count x grid.width most (last + cap) cap es (omega arith)) in
     let top = top_limit 10 (length s.inputs) (m * (2 * grid.width)) cap inputs in
     let own = count_few cap s.inputs in
     omega (arith, all, columns, caps, one, edges, top, own)
 
-pub bound_variables : (g : Graph) (x : DrawingVars) (grid : GridSize) (last cap : ℕ) (c : Criterion) → 1 ≤ parts g → bound_size g x grid last cap c ≤ 40 * (parts g * (grid.width + 1) * (cap + 2))
-bound_variables g x grid last cap Height some = let f = factors (length g.edges) (parts g) grid.width cap (omega arith) some in let one = f.one in omega (arith, one)
+pub bound_variables : (g : Graph) (x : DrawingVars) (grid : GridSize) (last cap : ℕ) (c : Criterion) → 1 ≤ parts g →
+    bound_size g x grid last cap c ≤ 40 * (parts g * (grid.width + 1) * (cap + 2))
+bound_variables g x grid last cap Height some = let f = factors (length g.edges) (parts g) grid.width cap (omega arith) some in let one = f.one in omega
+    (arith, one)
 bound_variables g x grid last cap Bends some = bends_count g x grid.width last cap some
 bound_variables g x grid last cap Diagonal some = diagonal_count g x grid last cap some
-bound_variables g x grid last cap Width some = let f = factors (length g.edges) (parts g) grid.width cap (omega arith) some in let one = f.one in omega (arith, one)
+bound_variables g x grid last cap Width some = let f = factors (length g.edges) (parts g) grid.width cap (omega arith) some in let one = f.one in omega
+    (arith, one)

@@ -30,26 +30,31 @@ use Rattle.drawing_cnf.proofs.WidthBound.{width_exact, width_extends, width_ther
 use Rattle.drawing_cnf.proofs.DiagonalBound.{diagonal_exact, diagonal_extends, diagonal_there}
 
 -- ANY CRITERION
-pub bound_exact : (v : Assignment) (g : Graph) (x : DrawingVars) (grid : GridSize) (d : Drawing) (last cap : ℕ) (c : Criterion) → Read v g x grid d → SatisfiesAll v (bound_clauses g x grid last cap c) → IsExact v last cap (value_of (values_of d) c)
+pub bound_exact : (v : Assignment) (g : Graph) (x : DrawingVars) (grid : GridSize) (d : Drawing) (last cap : ℕ) (c : Criterion) → Read v g x grid d →
+    SatisfiesAll v (bound_clauses g x grid last cap c) → IsExact v last cap (value_of (values_of d) c)
 bound_exact v g x grid d last cap Height r h = height_exact v g x grid d last cap r h
 bound_exact v g x grid d last cap Bends r h = bends_exact v g x grid d (west_first g) last cap (all_edges g) r h
 bound_exact v g x grid d last cap Diagonal r h = diagonal_exact v g x grid d (west_first g) last cap (all_edges g) r h
 bound_exact v g x grid d last cap Width r h = width_exact v g x grid d last cap r h
 
-pub bound_extends : (v : Assignment) (vars : ℕ) (g : Graph) (x : DrawingVars) (grid : GridSize) (d : Drawing) (last cap : ℕ) (c : Criterion) → AreVars vars g x grid.width → vars ≤ last → Read v g x grid d → Extends (last + 1) (bound_size g x grid last cap c) v (λ w. SatisfiesAll w (bound_clauses g x grid last cap c))
+pub bound_extends : (v : Assignment) (vars : ℕ) (g : Graph) (x : DrawingVars) (grid : GridSize) (d : Drawing) (last cap : ℕ) (c : Criterion) →
+    AreVars vars g x grid.width → vars ≤ last → Read v g x grid d →
+    Extends (last + 1) (bound_size g x grid last cap c) v (λ w. SatisfiesAll w (bound_clauses g x grid last cap c))
 bound_extends v vars g x grid d last cap Height a le r = height_extends v vars g x grid d last cap a le r
 bound_extends v vars g x grid d last cap Bends a le r = bends_extend v vars g x grid d (west_first g) last cap (all_edges g) a le r
 bound_extends v vars g x grid d last cap Diagonal a le r = diagonal_extends v vars g x grid d (west_first g) last cap (all_edges g) a le r
 bound_extends v vars g x grid d last cap Width a le r = width_extends v vars g x grid d last cap a le r
 
-pub bound_there : (vars : ℕ) (g : Graph) (x : DrawingVars) (grid : GridSize) (last cap : ℕ) (c : Criterion) → IsTrackGraph g → AreVars vars g x grid.width → vars ≤ last → AllThere (last + bound_size g x grid last cap c) (bound_clauses g x grid last cap c)
+pub bound_there : (vars : ℕ) (g : Graph) (x : DrawingVars) (grid : GridSize) (last cap : ℕ) (c : Criterion) → IsTrackGraph g → AreVars vars g x grid.width →
+    vars ≤ last → AllThere (last + bound_size g x grid last cap c) (bound_clauses g x grid last cap c)
 bound_there vars g x grid last cap Height is a le = height_there vars g x grid.width last cap is a le
 bound_there vars g x grid last cap Bends is a le = bends_there vars g x grid.width (west_first g) last cap (all_edges g) a le
 bound_there vars g x grid last cap Diagonal is a le = diagonal_there vars g x grid (west_first g) last cap (all_edges g) a le
 bound_there vars g x grid last cap Width is a le = width_there vars g x grid.width last cap a le
 
 -- A LIST OF BOUNDS
-bounds_tell : (v : Assignment) (g : Graph) (x : DrawingVars) (grid : GridSize) (d : Drawing) (bounds : List Bound) → Read v g x grid d → SatisfiesAll v (bounds_clauses g x grid bounds) → Tells v (values_of d) bounds
+bounds_tell : (v : Assignment) (g : Graph) (x : DrawingVars) (grid : GridSize) (d : Drawing) (bounds : List Bound) → Read v g x grid d →
+    SatisfiesAll v (bounds_clauses g x grid bounds) → Tells v (values_of d) bounds
 bounds_tell v g x grid d [] r h = All-nil (λ (b : Bound). IsExact v b.last b.cap (value_of (values_of d) b.criterion))
 bounds_tell v g x grid d (b ∷ rest) r h =
     All-cons (λ (b : Bound). IsExact v b.last b.cap (value_of (values_of d) b.criterion)) b rest
@@ -62,26 +67,37 @@ pub record StillReads (v : Assignment) (g : Graph) (x : DrawingVars) (grid : Gri
   pub read : Read to g x grid d
   pub satisfies : SatisfiesAll to clauses
 
-one_behind : (v : Assignment) (g : Graph) (x : DrawingVars) (grid : GridSize) (d : Drawing) (clauses : Clauses) (b : Bound) (vars last : ℕ) → AreVars vars g x grid.width → vars ≤ last → last ≤ b.last → AllThere last clauses → Read v g x grid d → SatisfiesAll v clauses → StillReads v g x grid d (clauses ++ clauses_of_bound g x grid b)
+one_behind : (v : Assignment) (g : Graph) (x : DrawingVars) (grid : GridSize) (d : Drawing) (clauses : Clauses) (b : Bound) (vars last : ℕ) →
+    AreVars vars g x grid.width → vars ≤ last → last ≤ b.last → AllThere last clauses → Read v g x grid d → SatisfiesAll v clauses →
+    StillReads v g x grid d (clauses ++ clauses_of_bound g x grid b)
 one_behind v g x grid d clauses b vars last a le behind there r h =
-    let e : Extends (b.last + 1) (size_of_bound g x grid b) v (λ w. SatisfiesAll w (clauses_of_bound g x grid b)) = bound_extends v vars g x grid d b.last b.cap b.criterion a (omega arith) r in
+    let e : Extends (b.last + 1) (size_of_bound g x grid b) v (λ w. SatisfiesAll w (clauses_of_bound g x grid b)) = bound_extends v vars g x grid d b.last b.cap
+    b.criterion a (omega arith) r in
     record {
       to = e.to;
       read = read_stays v e.to vars g x grid d a (λ y low. e.same.below y (omega arith)) r;
-      satisfies = satisfies_append e.to clauses (clauses_of_bound g x grid b) (satisfies_all_same v e.to last clauses there (λ y low. e.same.below y (omega arith)) h) e.holds;
+      satisfies = satisfies_append e.to clauses (clauses_of_bound g x grid b) (satisfies_all_same v e.to last clauses there
+      (λ y low. e.same.below y (omega arith)) h) e.holds;
     }
 
-bounds_behind : (v : Assignment) (g : Graph) (x : DrawingVars) (grid : GridSize) (d : Drawing) (clauses : Clauses) (bounds : List Bound) (vars last : ℕ) → IsTrackGraph g → AreVars vars g x grid.width → vars ≤ last → AreBehind g x grid last bounds → AllThere last clauses → Read v g x grid d → SatisfiesAll v clauses → StillReads v g x grid d (clauses ++ bounds_clauses g x grid bounds)
-bounds_behind v g x grid d clauses [] vars last is a le behind there r h = record { to = v; read = r; satisfies = subst (λ (cs : Clauses). SatisfiesAll v cs) (sym (append-nil clauses)) h }
+bounds_behind : (v : Assignment) (g : Graph) (x : DrawingVars) (grid : GridSize) (d : Drawing) (clauses : Clauses) (bounds : List Bound) (vars last : ℕ) →
+    IsTrackGraph g → AreVars vars g x grid.width → vars ≤ last → AreBehind g x grid last bounds → AllThere last clauses → Read v g x grid d →
+    SatisfiesAll v clauses → StillReads v g x grid d (clauses ++ bounds_clauses g x grid bounds)
+bounds_behind v g x grid d clauses [] vars last is a le behind there r h = record {
+    to = v; read = r; satisfies = subst (λ (cs : Clauses). SatisfiesAll v cs) (sym (append-nil clauses)) h
+    }
 bounds_behind v g x grid d clauses (b ∷ rest) vars last is a le behind there r h =
     let low = behind.0 in
     let next = b.last + size_of_bound g x grid b in
     let one = clauses_of_bound g x grid b in
     let m = one_behind v g x grid d clauses b vars last a le low there r h in
     let k = bounds_behind m.to g x grid d (clauses ++ one) rest vars next is a (omega arith) behind.1
-    (all_there_append next clauses one (all_there_more last next clauses (omega arith) there) (bound_there vars g x grid b.last b.cap b.criterion is a (omega arith)))
+    (all_there_append next clauses one (all_there_more last next clauses (omega arith) there)
+    (bound_there vars g x grid b.last b.cap b.criterion is a (omega arith)))
     m.read m.satisfies in
-    record { to = k.to; read = k.read; satisfies = subst (λ (cs : Clauses). SatisfiesAll k.to cs) (append_assoc clauses one (bounds_clauses g x grid rest)) k.satisfies }
+    record {
+    to = k.to; read = k.read; satisfies = subst (λ (cs : Clauses). SatisfiesAll k.to cs) (append_assoc clauses one (bounds_clauses g x grid rest)) k.satisfies
+    }
 
 -- BEHIND THE FORMULA
 -- a model of the formula, whatever stands behind it, reads a lawful drawing
@@ -90,7 +106,8 @@ pub record ReadsLawful (v : Assignment) (g : Graph) (above : ℕ → ℕ → Boo
   pub read : Read v g (drawing_vars g grid) grid drawing
   pub lawful : Lawful g above grid drawing
 
-pub models_read : (v : Assignment) (g : Graph) (above : ℕ → ℕ → Bool) (grid : GridSize) (laws : List Instance) → IsTrackGraph g → IsGrid grid → ListsAll g above laws → SatisfiesAll v (expected_clauses g grid laws) → ReadsLawful v g above grid
+pub models_read : (v : Assignment) (g : Graph) (above : ℕ → ℕ → Bool) (grid : GridSize) (laws : List Instance) → IsTrackGraph g → IsGrid grid →
+    ListsAll g above laws → SatisfiesAll v (expected_clauses g grid laws) → ReadsLawful v g above grid
 models_read v g above grid laws is size l h =
     let x = drawing_vars g grid in
     let base = base_clauses g x grid in
@@ -103,7 +120,9 @@ models_read v g above grid laws is size l h =
       lawful = record { fits = b.loose.fits; laws = each_law v g above x grid b.drawing (laws_first g grid) laws l r (satisfies_right v base more h) };
     }
 
-pub sound_with : (g : Graph) (above : ℕ → ℕ → Bool) (grid : GridSize) (laws : List Instance) (bounds : List Bound) → IsTrackGraph g → IsGrid grid → ListsAll g above laws → SoundWith g above grid (drawing_vars g grid) (expected_clauses g grid laws ++ bounds_clauses g (drawing_vars g grid) grid bounds) bounds
+pub sound_with : (g : Graph) (above : ℕ → ℕ → Bool) (grid : GridSize) (laws : List Instance) (bounds : List Bound) → IsTrackGraph g → IsGrid grid →
+    ListsAll g above laws → SoundWith g above grid (drawing_vars g grid) (expected_clauses g grid laws ++ bounds_clauses g (drawing_vars g grid) grid bounds)
+    bounds
 sound_with g above grid laws bounds is size l v h =
     let x = drawing_vars g grid in
     let all = expected_clauses g grid laws in
@@ -115,7 +134,8 @@ sound_with g above grid laws bounds is size l v h =
       tells = bounds_tell v g x grid m.drawing bounds m.read (satisfies_right v all (bounds_clauses g x grid bounds) h);
     }
 
-pub expected_there : (g : Graph) (above : ℕ → ℕ → Bool) (grid : GridSize) (laws : List Instance) → IsTrackGraph g → IsGrid grid → laws_first g grid ≤ VARS + 1 → AreInstances g above laws → AllThere (expected_size g grid laws) (expected_clauses g grid laws)
+pub expected_there : (g : Graph) (above : ℕ → ℕ → Bool) (grid : GridSize) (laws : List Instance) → IsTrackGraph g → IsGrid grid → laws_first g grid ≤ VARS + 1 →
+    AreInstances g above laws → AllThere (expected_size g grid laws) (expected_clauses g grid laws)
 expected_there g above grid laws is size few are =
     let x = drawing_vars g grid in
     let last = expected_size g grid laws in
@@ -123,22 +143,29 @@ expected_there g above grid laws is size few are =
     (all_there_more (base_last g grid) last (base_clauses g x grid) (omega arith) (base_there g grid is size few))
     (laws_there (base_last g grid) last g above x grid (laws_first g grid) laws is (base_vars g grid size few) (omega arith) are (omega arith))
 
-pub covers_with : (g : Graph) (above : ℕ → ℕ → Bool) (grid : GridSize) (laws : List Instance) (bounds : List Bound) → IsTrackGraph g → IsGrid grid → laws_first g grid ≤ VARS + 1 → AreInstances g above laws → AreBehind g (drawing_vars g grid) grid (expected_size g grid laws) bounds → Covers g above grid (drawing_vars g grid) (expected_clauses g grid laws ++ bounds_clauses g (drawing_vars g grid) grid bounds)
+pub covers_with : (g : Graph) (above : ℕ → ℕ → Bool) (grid : GridSize) (laws : List Instance) (bounds : List Bound) → IsTrackGraph g → IsGrid grid →
+    laws_first g grid ≤ VARS + 1 → AreInstances g above laws → AreBehind g (drawing_vars g grid) grid (expected_size g grid laws) bounds →
+    Covers g above grid (drawing_vars g grid) (expected_clauses g grid laws ++ bounds_clauses g (drawing_vars g grid) grid bounds)
 covers_with g above grid laws bounds is size few are behind d h =
     let x = drawing_vars g grid in
     let m = full_model g above grid laws d is size few are h in
     let a = base_vars g grid size few in
     let r : Read m.to g x grid d = record { graph = is; reads = m.reads; loose = lawful_loose g above grid d is h } in
-    let k = bounds_behind m.to g x grid d (expected_clauses g grid laws) bounds (base_last g grid) (expected_size g grid laws) is a (omega arith) behind (expected_there g above grid laws is size few are) r m.satisfies in
+    let k = bounds_behind m.to g x grid d (expected_clauses g grid laws) bounds (base_last g grid) (expected_size g grid laws) is a (omega arith) behind
+    (expected_there g above grid laws is size few are) r m.satisfies in
     record { to = k.to; satisfies = k.satisfies; stands = reads_stand k.to g x grid d k.read.reads k.read.loose }
 
 -- THE FORMULA OF AN ORDER WITH ITS CAPS
 -- its bounds stand one behind another
-pub from_behind : (g : Graph) (x : DrawingVars) (grid : GridSize) (caps : Criterion → ℕ) (last : ℕ) (order : List Criterion) → AreBehind g x grid last (bounds_from g x grid caps last order)
+pub from_behind : (g : Graph) (x : DrawingVars) (grid : GridSize) (caps : Criterion → ℕ) (last : ℕ) (order : List Criterion) →
+    AreBehind g x grid last (bounds_from g x grid caps last order)
 from_behind g x grid caps last [] = tt
-from_behind g x grid caps last (c ∷ rest) = cases (nat_eq (caps c) 0) (from_behind g x grid caps last rest) (from_behind g x grid caps (last + bound_size g x grid last (caps c) c) rest)
+from_behind g x grid caps last (c ∷ rest) = cases (nat_eq (caps c) 0) (from_behind g x grid caps last rest)
+    (from_behind g x grid caps (last + bound_size g x grid last (caps c) c) rest)
   where
-    cases : (b : Bool) → AreBehind g x grid last (bounds_from g x grid caps last rest) → AreBehind g x grid (last + bound_size g x grid last (caps c) c) (bounds_from g x grid caps (last + bound_size g x grid last (caps c) c) rest) →
-        AreBehind g x grid last (cond b (bounds_from g x grid caps last rest) (bound c last (caps c) ∷ bounds_from g x grid caps (last + bound_size g x grid last (caps c) c) rest))
+    cases : (b : Bool) → AreBehind g x grid last (bounds_from g x grid caps last rest) →
+    AreBehind g x grid (last + bound_size g x grid last (caps c) c) (bounds_from g x grid caps (last + bound_size g x grid last (caps c) c) rest) →
+        AreBehind g x grid last (cond b (bounds_from g x grid caps last rest) (bound c last (caps c) ∷ bounds_from g x grid caps
+        (last + bound_size g x grid last (caps c) c) rest))
     cases true skip take = skip
     cases false skip take = (omega arith, take)

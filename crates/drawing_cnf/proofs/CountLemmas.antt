@@ -6,7 +6,8 @@ use Rattle.plan_core.specs.declared.point.Point.{Point}
 use Rattle.cnf_core.specs.LitOrTruth.{yes, flip, clause_of}
 use Rattle.cnf_core.specs.Clause.{AllThere}
 use Rattle.cnf_core.specs.Assignment.{Assignment, SatisfiesAll, Extends}
-use Rattle.cnf_core.proofs.ClauseLemmas.{satisfies_left, satisfies_right, satisfies_at, satisfies_each, satisfies_all_same, all_there_append, all_there_each, all_there_more}
+use Rattle.cnf_core.proofs.ClauseLemmas.{satisfies_left, satisfies_right, satisfies_at, satisfies_each, satisfies_all_same, all_there_append, all_there_each}
+use Rattle.cnf_core.proofs.ClauseLemmas.{all_there_more}
 use Rattle.cnf_core.proofs.GatherLemmas.{flip_within, clause_there}
 use Rattle.cnf_core.proofs.SettingLemmas.{patch, patch_same, patch_at, same_none, place_rises, each_extends, extends_weaker, extends_both, extends_clauses}
 use Rattle.order_int.specs.IntVars.{IntVars, IntIsThere}
@@ -20,7 +21,8 @@ use Rattle.drawing_cnf.proofs.BoundLemmas.{set_bound, sum_bound_means, sum_bound
 use Rattle.cnf_laws.specs.Rank.{count_below, one_when}
 use Rattle.drawing_cnf.specs.Moved.{Former, former_at, is_matched, is_moved, matched_before, matched, moved}
 use Rattle.cnf_laws.specs.Stands.{ReadsPoint, NodeThere}
-use Rattle.drawing_cnf.specs.MovedClauses.{kept_clause, unlike_clauses, moved_clauses, clauses_by, clauses_at, nodes_clauses, nodes_first, moved_sum, count_size, count_clauses, TellsMoved}
+use Rattle.drawing_cnf.specs.MovedClauses.{kept_clause, unlike_clauses, moved_clauses, clauses_by, clauses_at, nodes_clauses, nodes_first, moved_sum}
+use Rattle.drawing_cnf.specs.MovedClauses.{count_size, count_clauses, TellsMoved}
 use Rattle.cnf_laws.proofs.ThereLemmas.{node_more}
 use Rattle.drawing_cnf.proofs.NodeLemmas.{node_means, node_holds}
 use Rattle.unary_sum.proofs.OutputLemmas.{block_there}
@@ -51,7 +53,8 @@ block_count v first (suc n) =
     let rest : count_true v (block (first + 1) n) ≡ count_below (λ k. v (first + suc k)) n =
     block_count v (first + 1) n ∙ how_many_same (λ k. v (first + 1 + k)) (λ k. v (first + suc k)) n (λ k lt. ap v (omega arith)) in
     let here : one_when (v first) ≡ one_when (v (first + 0)) = ap (λ x. one_when (v x)) (let e : first ≡ first + 0 = omega arith in e) in
-    let all : count_below (λ k. v (first + k)) (suc n) ≡ one_when (v (first + 0)) + count_below (λ k. v (first + suc k)) n = how_many_first (λ k. v (first + k)) n in
+    let all : count_below (λ k. v (first + k)) (suc n) ≡ one_when (v (first + 0)) + count_below (λ k. v (first + suc k)) n = how_many_first (λ k. v (first + k))
+    n in
     omega (arith, one_is (v first), rest, here, all)
 
 -- the variables of the first n nodes count those of them that moved
@@ -82,10 +85,12 @@ first_counted v former place first (suc n) h =
         ∙ ap (λ x. x + one_when (v (first + matched_before former n))) before
         ∙ ap (λ x. count_below (λ k. is_moved (former_at former k) (place k)) n + x) (sym same)
 
-by_means : (v : Assignment) (n : NodeInts) (p q : Point) (f : Option Point) (m : ℕ) → ReadsPoint v n p → f ≡ Some q → SatisfiesAll v (clauses_by f n m) → v m ≡ is_moved (Some q) p
+by_means : (v : Assignment) (n : NodeInts) (p q : Point) (f : Option Point) (m : ℕ) → ReadsPoint v n p → f ≡ Some q → SatisfiesAll v (clauses_by f n m) →
+    v m ≡ is_moved (Some q) p
 by_means v n p q f m r e h = node_means v n q p m r (subst (λ (o : Option Point). SatisfiesAll v (clauses_by o n m)) e h)
 
-nodes_counted : (v : Assignment) (x : ℕ → NodeInts) (former : Former) (place : ℕ → Point) (first : ℕ) → ((k : ℕ) → k < length former → ReadsPoint v (x k) (place k)) →
+nodes_counted : (v : Assignment) (x : ℕ → NodeInts) (former : Former) (place : ℕ → Point) (first : ℕ) →
+    ((k : ℕ) → k < length former → ReadsPoint v (x k) (place k)) →
     SatisfiesAll v (nodes_clauses x former first) → count_true v (block first (matched former)) ≡ moved former place
 nodes_counted v x former place first r h =
     block_count v first (matched former)
@@ -93,7 +98,8 @@ nodes_counted v x former place first r h =
     (λ k q lt e. by_means v (x k) (place k) q (former_at former k) (first + matched_before former k) (r k lt) e
     (satisfies_at v (clauses_at x former first) 0 (length former) h k (omega arith) (omega (arith, lt))))
 
-pub count_exact : (v : Assignment) (x : ℕ → NodeInts) (former : Former) (place : ℕ → Point) (vars : ℕ) → ((k : ℕ) → k < length former → ReadsPoint v (x k) (place k)) →
+pub count_exact : (v : Assignment) (x : ℕ → NodeInts) (former : Former) (place : ℕ → Point) (vars : ℕ) →
+    ((k : ℕ) → k < length former → ReadsPoint v (x k) (place k)) →
     SatisfiesAll v (count_clauses x former vars) → TellsMoved v former vars (moved former place)
 count_exact v x former place vars r h j from to =
     let first = nodes_first former vars in
@@ -109,47 +115,59 @@ unlike_there : (vars : ℕ) (i : IntVars) (k m : ℕ) → IntIsThere vars i → 
 unlike_there vars i k m there from to =
     all_there_append vars (clause_of [] (int_at_least i k ∷ yes m ∷ [])) (clause_of [] (flip (int_at_least i (k + 1)) ∷ yes m ∷ []))
     (clause_there vars [] (int_at_least i k ∷ yes m ∷ []) tt (at_least_within vars i k there, ((from, to), tt)))
-    (clause_there vars [] (flip (int_at_least i (k + 1)) ∷ yes m ∷ []) tt (flip_within vars (int_at_least i (k + 1)) (at_least_within vars i (k + 1) there), ((from, to), tt)))
+    (clause_there vars [] (flip (int_at_least i (k + 1)) ∷ yes m ∷ []) tt (flip_within vars (int_at_least i (k + 1)) (at_least_within vars i (k + 1) there),
+    ((from, to), tt)))
 
 node_there : (vars : ℕ) (n : NodeInts) (q : Point) (m : ℕ) → NodeThere vars n → 1 ≤ m → m ≤ vars → AllThere vars (moved_clauses n q m)
 node_there vars n q m there from to =
     let x = unlike_clauses n.x q.x m in
     let y = unlike_clauses n.y q.y m in
     all_there_append vars (kept_clause n q m) (x ++ y)
-    (clause_there vars [] (flip (int_at_least n.x q.x) ∷ int_at_least n.x (q.x + 1) ∷ flip (int_at_least n.y q.y) ∷ int_at_least n.y (q.y + 1) ∷ flip (yes m) ∷ []) tt
+    (clause_there vars [] (flip (int_at_least n.x q.x) ∷ int_at_least n.x (q.x + 1) ∷ flip (int_at_least n.y q.y) ∷ int_at_least n.y (q.y + 1) ∷ flip (yes m)
+    ∷ []) tt
     (kept_within vars n.x n.y q.x q.y m there.x there.y from to))
     (all_there_append vars x y (unlike_there vars n.x q.x m there.x from to) (unlike_there vars n.y q.y m there.y from to))
 
 -- those of node k are before the next node's variable
-by_there : (vars : ℕ) (f : Option Point) (n : NodeInts) (m last : ℕ) → NodeThere vars n → vars < m → m + one_when (is_matched f) ≤ last + 1 → AllThere last (clauses_by f n m)
+by_there : (vars : ℕ) (f : Option Point) (n : NodeInts) (m last : ℕ) → NodeThere vars n → vars < m → m + one_when (is_matched f) ≤ last + 1 →
+    AllThere last (clauses_by f n m)
 by_there vars None n m last there low to = tt
-by_there vars (Some q) n m last there low to = node_there last n q m (node_more vars last n (omega (arith, low, to)) there) (omega (arith, low)) (omega (arith, to))
+by_there vars (Some q) n m last there low to = node_there last n q m (node_more vars last n (omega (arith, low, to)) there) (omega (arith, low))
+    (omega (arith, to))
 
-next_place : (former : Former) (first k : ℕ) → first + matched_before former (k + 1) ≡ first + matched_before former k + one_when (is_matched (former_at former k))
-next_place former first k = ap (λ n. first + matched_before former n) (sym (one_more k)) ∙ (let a = matched_before former k in let b = one_when (is_matched (former_at former k)) in let e : first + (a + b) ≡ first + a + b = omega arith in e)
+next_place : (former : Former) (first k : ℕ) → first + matched_before former (k + 1) ≡ first + matched_before former k + one_when
+    (is_matched (former_at former k))
+next_place former first k = ap (λ n. first + matched_before former n) (sym (one_more k))
+    ∙ (let a = matched_before former k in let b = one_when (is_matched (former_at former k)) in let e : first + (a + b) ≡ first + a + b = omega arith in e)
 
 pub matched_rises : (former : Former) (a b : ℕ) → a ≤ b → matched_before former a ≤ matched_before former b
-matched_rises former a b le = let h = place_rises (λ k. 0 + matched_before former k) (λ k. one_when (is_matched (former_at former k))) (next_place former 0) a b le in omega (arith, h)
+matched_rises former a b le = let h = place_rises (λ k. 0 + matched_before former k) (λ k. one_when (is_matched (former_at former k))) (next_place former 0) a b
+    le in omega (arith, h)
 
-at_there : (vars : ℕ) (x : ℕ → NodeInts) (former : Former) (k : ℕ) → k < length former → NodeThere vars (x k) → AllThere (vars + matched_before former (k + 1)) (clauses_at x former (vars + 1) k)
+at_there : (vars : ℕ) (x : ℕ → NodeInts) (former : Former) (k : ℕ) → k < length former → NodeThere vars (x k) →
+    AllThere (vars + matched_before former (k + 1)) (clauses_at x former (vars + 1) k)
 at_there vars x former k lt there =
     by_there vars (former_at former k) (x k) (vars + 1 + matched_before former k) (vars + matched_before former (k + 1)) there (omega arith)
     (let e = next_place former (vars + 1) k in omega (arith, e))
 
-pub nodes_there : (vars : ℕ) (x : ℕ → NodeInts) (former : Former) → ((k : ℕ) → k < length former → NodeThere vars (x k)) → AllThere (vars + matched former) (nodes_clauses x former (vars + 1))
+pub nodes_there : (vars : ℕ) (x : ℕ → NodeInts) (former : Former) → ((k : ℕ) → k < length former → NodeThere vars (x k)) →
+    AllThere (vars + matched former) (nodes_clauses x former (vars + 1))
 nodes_there vars x former there = all_there_each (vars + matched former) (clauses_at x former (vars + 1)) 0 (length former)
     (λ k from to. all_there_more (vars + matched_before former (k + 1)) (vars + matched former) (clauses_at x former (vars + 1) k)
-    (let h = matched_rises former (k + 1) (length former) (omega (arith, to)) in omega (arith, h)) (at_there vars x former k (omega (arith, to)) (there k (omega (arith, to)))))
+    (let h = matched_rises former (k + 1) (length former) (omega (arith, to)) in omega (arith, h))
+    (at_there vars x former k (omega (arith, to)) (there k (omega (arith, to)))))
 
 -- ---- each assignment that reads points extends
 
-point_stays : (vars : ℕ) (v w : Assignment) (n : NodeInts) (p : Point) → NodeThere vars n → ((y : ℕ) → y < vars + 1 → w y ≡ v y) → ReadsPoint v n p → ReadsPoint w n p
+point_stays : (vars : ℕ) (v w : Assignment) (n : NodeInts) (p : Point) → NodeThere vars n → ((y : ℕ) → y < vars + 1 → w y ≡ v y) → ReadsPoint v n p →
+    ReadsPoint w n p
 point_stays vars v w n p there same r = record {
   x = reads_same v w n.x p.x (λ y from to. same y (let t = (there.x).to in omega (arith, to, t))) r.x;
   y = reads_same v w n.y p.y (λ y from to. same y (let t = (there.y).to in omega (arith, to, t))) r.y;
 }
 
-one_extends : (v : Assignment) (f : Option Point) (n : NodeInts) (p : Point) (m vars : ℕ) → NodeThere vars n → vars < m → ReadsPoint v n p → Extends m (one_when (is_matched f)) v (λ w. SatisfiesAll w (clauses_by f n m))
+one_extends : (v : Assignment) (f : Option Point) (n : NodeInts) (p : Point) (m vars : ℕ) → NodeThere vars n → vars < m → ReadsPoint v n p →
+    Extends m (one_when (is_matched f)) v (λ w. SatisfiesAll w (clauses_by f n m))
 one_extends v None n p m vars there low r = record { to = v; same = same_none m 0 v; holds = tt }
 one_extends v (Some q) n p m vars there low r =
     let b = is_moved (Some q) p in
@@ -158,7 +176,8 @@ one_extends v (Some q) n p m vars there low r =
     let set : w m ≡ b = ap w (let e : m ≡ m + 0 = omega arith in e) ∙ patch_at m 1 (λ k. b) v 0 (omega arith) in
     record { to = w; same = same; holds = node_holds w n q p m (point_stays vars v w n p there (λ y lt. same.below y (omega (arith, lt, low))) r) set }
 
-nodes_extend : (v : Assignment) (x : ℕ → NodeInts) (former : Former) (place : ℕ → Point) (vars : ℕ) → ((k : ℕ) → k < length former → NodeThere vars (x k)) → ((k : ℕ) → k < length former → ReadsPoint v (x k) (place k)) →
+nodes_extend : (v : Assignment) (x : ℕ → NodeInts) (former : Former) (place : ℕ → Point) (vars : ℕ) → ((k : ℕ) → k < length former → NodeThere vars (x k)) →
+    ((k : ℕ) → k < length former → ReadsPoint v (x k) (place k)) →
     Extends (vars + 1) (matched former) v (λ w. SatisfiesAll w (nodes_clauses x former (vars + 1)))
 nodes_extend v x former place vars there r =
     let at : ℕ → ℕ = λ k. vars + 1 + matched_before former k in
@@ -177,36 +196,42 @@ nodes_extend v x former place vars there r =
     (extends_weaker (vars + 1 + 0) (matched former) v (λ w. (k : ℕ) → k < length former → Q k w) (λ w. SatisfiesAll w (nodes_clauses x former (vars + 1)))
     (λ w s q. satisfies_each w (clauses_at x former (vars + 1)) 0 (length former) (λ k from to. outside k (omega (arith, to)) w (q k (omega (arith, to))))) all)
   where
-    inside : (k : ℕ) → k < length former → (w : Assignment) → SatisfiesAll w (clauses_at x former (vars + 1) k) → SatisfiesAll w (cond (nat_lt k (length former)) (clauses_at x former (vars + 1) k) [])
+    inside : (k : ℕ) → k < length former → (w : Assignment) → SatisfiesAll w (clauses_at x former (vars + 1) k) →
+    SatisfiesAll w (cond (nat_lt k (length former)) (clauses_at x former (vars + 1) k) [])
     inside k lt w q = subst (λ b. SatisfiesAll w (cond b (clauses_at x former (vars + 1) k) [])) (sym (below_true k (length former) lt)) q
       where
         below_true : (a b : ℕ) → a < b → nat_lt a b ≡ true
         below_true a b lt = grind (arith, nat_tests)
 
-    outside : (k : ℕ) → k < length former → (w : Assignment) → SatisfiesAll w (cond (nat_lt k (length former)) (clauses_at x former (vars + 1) k) []) → SatisfiesAll w (clauses_at x former (vars + 1) k)
+    outside : (k : ℕ) → k < length former → (w : Assignment) → SatisfiesAll w (cond (nat_lt k (length former)) (clauses_at x former (vars + 1) k) []) →
+    SatisfiesAll w (clauses_at x former (vars + 1) k)
     outside k lt w q = subst (λ b. SatisfiesAll w (cond b (clauses_at x former (vars + 1) k) [])) (below_true k (length former) lt) q
       where
         below_true : (a b : ℕ) → a < b → nat_lt a b ≡ true
         below_true a b lt = grind (arith, nat_tests)
 
     keeps : (k : ℕ) (u w : Assignment) → ((y : ℕ) → y < vars + 1 + matched_before former (k + 1) → w y ≡ u y) →
-        SatisfiesAll u (cond (nat_lt k (length former)) (clauses_at x former (vars + 1) k) []) → SatisfiesAll w (cond (nat_lt k (length former)) (clauses_at x former (vars + 1) k) [])
+        SatisfiesAll u (cond (nat_lt k (length former)) (clauses_at x former (vars + 1) k) []) →
+        SatisfiesAll w (cond (nat_lt k (length former)) (clauses_at x former (vars + 1) k) [])
     keeps k u w same q = by (nat_lt k (length former)) refl q
       where
         lt_of : (a b : ℕ) → nat_lt a b ≡ true → a < b
         lt_of a b e = grind (arith, nat_tests, e)
 
-        by : (b : Bool) → nat_lt k (length former) ≡ b → SatisfiesAll u (cond b (clauses_at x former (vars + 1) k) []) → SatisfiesAll w (cond b (clauses_at x former (vars + 1) k) [])
+        by : (b : Bool) → nat_lt k (length former) ≡ b → SatisfiesAll u (cond b (clauses_at x former (vars + 1) k) []) →
+        SatisfiesAll w (cond b (clauses_at x former (vars + 1) k) [])
         by true e q =
             let lt = lt_of k (length former) e in
-            satisfies_all_same u w (vars + matched_before former (k + 1)) (clauses_at x former (vars + 1) k) (at_there vars x former k lt (there k lt)) (λ y le. same y (omega (arith, le))) q
+            satisfies_all_same u w (vars + matched_before former (k + 1)) (clauses_at x former (vars + 1) k) (at_there vars x former k lt (there k lt))
+            (λ y le. same y (omega (arith, le))) q
         by false e q = tt
 
 exact_stays : (v w : Assignment) (last cap n : ℕ) → ((y : ℕ) → y < last + 1 + cap → w y ≡ v y) → IsExact v last cap n → IsExact w last cap n
 exact_stays v w last cap n same h k from to = same (last + k) (omega (arith, to)) ∙ h k from to
 
 -- once the variables "at least j" are set: those of the nodes, and then those of the sum
-nodes_and_sum : (v : Assignment) (x : ℕ → NodeInts) (former : Former) (place : ℕ → Point) (vars : ℕ) → ((k : ℕ) → k < length former → NodeThere vars (x k)) → ((k : ℕ) → k < length former → ReadsPoint v (x k) (place k)) →
+nodes_and_sum : (v : Assignment) (x : ℕ → NodeInts) (former : Former) (place : ℕ → Point) (vars : ℕ) → ((k : ℕ) → k < length former → NodeThere vars (x k)) →
+    ((k : ℕ) → k < length former → ReadsPoint v (x k) (place k)) →
     IsExact v vars (matched former) (moved former place) →
     Extends (vars + matched former + 1) (matched former + sum_count (moved_sum former vars)) v (λ w. SatisfiesAll w (count_clauses x former vars))
 nodes_and_sum v x former place vars there r exact =
@@ -220,11 +245,13 @@ nodes_and_sum v x former place vars there r exact =
     (nodes_extend v x former place mid inside r)
     (λ w same h. subst (λ first. Extends first (sum_count s) w (λ u. SatisfiesAll u (sum_bound s vars))) (sym last)
     (sum_bound_extends w (block (mid + 1) n) vars n (vars + (n + n)) (block_there (vars + (n + n)) (mid + 1) n (omega arith) (omega arith)) (omega arith)
-    (let reads : (k : ℕ) → k < length former → ReadsPoint w (x k) (place k) = (λ k lt. point_stays vars v w (x k) (place k) (there k lt) (λ y low. same.below y (omega (arith, low))) (r k lt)) in
+    (let reads : (k : ℕ) → k < length former → ReadsPoint w (x k) (place k) = (λ k lt. point_stays vars v w (x k) (place k) (there k lt)
+    (λ y low. same.below y (omega (arith, low))) (r k lt)) in
     let count : count_true w (block (mid + 1) n) ≡ moved former place = nodes_counted w x former place (mid + 1) reads h in
     subst (λ m. IsExact w vars n m) (sym count) (exact_stays v w vars n (moved former place) (λ y low. same.below y (omega (arith, low))) exact))))
 
-pub count_extends : (v : Assignment) (x : ℕ → NodeInts) (former : Former) (place : ℕ → Point) (vars : ℕ) → ((k : ℕ) → k < length former → NodeThere vars (x k)) → ((k : ℕ) → k < length former → ReadsPoint v (x k) (place k)) →
+pub count_extends : (v : Assignment) (x : ℕ → NodeInts) (former : Former) (place : ℕ → Point) (vars : ℕ) →
+    ((k : ℕ) → k < length former → NodeThere vars (x k)) → ((k : ℕ) → k < length former → ReadsPoint v (x k) (place k)) →
     Extends (vars + 1) (count_size former vars) v (λ w. SatisfiesAll w (count_clauses x former vars))
 count_extends v x former place vars there r =
     let n = matched former in

@@ -59,8 +59,10 @@ with_bounds g o grid order caps =
       clauses = expected g (is_above o) (is_overlap o) grid order caps;
     }) bounds
 
-pub bounds_cover : (g : Graph) (o : EdgeOrder) (grid : GridSize) (order : List Criterion) (caps : Criterion → ℕ) → IsStationGraph g → IsOrderOf g o → IsGrid grid →
-    CoversWith g (is_above o) grid (drawing_vars g grid) (expected g (is_above o) (is_overlap o) grid order caps) (expected_bounds g (is_above o) (is_overlap o) grid order caps)
+pub bounds_cover : (g : Graph) (o : EdgeOrder) (grid : GridSize) (order : List Criterion) (caps : Criterion → ℕ) → IsStationGraph g → IsOrderOf g o →
+    IsGrid grid →
+    CoversWith g (is_above o) grid (drawing_vars g grid) (expected g (is_above o) (is_overlap o) grid order caps)
+    (expected_bounds g (is_above o) (is_overlap o) grid order caps)
 unfolding with_bounds
 bounds_cover g o grid order caps is h size =
     whole_covers (with_bounds g o grid order caps) is.track_graph size (few_variables g grid size is.few_nodes is.few_edges) (record {
@@ -70,7 +72,8 @@ bounds_cover g o grid order caps is h size =
       vars = refl;
     })
 
-pub expected_cover : (g : Graph) (o : EdgeOrder) (grid : GridSize) (order : List Criterion) (caps : Criterion → ℕ) → IsStationGraph g → IsOrderOf g o → IsGrid grid →
+pub expected_cover : (g : Graph) (o : EdgeOrder) (grid : GridSize) (order : List Criterion) (caps : Criterion → ℕ) → IsStationGraph g → IsOrderOf g o →
+    IsGrid grid →
     CoversDrawings g (is_above o) grid (expected_lines (problem_of (layout g o grid)) order caps)
 expected_cover g o grid order caps is h size = λ d lawful.
     let bounds = expected_bounds g (is_above o) (is_overlap o) grid order caps in

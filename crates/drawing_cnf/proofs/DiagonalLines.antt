@@ -54,7 +54,8 @@ two_pieces a b c =
     let two = sum_by-cons absolute_rise (over_piece b c) [] in
     omega arith
 
-three_pieces : (a b c d : Point) → diagonal (a ∷ b ∷ c ∷ d ∷ []) ≡ absolute_rise (over_piece a b) + (absolute_rise (over_piece b c) + absolute_rise (over_piece c d))
+three_pieces : (a b c d : Point) → diagonal (a ∷ b ∷ c ∷ d ∷ []) ≡ absolute_rise (over_piece a b) +
+    (absolute_rise (over_piece b c) + absolute_rise (over_piece c d))
 three_pieces a b c d =
     let one = sum_by-cons absolute_rise (over_piece a b) (over_piece b c ∷ over_piece c d ∷ []) in
     let two = sum_by-cons absolute_rise (over_piece b c) (over_piece c d ∷ []) in
@@ -124,7 +125,8 @@ step_bits Down = refl
 step_bits Level = refl
 step_bits Up = refl
 
-pub count_steps : (v : Assignment) (e : EdgeLits) (y : ℕ → ℕ) (c n : ℕ) → ((j : ℕ) → c ≤ j → j < c + n → v (e.up j) ≡ is_up (step_slope y j)) → ((j : ℕ) → c ≤ j → j < c + n → v (e.down j) ≡ is_down (step_slope y j))
+pub count_steps : (v : Assignment) (e : EdgeLits) (y : ℕ → ℕ) (c n : ℕ) → ((j : ℕ) → c ≤ j → j < c + n → v (e.up j) ≡ is_up (step_slope y j)) →
+    ((j : ℕ) → c ≤ j → j < c + n → v (e.down j) ≡ is_down (step_slope y j))
     → count_true v (step_lits e c n) ≡ count_by (λ j. is_up (step_slope y j) || is_down (step_slope y j)) (range_with_len c n)
 count_steps v e y c zero up down = refl
 count_steps v e y c (suc n) up down =

@@ -1,5 +1,6 @@
 -- The height bound is exact, and each drawing extends to it.
-use Rattle.std.proofs.Common.{◌≡◌, ◌⊎◌, ℕ, zero, suc, ◌+◌, ◌-◌, ◌≤◌, ◌<◌, Bool, true, false, not, List, [], ◌∷◌, ◌++◌, map, length, get_or, inl, inr, refl, sym, ◌∙◌, ap, subst, arith}
+use Rattle.std.proofs.Common.{◌≡◌, ◌⊎◌, ℕ, zero, suc, ◌+◌, ◌-◌, ◌≤◌, ◌<◌, Bool, true, false, not, List, [], ◌∷◌, ◌++◌, map, length, get_or, inl, inr, refl}
+use Rattle.std.proofs.Common.{sym, ◌∙◌, ap, subst, arith}
 use Rattle.std.specs.Prelude.{nat_le, nat_lt, All, max, cond}
 use Rattle.std.specs.List.{flat_map}
 use Rattle.std.proofs.lemmas.Bool.Decides.{nat_tests, leb_tells}
@@ -22,7 +23,8 @@ use Rattle.cnf_core.specs.Clause.{Clauses, AllThere}
 use Rattle.cnf_core.specs.Assignment.{Assignment, SatisfiesAll, Extends}
 use Rattle.cnf_core.specs.LitOrTruth.{yes, flip, value, SomeTrue, AreWithin, clause_of}
 use Rattle.cnf_core.specs.Formula.{each}
-use Rattle.cnf_core.proofs.ClauseLemmas.{first_or_later, satisfies_append, satisfies_left, satisfies_right, satisfies_each, satisfies_at, all_there_append, all_there_each}
+use Rattle.cnf_core.proofs.ClauseLemmas.{first_or_later, satisfies_append, satisfies_left, satisfies_right, satisfies_each, satisfies_at, all_there_append}
+use Rattle.cnf_core.proofs.ClauseLemmas.{all_there_each}
 use Rattle.cnf_core.proofs.GatherLemmas.{value-flip, flip_within, clause_says, clause_holds, clause_there}
 use Rattle.cnf_core.proofs.SettingLemmas.{patch, patch_same}
 use Rattle.order_int.specs.IntVars.{IntVars, IntIsThere}
@@ -35,7 +37,8 @@ use Rattle.edge_shape.proofs.RunLemmas.{line_west_slope, line_east_slope}
 use Rattle.edge_shape.proofs.GridLemmas.{on_grid_heights, heights_on_grid}
 use Rattle.edge_shape.proofs.LineHeights.{height_behind}
 use Rattle.cnf_laws.specs.Stands.{DrawingVars, IsJoinedOnGrid}
-use Rattle.drawing_cnf.specs.Bounds.{IsExact, column_heights, all_heights, some_height_clause, height_gives, height_beside, edge_height_gives, height_at, height_bound}
+use Rattle.drawing_cnf.specs.Bounds.{IsExact, column_heights, all_heights, some_height_clause, height_gives, height_beside, edge_height_gives, height_at}
+use Rattle.drawing_cnf.specs.Bounds.{height_bound}
 use Rattle.cnf_laws.proofs.GuardLemmas.{Is, some_from, some_to}
 use Rattle.cnf_laws.proofs.OverLemmas.{Read}
 use Rattle.cnf_laws.proofs.ThereLemmas.{AreVars, EdgeThere, vars_more}
@@ -55,7 +58,8 @@ all_under : (ps : List Point) → All (λ (p : Point). p.y ≤ maximum (map (λ 
 all_under [] = All-nil (λ (p : Point). p.y ≤ 0)
 all_under (q ∷ ps) =
     let m = maximum (map (λ (p : Point). p.y) ps) in
-    All-cons (λ (p : Point). p.y ≤ max q.y m) q ps (omega arith) (All-weaker (λ (p : Point). p.y ≤ m) (λ (p : Point). p.y ≤ max q.y m) (λ p le. omega arith) ps (all_under ps))
+    All-cons (λ (p : Point). p.y ≤ max q.y m) q ps (omega arith) (All-weaker (λ (p : Point). p.y ≤ m) (λ (p : Point). p.y ≤ max q.y m) (λ p le. omega arith) ps
+    (all_under ps))
 
 -- a node is an end of an edge
 pub record EndedBy (g : Graph) (n : ℕ) : Type 0 where
@@ -77,9 +81,11 @@ pub node_ends : (g : Graph) (n : ℕ) → IsTrackGraph g → n < length g.nodes 
 node_ends g n is lt = port_ends g n (node g n).ports (is.ports n lt).there (is.ports n lt).placed
 
 -- the drawing isn't higher than h exactly where no line is at a column of the grid
-pub all_low : (g : Graph) (grid : GridSize) (d : Drawing) (h : ℕ) → IsJoinedOnGrid g grid d → height_of d ≤ h → (e c : ℕ) → e < length g.edges → height (line d e) c ≤ h
+pub all_low : (g : Graph) (grid : GridSize) (d : Drawing) (h : ℕ) → IsJoinedOnGrid g grid d → height_of d ≤ h → (e c : ℕ) → e < length g.edges →
+    height (line d e) c ≤ h
 all_low g grid d h loose low e c lt =
-    let under = all_of_list (λ (p : Point). p.y ≤ height_of d) d.lines e (let z = loose.fits.size.lines in omega arith) (all_back (λ (p : Point). p.y ≤ height_of d) d.places (flat_map (λ l. l) d.lines) (all_under (all_points d))) in
+    let under = all_of_list (λ (p : Point). p.y ≤ height_of d) d.lines e (let z = loose.fits.size.lines in omega arith)
+    (all_back (λ (p : Point). p.y ≤ height_of d) d.places (flat_map (λ l. l) d.lines) (all_under (all_points d))) in
     let j = loose.joins e lt in
     let on = heights_on_grid grid (line d e) j.shape j.in_height (let w = j.in_width in let z = ap (λ (p : Point). p.x) j.ends in omega arith) in
     on_grid_heights (grid_size grid.width h) (line d e) c j.shape
@@ -88,11 +94,13 @@ all_low g grid d h loose low e c lt =
     let b = All-get_or (λ (p : Point). p.y ≤ height_of d) (line d e) i origin within under in
     record { in_width = a; in_height = omega arith }))
 
-pub low_all : (g : Graph) (grid : GridSize) (d : Drawing) (h : ℕ) → IsTrackGraph g → IsJoinedOnGrid g grid d → ((e c : ℕ) → e < length g.edges → c ≤ grid.width → height (line d e) c ≤ h) → height_of d ≤ h
+pub low_all : (g : Graph) (grid : GridSize) (d : Drawing) (h : ℕ) → IsTrackGraph g → IsJoinedOnGrid g grid d →
+    ((e c : ℕ) → e < length g.edges → c ≤ grid.width → height (line d e) c ≤ h) → height_of d ≤ h
 low_all g grid d h is loose low = maximum-le (map (λ (p : Point). p.y) (all_points d)) h
     (All-map (λ k. k ≤ h) (λ (p : Point). p.y) (all_points d) (All-append (λ (p : Point). p.y ≤ h) d.places (flat_map (λ l. l) d.lines)
     (All-from_get_or (λ (p : Point). p.y ≤ h) d.places origin (λ n within. let z = loose.fits.size.places in node_low n (omega arith)))
-    (All-flat_map (λ (p : Point). p.y ≤ h) d.lines (All-from_get_or (All (λ (p : Point). p.y ≤ h)) d.lines [] (λ e within. let z = loose.fits.size.lines in line_low e (omega arith))))))
+    (All-flat_map (λ (p : Point). p.y ≤ h) d.lines (All-from_get_or (All (λ (p : Point). p.y ≤ h)) d.lines []
+    (λ e within. let z = loose.fits.size.lines in line_low e (omega arith))))))
   where
     everywhere : (e c : ℕ) → e < length g.edges → height (line d e) c ≤ h
     everywhere e c lt = elim (leb_tells c grid.width) [
@@ -102,7 +110,8 @@ low_all g grid d h is loose low = maximum-le (map (λ (p : Point). p.y) (all_poi
           let j = loose.joins e lt in
           let w = j.in_width in
           let x : (east_end (line d e)).x ≡ (place d (edge g e).east).x = ap (λ (p : Point). p.x) j.ends in
-          let z : height (line d e) c ≡ height (line d e) grid.width = height_behind (line d e) c j.shape (omega arith) ∙ sym (height_behind (line d e) grid.width j.shape (omega arith)) in
+          let z : height (line d e) c ≡ height (line d e) grid.width = height_behind (line d e) c j.shape (omega arith)
+          ∙ sym (height_behind (line d e) grid.width j.shape (omega arith)) in
           let top = low e grid.width lt (omega arith) in
           omega arith
     ]
@@ -111,17 +120,20 @@ low_all g grid d h is loose low = maximum-le (map (λ (p : Point). p.y) (all_poi
     line_low e lt =
         let j = loose.joins e lt in
         All-weaker (IsOnGrid (grid_size grid.width h)) (λ (p : Point). p.y ≤ h) (λ p on. on.in_height) (line d e)
-        (heights_on_grid (grid_size grid.width h) (line d e) j.shape (λ c. everywhere e c lt) (let w = j.in_width in let z = ap (λ (p : Point). p.x) j.ends in omega arith))
+        (heights_on_grid (grid_size grid.width h) (line d e) j.shape (λ c. everywhere e c lt)
+        (let w = j.in_width in let z = ap (λ (p : Point). p.x) j.ends in omega arith))
 
     end_low : (n e : ℕ) → e < length g.edges → IsEndOf g e n → (place d n).y ≤ h
     end_low n e lt (inl at) =
         let j = loose.joins e lt in
-        let y : height (line d e) (west_end (line d e)).x ≡ (place d n).y = height-west_end (line d e) j.shape ∙ ap (λ (p : Point). p.y) j.begins ∙ ap (λ k. (place d k).y) at in
+        let y : height (line d e) (west_end (line d e)).x ≡ (place d n).y = height-west_end (line d e) j.shape ∙ ap (λ (p : Point). p.y) j.begins
+        ∙ ap (λ k. (place d k).y) at in
         let low = everywhere e (west_end (line d e)).x lt in
         omega arith
     end_low n e lt (inr at) =
         let j = loose.joins e lt in
-        let y : height (line d e) (east_end (line d e)).x ≡ (place d n).y = height-east_end (line d e) j.shape ∙ ap (λ (p : Point). p.y) j.ends ∙ ap (λ k. (place d k).y) at in
+        let y : height (line d e) (east_end (line d e)).x ≡ (place d n).y = height-east_end (line d e) j.shape ∙ ap (λ (p : Point). p.y) j.ends
+        ∙ ap (λ k. (place d k).y) at in
         let low = everywhere e (east_end (line d e)).x lt in
         omega arith
 
@@ -136,12 +148,14 @@ pub record SomeHeight (v : Assignment) (g : Graph) (x : DrawingVars) (width k : 
   pub within : column ≤ width
   pub high : Is (value v (int_at_least ((x.edge edge).height column) k))
 
-some_column : (v : Assignment) (g : Graph) (x : DrawingVars) (width k e c n : ℕ) → e < length g.edges → c + n ≤ width + 1 → SomeTrue v (column_heights x k e c n) → SomeHeight v g x width k
+some_column : (v : Assignment) (g : Graph) (x : DrawingVars) (width k e c n : ℕ) → e < length g.edges → c + n ≤ width + 1 →
+    SomeTrue v (column_heights x k e c n) → SomeHeight v g x width k
 some_column v g x width k e c zero lt le h = absurd h
 some_column v g x width k e c (suc n) lt le (inl h) = record { edge = e; column = c; there = lt; within = omega arith; high = h }
 some_column v g x width k e c (suc n) lt le (inr h) = some_column v g x width k e (c + 1) n lt (omega arith) h
 
-some_height : (v : Assignment) (g : Graph) (x : DrawingVars) (width k e n : ℕ) → e + n ≤ length g.edges → SomeTrue v (all_heights x width k e n) → SomeHeight v g x width k
+some_height : (v : Assignment) (g : Graph) (x : DrawingVars) (width k e n : ℕ) → e + n ≤ length g.edges → SomeTrue v (all_heights x width k e n) →
+    SomeHeight v g x width k
 some_height v g x width k e zero le h = absurd h
 some_height v g x width k e (suc n) le h = elim (some_from v (column_heights x k e 0 (width + 1)) (all_heights x width k (e + 1) n) h) [
   | inl a ↦ some_column v g x width k e 0 (width + 1) (omega arith) (omega arith) a
@@ -149,11 +163,14 @@ some_height v g x width k e (suc n) le h = elim (some_from v (column_heights x k
 ]
 
 -- either one is, or all are lower
-column_or : (v : Assignment) (x : DrawingVars) (k e c n : ℕ) → SomeTrue v (column_heights x k e c n) ⊎ ((j : ℕ) → c ≤ j → j < c + n → value v (int_at_least ((x.edge e).height j) k) ≡ false)
+column_or : (v : Assignment) (x : DrawingVars) (k e c n : ℕ) → SomeTrue v (column_heights x k e c n) ⊎
+    ((j : ℕ) → c ≤ j → j < c + n → value v (int_at_least ((x.edge e).height j) k) ≡ false)
 column_or v x k e c zero = inr (λ j from to. absurd (omega arith))
 column_or v x k e c (suc n) = cases (value v (int_at_least ((x.edge e).height c) k)) refl (column_or v x k e (c + 1) n)
   where
-    cases : (b : Bool) → value v (int_at_least ((x.edge e).height c) k) ≡ b → (SomeTrue v (column_heights x k e (c + 1) n) ⊎ ((j : ℕ) → c + 1 ≤ j → j < c + 1 + n → value v (int_at_least ((x.edge e).height j) k) ≡ false)) → SomeTrue v (column_heights x k e c (suc n)) ⊎ ((j : ℕ) → c ≤ j → j < c + suc n → value v (int_at_least ((x.edge e).height j) k) ≡ false)
+    cases : (b : Bool) → value v (int_at_least ((x.edge e).height c) k) ≡ b →
+    (SomeTrue v (column_heights x k e (c + 1) n) ⊎ ((j : ℕ) → c + 1 ≤ j → j < c + 1 + n → value v (int_at_least ((x.edge e).height j) k) ≡ false)) →
+    SomeTrue v (column_heights x k e c (suc n)) ⊎ ((j : ℕ) → c ≤ j → j < c + suc n → value v (int_at_least ((x.edge e).height j) k) ≡ false)
     cases true s rest = inl (inl s)
     cases false s (inl a) = inl (inr a)
     cases false s (inr f) = inr (λ j from to. elim (first_or_later c j from) [
@@ -161,7 +178,8 @@ column_or v x k e c (suc n) = cases (value v (int_at_least ((x.edge e).height c)
       | inr more ↦ f j more (omega arith)
     ])
 
-heights_or : (v : Assignment) (x : DrawingVars) (width k e n : ℕ) → SomeTrue v (all_heights x width k e n) ⊎ ((i j : ℕ) → e ≤ i → i < e + n → j ≤ width → value v (int_at_least ((x.edge i).height j) k) ≡ false)
+heights_or : (v : Assignment) (x : DrawingVars) (width k e n : ℕ) →
+    SomeTrue v (all_heights x width k e n) ⊎ ((i j : ℕ) → e ≤ i → i < e + n → j ≤ width → value v (int_at_least ((x.edge i).height j) k) ≡ false)
 heights_or v x width k e zero = inr (λ i j from to w. absurd (omega arith))
 heights_or v x width k e (suc n) = elim (column_or v x k e 0 (width + 1)) [
   | inl a ↦ inl (some_to v (column_heights x k e 0 (width + 1)) (all_heights x width k (e + 1) n) (inl a))
@@ -182,7 +200,8 @@ off_or v ts b h = elim (clause_says v [] (ts ++ flip (yes b) ∷ []) h) [
 ]
 
 -- exact, for one k
-height_tells : (v : Assignment) (g : Graph) (x : DrawingVars) (grid : GridSize) (d : Drawing) (b k : ℕ) → Read v g x grid d → 1 ≤ k → SatisfiesAll v (height_at g x grid.width b k) → v b ≡ nat_le k (height_of d)
+height_tells : (v : Assignment) (g : Graph) (x : DrawingVars) (grid : GridSize) (d : Drawing) (b k : ℕ) → Read v g x grid d → 1 ≤ k →
+    SatisfiesAll v (height_at g x grid.width b k) → v b ≡ nat_le k (height_of d)
 height_tells v g x grid d b k r from h = cases (v b) refl
   where
     m : ℕ
@@ -217,7 +236,10 @@ height_tells v g x grid d b k r from h = cases (v b) refl
           let more = le.1 in
           let low = low_all g grid d (k - 1) r.graph r.loose (λ e c lt w. elim (leb_tells k (height (line d e) c)) [
             | inr gt ↦ let less = gt.1 in omega arith
-            | inl high ↦ absurd (elim (either_of v (flip (int_at_least ((x.edge e).height c) k)) (yes b) (satisfies_at v (height_gives x b k e) 0 (grid.width + 1) (satisfies_left v (each (height_gives x b k e) 0 (grid.width + 1)) (height_beside g x b k e) (satisfies_at v (edge_height_gives g x grid.width b k) 0 m (satisfies_left v given long h) e (omega arith) (omega arith))) c (omega arith) (omega arith))) [
+            | inl high ↦ absurd (elim (either_of v (flip (int_at_least ((x.edge e).height c) k)) (yes b)
+            (satisfies_at v (height_gives x b k e) 0 (grid.width + 1) (satisfies_left v (each (height_gives x b k e) 0 (grid.width + 1))
+            (height_beside g x b k e) (satisfies_at v (edge_height_gives g x grid.width b k) 0 m (satisfies_left v given long h) e (omega arith) (omega arith)))
+            c (omega arith) (omega arith))) [
               | inl off ↦ cc (sym (value-flip v (int_at_least ((x.edge e).height c) k)) ∙ off, reads e c lt w ∙ high.0)
               | inr on ↦ cc (s, on)
             ])
@@ -225,8 +247,10 @@ height_tells v g x grid d b k r from h = cases (v b) refl
           absurd (omega arith)
     ]
 
-pub height_exact : (v : Assignment) (g : Graph) (x : DrawingVars) (grid : GridSize) (d : Drawing) (last cap : ℕ) → Read v g x grid d → SatisfiesAll v (height_bound g x grid.width last cap) → IsExact v last cap (height_of d)
-height_exact v g x grid d last cap r h k from to = height_tells v g x grid d (last + k) k r from (satisfies_at v (λ k. height_at g x grid.width (last + k) k) 1 cap h k from (omega arith))
+pub height_exact : (v : Assignment) (g : Graph) (x : DrawingVars) (grid : GridSize) (d : Drawing) (last cap : ℕ) → Read v g x grid d →
+    SatisfiesAll v (height_bound g x grid.width last cap) → IsExact v last cap (height_of d)
+height_exact v g x grid d last cap r h k from to = height_tells v g x grid d (last + k) k r from
+    (satisfies_at v (λ k. height_at g x grid.width (last + k) k) 1 cap h k from (omega arith))
 
 -- beside an end the height is one more where the line leaves upwards
 slope_up : (a b : ℕ) → slope_by a b ≡ Up → a < b
@@ -255,7 +279,8 @@ slope_down a b h = elim (leb_tells (b + 1) a) [
     up_or_level true e = cc
     up_or_level false e = cc
 
-west_rise : (g : Graph) (grid : GridSize) (d : Drawing) (e : ℕ) → IsJoinedOnGrid g grid d → e < length g.edges → is_up (slope_west (line d e)) ≡ true → (place d (edge g e).west).y + 1 ≤ height_of d
+west_rise : (g : Graph) (grid : GridSize) (d : Drawing) (e : ℕ) → IsJoinedOnGrid g grid d → e < length g.edges → is_up (slope_west (line d e)) ≡ true →
+    (place d (edge g e).west).y + 1 ≤ height_of d
 west_rise g grid d e loose lt up =
     let l = line d e in
     let j = loose.joins e lt in
@@ -264,7 +289,8 @@ west_rise g grid d e loose lt up =
     let low = all_low g grid d (height_of d) loose (omega arith) e ((west_end l).x + 1) lt in
     omega arith
 
-east_rise : (g : Graph) (grid : GridSize) (d : Drawing) (e : ℕ) → IsJoinedOnGrid g grid d → e < length g.edges → is_down (slope_east (line d e)) ≡ true → (place d (edge g e).east).y + 1 ≤ height_of d
+east_rise : (g : Graph) (grid : GridSize) (d : Drawing) (e : ℕ) → IsJoinedOnGrid g grid d → e < length g.edges → is_down (slope_east (line d e)) ≡ true →
+    (place d (edge g e).east).y + 1 ≤ height_of d
 east_rise g grid d e loose lt down =
     let l = line d e in
     let j = loose.joins e lt in
@@ -276,7 +302,8 @@ east_rise g grid d e loose lt down =
     let low = all_low g grid d (height_of d) loose (omega arith) e x lt in
     omega arith
 
-beside_or : (v : Assignment) (a b : ℕ) (i : IntVars) (k n most : ℕ) → Reads v i n → v b ≡ nat_le k most → (v a ≡ true → n + 1 ≤ most) → SomeTrue v (flip (yes a) ∷ flip (int_at_least i (k - 1)) ∷ yes b ∷ [])
+beside_or : (v : Assignment) (a b : ℕ) (i : IntVars) (k n most : ℕ) → Reads v i n → v b ≡ nat_le k most → (v a ≡ true → n + 1 ≤ most) →
+    SomeTrue v (flip (yes a) ∷ flip (int_at_least i (k - 1)) ∷ yes b ∷ [])
 beside_or v a b i k n most r h rise = cases (v a) refl
   where
     cases : (s : Bool) → v a ≡ s → SomeTrue v (flip (yes a) ∷ flip (int_at_least i (k - 1)) ∷ yes b ∷ [])
@@ -288,25 +315,30 @@ beside_or v a b i k n most r h rise = cases (v a) refl
           | inr gt ↦ inr (inl (value-flip v (int_at_least i (k - 1)) ∙ ap not (r.each (k - 1) ∙ gt.0)))
         ]
 
-beside_holds : (v : Assignment) (g : Graph) (x : DrawingVars) (grid : GridSize) (d : Drawing) (b k e : ℕ) → Read v g x grid d → e < length g.edges → v b ≡ nat_le k (height_of d) → SatisfiesAll v (height_beside g x b k e)
+beside_holds : (v : Assignment) (g : Graph) (x : DrawingVars) (grid : GridSize) (d : Drawing) (b k e : ℕ) → Read v g x grid d → e < length g.edges →
+    v b ≡ nat_le k (height_of d) → SatisfiesAll v (height_beside g x b k e)
 beside_holds v g x grid d b k e r lt h =
     let ends = r.graph.nodes e lt in
     let s = r.reads.lines e lt in
     let west = flip (yes (x.edge e).west_up) ∷ flip (int_at_least (x.node (edge g e).west).y (k - 1)) ∷ yes b ∷ [] in
     let east = flip (yes (x.edge e).east_down) ∷ flip (int_at_least (x.node (edge g e).east).y (k - 1)) ∷ yes b ∷ [] in
     satisfies_append v (clause_of [] west) (clause_of [] east)
-    (clause_holds v [] west (inr (beside_or v (x.edge e).west_up b (x.node (edge g e).west).y k (place d (edge g e).west).y (height_of d) (r.reads.points (edge g e).west ends.0).y h (λ up. west_rise g grid d e r.loose lt (sym s.west.rises ∙ up)))))
-    (clause_holds v [] east (inr (beside_or v (x.edge e).east_down b (x.node (edge g e).east).y k (place d (edge g e).east).y (height_of d) (r.reads.points (edge g e).east ends.1).y h (λ down. east_rise g grid d e r.loose lt (sym s.east.falls ∙ down)))))
+    (clause_holds v [] west (inr (beside_or v (x.edge e).west_up b (x.node (edge g e).west).y k (place d (edge g e).west).y (height_of d)
+    (r.reads.points (edge g e).west ends.0).y h (λ up. west_rise g grid d e r.loose lt (sym s.west.rises ∙ up)))))
+    (clause_holds v [] east (inr (beside_or v (x.edge e).east_down b (x.node (edge g e).east).y k (place d (edge g e).east).y (height_of d)
+    (r.reads.points (edge g e).east ends.1).y h (λ down. east_rise g grid d e r.loose lt (sym s.east.falls ∙ down)))))
 
 -- and back
-pub height_holds : (v : Assignment) (g : Graph) (x : DrawingVars) (grid : GridSize) (d : Drawing) (b k : ℕ) → Read v g x grid d → 1 ≤ k → v b ≡ nat_le k (height_of d) → SatisfiesAll v (height_at g x grid.width b k)
+pub height_holds : (v : Assignment) (g : Graph) (x : DrawingVars) (grid : GridSize) (d : Drawing) (b k : ℕ) → Read v g x grid d → 1 ≤ k →
+    v b ≡ nat_le k (height_of d) → SatisfiesAll v (height_at g x grid.width b k)
 height_holds v g x grid d b k r from h = satisfies_append v given long
     (satisfies_each v (edge_height_gives g x grid.width b k) 0 m (λ e low high.
     let lt : e < m = omega arith in
     satisfies_append v (each (height_gives x b k e) 0 (grid.width + 1)) (height_beside g x b k e)
     (satisfies_each v (height_gives x b k e) 0 (grid.width + 1) (λ c near far. give e c lt (omega arith)))
     (beside_holds v g x grid d b k e r lt h)))
-    (clause_holds v [] (all_heights x grid.width k 0 m ++ flip (yes b) ∷ []) (inr (some_to v (all_heights x grid.width k 0 m) (flip (yes b) ∷ []) (all_or (v b) refl))))
+    (clause_holds v [] (all_heights x grid.width k 0 m ++ flip (yes b) ∷ []) (inr
+    (some_to v (all_heights x grid.width k 0 m) (flip (yes b) ∷ []) (all_or (v b) refl))))
   where
     m : ℕ
     m = length g.edges
@@ -342,41 +374,51 @@ height_holds v g x grid d b k r from h = satisfies_append v given long
           absurd (grind (arith, nat_tests, t, low, from))
     ]
 
-pub height_extends : (v : Assignment) (vars : ℕ) (g : Graph) (x : DrawingVars) (grid : GridSize) (d : Drawing) (last cap : ℕ) → AreVars vars g x grid.width → vars ≤ last → Read v g x grid d → Extends (last + 1) cap v (λ w. SatisfiesAll w (height_bound g x grid.width last cap))
+pub height_extends : (v : Assignment) (vars : ℕ) (g : Graph) (x : DrawingVars) (grid : GridSize) (d : Drawing) (last cap : ℕ) → AreVars vars g x grid.width →
+    vars ≤ last → Read v g x grid d → Extends (last + 1) cap v (λ w. SatisfiesAll w (height_bound g x grid.width last cap))
 height_extends v vars g x grid d last cap a le r =
     let f : ℕ → Bool = λ k. nat_le (k + 1) (height_of d) in
     let w = patch (last + 1) cap f v in
     let same = patch_same (last + 1) cap f v in
-    let q : Read w g x grid d = record { graph = r.graph; reads = drawing_stays v w vars g x grid.width d a (λ y low. same.below y (omega arith)) r.reads; loose = r.loose } in
+    let q : Read w g x grid d = record {
+    graph = r.graph; reads = drawing_stays v w vars g x grid.width d a (λ y low. same.below y (omega arith)) r.reads; loose = r.loose
+    } in
     record {
       to = w;
       same = same;
-      holds = satisfies_each w (λ k. height_at g x grid.width (last + k) k) 1 cap (λ k from to. height_holds w g x grid d (last + k) k q from (set_bound v last cap (height_of d) k from (omega arith)));
+      holds = satisfies_each w (λ k. height_at g x grid.width (last + k) k) 1 cap
+      (λ k from to. height_holds w g x grid d (last + k) k q from (set_bound v last cap (height_of d) k from (omega arith)));
     }
 
 -- where its variables lie
-column_within : (vars : ℕ) (x : DrawingVars) (width k e c n : ℕ) → EdgeThere vars (x.edge e) width → c + n ≤ width + 1 → AreWithin vars (column_heights x k e c n)
+column_within : (vars : ℕ) (x : DrawingVars) (width k e c n : ℕ) → EdgeThere vars (x.edge e) width → c + n ≤ width + 1 →
+    AreWithin vars (column_heights x k e c n)
 column_within vars x width k e c zero t le = tt
-column_within vars x width k e c (suc n) t le = (at_least_within vars ((x.edge e).height c) k (t.height c (omega arith)), column_within vars x width k e (c + 1) n t (omega arith))
+column_within vars x width k e c (suc n) t le = (at_least_within vars ((x.edge e).height c) k (t.height c (omega arith)), column_within vars x width k e (c + 1)
+    n t (omega arith))
 
 pub both_within : (vars : ℕ) (ts us : List LitOrTruth) → AreWithin vars ts → AreWithin vars us → AreWithin vars (ts ++ us)
 both_within vars [] us h k = k
 both_within vars (t ∷ ts) us h k = (h.0, both_within vars ts us h.1 k)
 
-heights_within : (vars : ℕ) (g : Graph) (x : DrawingVars) (width k e n : ℕ) → AreVars vars g x width → e + n ≤ length g.edges → AreWithin vars (all_heights x width k e n)
+heights_within : (vars : ℕ) (g : Graph) (x : DrawingVars) (width k e n : ℕ) → AreVars vars g x width → e + n ≤ length g.edges →
+    AreWithin vars (all_heights x width k e n)
 heights_within vars g x width k e zero a le = tt
 heights_within vars g x width k e (suc n) a le =
     both_within vars (column_heights x k e 0 (width + 1)) (all_heights x width k (e + 1) n)
     (column_within vars x width k e 0 (width + 1) (a.edge e (omega arith)) (omega arith)) (heights_within vars g x width k (e + 1) n a (omega arith))
 
-pub gives_there : (vars b k e c : ℕ) (g : Graph) (x : DrawingVars) (width : ℕ) → AreVars vars g x width → e < length g.edges → c ≤ width → 1 ≤ b → b ≤ vars → AreWithin vars (flip (int_at_least ((x.edge e).height c) k) ∷ yes b ∷ [])
+pub gives_there : (vars b k e c : ℕ) (g : Graph) (x : DrawingVars) (width : ℕ) → AreVars vars g x width → e < length g.edges → c ≤ width → 1 ≤ b → b ≤ vars →
+    AreWithin vars (flip (int_at_least ((x.edge e).height c) k) ∷ yes b ∷ [])
 gives_there vars b k e c g x width a lt le from to =
     (flip_within vars (int_at_least ((x.edge e).height c) k) (at_least_within vars ((x.edge e).height c) k ((a.edge e lt).height c le)), ((from, to), tt))
 
-pub beside_within : (vars b k : ℕ) (s : ℕ) (i : IntVars) → (1 ≤ s) × (s ≤ vars) → IntIsThere vars i → 1 ≤ b → b ≤ vars → AreWithin vars (flip (yes s) ∷ flip (int_at_least i (k - 1)) ∷ yes b ∷ [])
+pub beside_within : (vars b k : ℕ) (s : ℕ) (i : IntVars) → (1 ≤ s) × (s ≤ vars) → IntIsThere vars i → 1 ≤ b → b ≤ vars →
+    AreWithin vars (flip (yes s) ∷ flip (int_at_least i (k - 1)) ∷ yes b ∷ [])
 beside_within vars b k s i w t from to = (w, (flip_within vars (int_at_least i (k - 1)) (at_least_within vars i (k - 1) t), ((from, to), tt)))
 
-height_at_there : (vars : ℕ) (g : Graph) (x : DrawingVars) (width b k : ℕ) → IsTrackGraph g → AreVars vars g x width → 1 ≤ b → b ≤ vars → AllThere vars (height_at g x width b k)
+height_at_there : (vars : ℕ) (g : Graph) (x : DrawingVars) (width b k : ℕ) → IsTrackGraph g → AreVars vars g x width → 1 ≤ b → b ≤ vars →
+    AllThere vars (height_at g x width b k)
 height_at_there vars g x width b k is a from to =
     let m = length g.edges in
     all_there_append vars (each (edge_height_gives g x width b k) 0 m) (some_height_clause x width m b k)
@@ -387,13 +429,17 @@ height_at_there vars g x width b k is a from to =
     let west = flip (yes (x.edge e).west_up) ∷ flip (int_at_least (x.node (edge g e).west).y (k - 1)) ∷ yes b ∷ [] in
     let east = flip (yes (x.edge e).east_down) ∷ flip (int_at_least (x.node (edge g e).east).y (k - 1)) ∷ yes b ∷ [] in
     all_there_append vars (each (height_gives x b k e) 0 (width + 1)) (height_beside g x b k e)
-    (all_there_each vars (height_gives x b k e) 0 (width + 1) (λ c near far. clause_there vars [] (flip (int_at_least ((x.edge e).height c) k) ∷ yes b ∷ []) tt (gives_there vars b k e c g x width a lt (omega arith) from to)))
+    (all_there_each vars (height_gives x b k e) 0 (width + 1) (λ c near far. clause_there vars [] (flip (int_at_least ((x.edge e).height c) k) ∷ yes b ∷ []) tt
+    (gives_there vars b k e c g x width a lt (omega arith) from to)))
     (all_there_append vars (clause_of [] west) (clause_of [] east)
     (clause_there vars [] west tt (beside_within vars b k (x.edge e).west_up (x.node (edge g e).west).y w.west_up (a.node_y (edge g e).west ends.0) from to))
-    (clause_there vars [] east tt (beside_within vars b k (x.edge e).east_down (x.node (edge g e).east).y w.east_down (a.node_y (edge g e).east ends.1) from to)))))
-    (clause_there vars [] (all_heights x width k 0 m ++ flip (yes b) ∷ []) tt (both_within vars (all_heights x width k 0 m) (flip (yes b) ∷ []) (heights_within vars g x width k 0 m a (omega arith)) ((from, to), tt)))
+    (clause_there vars [] east tt (beside_within vars b k (x.edge e).east_down (x.node (edge g e).east).y w.east_down (a.node_y (edge g e).east ends.1) from
+    to)))))
+    (clause_there vars [] (all_heights x width k 0 m ++ flip (yes b) ∷ []) tt (both_within vars (all_heights x width k 0 m) (flip (yes b) ∷ [])
+    (heights_within vars g x width k 0 m a (omega arith)) ((from, to), tt)))
 
-pub height_there : (vars : ℕ) (g : Graph) (x : DrawingVars) (width last cap : ℕ) → IsTrackGraph g → AreVars vars g x width → vars ≤ last → AllThere (last + cap) (height_bound g x width last cap)
+pub height_there : (vars : ℕ) (g : Graph) (x : DrawingVars) (width last cap : ℕ) → IsTrackGraph g → AreVars vars g x width → vars ≤ last →
+    AllThere (last + cap) (height_bound g x width last cap)
 height_there vars g x width last cap is a le =
     all_there_each (last + cap) (λ k. height_at g x width (last + k) k) 1 cap (λ k from to.
     height_at_there (last + cap) g x width (last + k) k is (vars_more vars (last + cap) g x width (omega arith) a) (omega arith) (omega arith))

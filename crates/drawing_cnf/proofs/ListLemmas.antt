@@ -1,5 +1,6 @@
 -- The lines of bounds: what they are, and which Bound lines are among them.
-use Rattle.std.proofs.Common.{◌≡◌, ◌≤◌, ◌<◌, ℕ, zero, suc, ◌+◌, Bool, false, cond, List, [], ◌∷◌, ◌++◌, length, map, refl, sym, ◌∙◌, ap, subst, inl, inr, arith, append-nil, append_assoc}
+use Rattle.std.proofs.Common.{◌≡◌, ◌≤◌, ◌<◌, ℕ, zero, suc, ◌+◌, Bool, false, cond, List, [], ◌∷◌, ◌++◌, length, map, refl, sym, ◌∙◌, ap, subst, inl, inr}
+use Rattle.std.proofs.Common.{arith, append-nil, append_assoc}
 use Rattle.std.specs.Prelude.{Contains, flat_map, nat_eq}
 use Rattle.std.proofs.lemmas.Bool.Decides.{nat_tests}
 use Rattle.std.proofs.lemmas.Grind.{flat_map-append}
@@ -56,7 +57,8 @@ given_bound g x grid b =
     ∙ ap (λ (cs : Clauses). clauses_of_bound g x grid b ++ cs) (given_bounds b.criterion 1 (variables_behind b.last b.cap))
     ∙ append-nil (clauses_of_bound g x grid b)
 
-given_many : (g : Graph) (x : DrawingVars) (grid : GridSize) (bounds : List Bound) → flat_map given (flat_map (lines_of_bound g x grid) bounds) ≡ bounds_clauses g x grid bounds
+given_many : (g : Graph) (x : DrawingVars) (grid : GridSize) (bounds : List Bound) →
+    flat_map given (flat_map (lines_of_bound g x grid) bounds) ≡ bounds_clauses g x grid bounds
 given_many g x grid [] = refl
 given_many g x grid (b ∷ bs) =
     flat_map-append given (lines_of_bound g x grid b) (flat_map (lines_of_bound g x grid) bs)
@@ -77,7 +79,8 @@ pub with_more : (g : Graph) (above overlap : ℕ → ℕ → Bool) (grid : GridS
 with_more g above overlap grid bounds b =
     let x = drawing_vars g grid in
     let first = map Formula (formula_clauses g above overlap grid) in
-    ap (λ (ls : Lines). first ++ ls) (flat_map-append (lines_of_bound g x grid) bounds (b ∷ []) ∙ ap (λ (ls : Lines). flat_map (lines_of_bound g x grid) bounds ++ ls) (append-nil (lines_of_bound g x grid b)))
+    ap (λ (ls : Lines). first ++ ls) (flat_map-append (lines_of_bound g x grid) bounds (b ∷ [])
+    ∙ ap (λ (ls : Lines). flat_map (lines_of_bound g x grid) bounds ++ ls) (append-nil (lines_of_bound g x grid b)))
     ∙ sym (append_assoc first (flat_map (lines_of_bound g x grid) bounds) (lines_of_bound g x grid b))
 
 -- ---- the Bound lines among them
@@ -90,9 +93,11 @@ pub record IsBoundLine (c : Criterion) (k last n : ℕ) (d : Criterion) (j : ℕ
   pub is : x.0 + k ≡ last + 1 + j
 
 pub first_line : {X : Type 0} (x y : X) → Contains (x ∷ []) y → x ≡ y
-first_line {X} x y there = All-contains (λ (z : X). z ≡ y → x ≡ y) (x ∷ []) y (All-cons (λ (z : X). z ≡ y → x ≡ y) x [] (λ e. e) (All-nil (λ (z : X). z ≡ y → x ≡ y))) there refl
+first_line {X} x y there = All-contains (λ (z : X). z ≡ y → x ≡ y) (x ∷ []) y (All-cons (λ (z : X). z ≡ y → x ≡ y) x [] (λ e. e)
+    (All-nil (λ (z : X). z ≡ y → x ≡ y))) there refl
 
-pub in_bound_lines : (c : Criterion) (k last n : ℕ) (d : Criterion) (j : ℕ) (x : Var) → Contains (bound_lines c k (variables_behind last n)) (BoundLine d j x) → IsBoundLine c k last n d j x
+pub in_bound_lines : (c : Criterion) (k last n : ℕ) (d : Criterion) (j : ℕ) (x : Var) → Contains (bound_lines c k (variables_behind last n)) (BoundLine d j x) →
+    IsBoundLine c k last n d j x
 in_bound_lines c k last zero d j x there = absurd (let lt = there.1 in omega arith)
 in_bound_lines c k last (suc n) d j x there =
     let v : Var = record { 0 = last + 1 } in
@@ -112,11 +117,14 @@ in_bound_lines c k last (suc n) d j x there =
           record { same = r.same; from = omega arith; to = omega arith; is = omega arith }
     ]
 
-pub bound_line_there : (c : Criterion) (k last n i : ℕ) → i < n → Contains (bound_lines c k (variables_behind last n)) (BoundLine c (k + i) (record { 0 = last + 1 + i }))
+pub bound_line_there : (c : Criterion) (k last n i : ℕ) → i < n →
+    Contains (bound_lines c k (variables_behind last n)) (BoundLine c (k + i) (record { 0 = last + 1 + i }))
 bound_line_there c k last zero i lt = absurd (omega arith)
 bound_line_there c k last (suc n) zero lt =
     subst (λ m. Contains (bound_lines c k (variables_behind last (suc n))) (BoundLine c m (record { 0 = last + 1 + 0 }))) (let e : k ≡ k + 0 = omega arith in e)
-    (subst (λ m. Contains (bound_lines c k (variables_behind last (suc n))) (BoundLine c k (record { 0 = m }))) (let e : last + 1 ≡ last + 1 + 0 = omega arith in e) (0, omega arith, refl))
+    (subst (λ m. Contains (bound_lines c k (variables_behind last (suc n))) (BoundLine c k (record {
+      0 = m;
+    }))) (let e : last + 1 ≡ last + 1 + 0 = omega arith in e) (0, omega arith, refl))
 bound_line_there c k last (suc n) (suc i) lt =
     let rest = bound_lines c (k + 1) (variables_behind (last + 1) n) in
     let there = bound_line_there c (k + 1) (last + 1) n i (omega arith) in
@@ -125,7 +133,8 @@ bound_line_there c k last (suc n) (suc i) lt =
     (subst (λ m. Contains rest (BoundLine c (k + 1 + i) (record { 0 = m }))) (let e : last + 1 + 1 + i ≡ last + 1 + suc i = omega arith in e) there))
 
 no_bound_among : (cs : Clauses) (d : Criterion) (j : ℕ) (x : Var) → Contains (map Formula cs) (BoundLine d j x) → ⊥
-no_bound_among cs d j x there = All-contains (λ (l : LogLine). l ≡ BoundLine d j x → ⊥) (map Formula cs) (BoundLine d j x) (All-map (λ (l : LogLine). l ≡ BoundLine d j x → ⊥) Formula cs (λ k e lt f. cc)) there refl
+no_bound_among cs d j x there = All-contains (λ (l : LogLine). l ≡ BoundLine d j x → ⊥) (map Formula cs) (BoundLine d j x)
+    (All-map (λ (l : LogLine). l ≡ BoundLine d j x → ⊥) Formula cs (λ k e lt f. cc)) there refl
 
 -- the Bound line is one of a bound in the list
 pub record IsOfBound (bounds : List Bound) (d : Criterion) (j : ℕ) (x : Var) : Type 0 where
@@ -133,39 +142,46 @@ pub record IsOfBound (bounds : List Bound) (d : Criterion) (j : ℕ) (x : Var) :
   pub among : Contains bounds told
   pub line : IsBoundLine told.criterion 1 told.last told.cap d j x
 
-in_many : (g : Graph) (v : DrawingVars) (grid : GridSize) (bounds : List Bound) (d : Criterion) (j : ℕ) (x : Var) → Contains (flat_map (lines_of_bound g v grid) bounds) (BoundLine d j x) → IsOfBound bounds d j x
+in_many : (g : Graph) (v : DrawingVars) (grid : GridSize) (bounds : List Bound) (d : Criterion) (j : ℕ) (x : Var) →
+    Contains (flat_map (lines_of_bound g v grid) bounds) (BoundLine d j x) → IsOfBound bounds d j x
 in_many g v grid [] d j x there = absurd (let lt = there.1 in omega arith)
 in_many g v grid (b ∷ bs) d j x there =
     elim (Contains-append_cases (lines_of_bound g v grid b) (flat_map (lines_of_bound g v grid) bs) (BoundLine d j x) there) [
-      | inl here ↦ elim (Contains-append_cases (map Formula (clauses_of_bound g v grid b)) (bound_lines b.criterion 1 (variables_behind b.last b.cap)) (BoundLine d j x) here) [
-        | inl none ↦ absurd (no_bound_among (clauses_of_bound g v grid b) d j x none)
-        | inr some ↦ record { told = b; among = (0, omega arith, refl); line = in_bound_lines b.criterion 1 b.last b.cap d j x some }
-      ]
+      | inl here ↦ elim (Contains-append_cases (map Formula (clauses_of_bound g v grid b)) (bound_lines b.criterion 1 (variables_behind b.last b.cap))
+          (BoundLine d j x) here) [
+            | inl none ↦ absurd (no_bound_among (clauses_of_bound g v grid b) d j x none)
+            | inr some ↦ record { told = b; among = (0, omega arith, refl); line = in_bound_lines b.criterion 1 b.last b.cap d j x some }
+          ]
       | inr later ↦
           let r = in_many g v grid bs d j x later in
           record { told = r.told; among = Contains-append_right (b ∷ []) bs r.told r.among; line = r.line }
     ]
 
-pub in_lines : (g : Graph) (above overlap : ℕ → ℕ → Bool) (grid : GridSize) (bounds : List Bound) (d : Criterion) (j : ℕ) (x : Var) → Contains (lines_with g above overlap grid bounds) (BoundLine d j x) → IsOfBound bounds d j x
+pub in_lines : (g : Graph) (above overlap : ℕ → ℕ → Bool) (grid : GridSize) (bounds : List Bound) (d : Criterion) (j : ℕ) (x : Var) →
+    Contains (lines_with g above overlap grid bounds) (BoundLine d j x) → IsOfBound bounds d j x
 in_lines g above overlap grid bounds d j x there =
-    elim (Contains-append_cases (map Formula (formula_clauses g above overlap grid)) (flat_map (lines_of_bound g (drawing_vars g grid) grid) bounds) (BoundLine d j x) there) [
+    elim (Contains-append_cases (map Formula (formula_clauses g above overlap grid)) (flat_map (lines_of_bound g (drawing_vars g grid) grid) bounds)
+    (BoundLine d j x) there) [
       | inl none ↦ absurd (no_bound_among (formula_clauses g above overlap grid) d j x none)
       | inr some ↦ in_many g (drawing_vars g grid) grid bounds d j x some
     ]
 
-many_there : (g : Graph) (v : DrawingVars) (grid : GridSize) (bounds : List Bound) (b : Bound) (line : LogLine) → Contains bounds b → Contains (bound_lines b.criterion 1 (variables_behind b.last b.cap)) line → Contains (flat_map (lines_of_bound g v grid) bounds) line
+many_there : (g : Graph) (v : DrawingVars) (grid : GridSize) (bounds : List Bound) (b : Bound) (line : LogLine) → Contains bounds b →
+    Contains (bound_lines b.criterion 1 (variables_behind b.last b.cap)) line → Contains (flat_map (lines_of_bound g v grid) bounds) line
 many_there g v grid [] b line among there = absurd (let lt = among.1 in omega arith)
 many_there g v grid (c ∷ bs) b line among there =
     elim (Contains-append_cases (c ∷ []) bs b among) [
       | inl here ↦
           let same : c ≡ b = first_line c b here in
           Contains-append_left (lines_of_bound g v grid c) (flat_map (lines_of_bound g v grid) bs) line
-          (subst (λ (d : Bound). Contains (lines_of_bound g v grid d) line) (sym same) (Contains-append_right (map Formula (clauses_of_bound g v grid b)) (bound_lines b.criterion 1 (variables_behind b.last b.cap)) line there))
+          (subst (λ (d : Bound). Contains (lines_of_bound g v grid d) line) (sym same)
+          (Contains-append_right (map Formula (clauses_of_bound g v grid b)) (bound_lines b.criterion 1 (variables_behind b.last b.cap)) line there))
       | inr later ↦ Contains-append_right (lines_of_bound g v grid c) (flat_map (lines_of_bound g v grid) bs) line (many_there g v grid bs b line later there)
     ]
 
 -- the Bound line of a number from 1 to the cap
-pub line_there : (g : Graph) (above overlap : ℕ → ℕ → Bool) (grid : GridSize) (bounds : List Bound) (b : Bound) (k : ℕ) → Contains bounds b → 1 ≤ k → k ≤ b.cap → Contains (lines_with g above overlap grid bounds) (BoundLine b.criterion k (record { 0 = b.last + k }))
+pub line_there : (g : Graph) (above overlap : ℕ → ℕ → Bool) (grid : GridSize) (bounds : List Bound) (b : Bound) (k : ℕ) → Contains bounds b → 1 ≤ k →
+    k ≤ b.cap → Contains (lines_with g above overlap grid bounds) (BoundLine b.criterion k (record { 0 = b.last + k }))
 line_there g above overlap grid bounds b zero among low high = absurd (omega arith)
 line_there g above overlap grid bounds b (suc i) among low high =
     let x = drawing_vars g grid in
@@ -174,25 +190,34 @@ line_there g above overlap grid bounds b (suc i) among low high =
     let there : Contains block (BoundLine b.criterion (suc i) (record { 0 = b.last + suc i })) =
     subst (λ m. Contains block (BoundLine b.criterion (suc i) (record { 0 = m }))) (let e : b.last + 1 + i ≡ b.last + suc i = omega arith in e)
     (subst (λ m. Contains block (BoundLine b.criterion m (record { 0 = b.last + 1 + i }))) (let e : 1 + i ≡ suc i = omega arith in e) here) in
-    Contains-append_right (map Formula (formula_clauses g above overlap grid)) (flat_map (lines_of_bound g x grid) bounds) (BoundLine b.criterion (suc i) (record { 0 = b.last + suc i })) (many_there g x grid bounds b (BoundLine b.criterion (suc i) (record { 0 = b.last + suc i })) among there)
+    Contains-append_right (map Formula (formula_clauses g above overlap grid)) (flat_map (lines_of_bound g x grid) bounds)
+    (BoundLine b.criterion (suc i) (record {
+      0 = b.last + suc i;
+    })) (many_there g x grid bounds b (BoundLine b.criterion (suc i) (record { 0 = b.last + suc i })) among there)
 
 -- ---- what is expected for an order with its caps
 
 pub positive_is_not_zero : (n : ℕ) → nat_eq (suc n) 0 ≡ false
 positive_is_not_zero n = grind (arith, nat_tests)
 
-sums_step : (g : Graph) (above overlap : ℕ → ℕ → Bool) (grid : GridSize) (last : ℕ) (c : Criterion) (rest : List Criterion) (caps : Criterion → ℕ) (n : ℕ) → caps c ≡ n →
-    sums (drawing_problem g above overlap grid) last rest caps ≡ flat_map (lines_of_bound g (drawing_vars g grid) grid) (bounds_from g (drawing_vars g grid) grid caps last rest) →
+sums_step : (g : Graph) (above overlap : ℕ → ℕ → Bool) (grid : GridSize) (last : ℕ) (c : Criterion) (rest : List Criterion) (caps : Criterion → ℕ) (n : ℕ) →
+    caps c ≡ n →
+    sums (drawing_problem g above overlap grid) last rest caps ≡ flat_map (lines_of_bound g (drawing_vars g grid) grid)
+    (bounds_from g (drawing_vars g grid) grid caps last rest) →
     ((m : ℕ) → sums (drawing_problem g above overlap grid) (last + bound_size g (drawing_vars g grid) grid last m c) rest caps
-    ≡ flat_map (lines_of_bound g (drawing_vars g grid) grid) (bounds_from g (drawing_vars g grid) grid caps (last + bound_size g (drawing_vars g grid) grid last m c) rest)) →
-    sums (drawing_problem g above overlap grid) last (c ∷ rest) caps ≡ flat_map (lines_of_bound g (drawing_vars g grid) grid) (bounds_from g (drawing_vars g grid) grid caps last (c ∷ rest))
+    ≡ flat_map (lines_of_bound g (drawing_vars g grid) grid) (bounds_from g (drawing_vars g grid) grid caps
+    (last + bound_size g (drawing_vars g grid) grid last m c) rest)) →
+    sums (drawing_problem g above overlap grid) last (c ∷ rest) caps ≡ flat_map (lines_of_bound g (drawing_vars g grid) grid)
+    (bounds_from g (drawing_vars g grid) grid caps last (c ∷ rest))
 sums_step g above overlap grid last c rest caps zero e skipped further =
     let p = drawing_problem g above overlap grid in
     let x = drawing_vars g grid in
     let left : sums p last (c ∷ rest) caps ≡ sums p last rest caps =
-    ap (λ n. sum_lines p last c n ++ sums p (last + sum_vars_of p last c n) rest caps) e ∙ ap (λ n. sums p n rest caps) (let h : last + 0 ≡ last = omega arith in h) in
+    ap (λ n. sum_lines p last c n ++ sums p (last + sum_vars_of p last c n) rest caps) e
+    ∙ ap (λ n. sums p n rest caps) (let h : last + 0 ≡ last = omega arith in h) in
     let right : bounds_from g x grid caps last (c ∷ rest) ≡ bounds_from g x grid caps last rest =
-    ap (λ n. cond (nat_eq n 0) (bounds_from g x grid caps last rest) (bound c last n ∷ bounds_from g x grid caps (last + bound_size g x grid last n c) rest)) e in
+    ap (λ n. cond (nat_eq n 0) (bounds_from g x grid caps last rest) (bound c last n ∷ bounds_from g x grid caps (last + bound_size g x grid last n c) rest))
+    e in
     left ∙ skipped ∙ sym (ap (flat_map (lines_of_bound g x grid)) right)
 sums_step g above overlap grid last c rest caps (suc n) e skipped further =
     let p = drawing_problem g above overlap grid in
@@ -201,12 +226,14 @@ sums_step g above overlap grid last c rest caps (suc n) e skipped further =
     ap (λ m. sum_lines p last c m ++ sums p (last + sum_vars_of p last c m) rest caps) e in
     let right : bounds_from g x grid caps last (c ∷ rest) ≡ bound c last (suc n) ∷ bounds_from g x grid caps (last + bound_size g x grid last (suc n) c) rest =
     ap (λ m. cond (nat_eq m 0) (bounds_from g x grid caps last rest) (bound c last m ∷ bounds_from g x grid caps (last + bound_size g x grid last m c) rest)) e
-    ∙ ap (λ b. cond b (bounds_from g x grid caps last rest) (bound c last (suc n) ∷ bounds_from g x grid caps (last + bound_size g x grid last (suc n) c) rest)) (positive_is_not_zero n) in
+    ∙ ap (λ b. cond b (bounds_from g x grid caps last rest) (bound c last (suc n) ∷ bounds_from g x grid caps (last + bound_size g x grid last (suc n) c) rest))
+    (positive_is_not_zero n) in
     left ∙ ap (λ (ls : Lines). lines_of_bound g x grid (bound c last (suc n)) ++ ls) (further (suc n))
     ∙ sym (ap (flat_map (lines_of_bound g x grid)) right)
 
 sums_from : (g : Graph) (above overlap : ℕ → ℕ → Bool) (grid : GridSize) (last : ℕ) (order : List Criterion) (caps : Criterion → ℕ) →
-    sums (drawing_problem g above overlap grid) last order caps ≡ flat_map (lines_of_bound g (drawing_vars g grid) grid) (bounds_from g (drawing_vars g grid) grid caps last order)
+    sums (drawing_problem g above overlap grid) last order caps ≡ flat_map (lines_of_bound g (drawing_vars g grid) grid)
+    (bounds_from g (drawing_vars g grid) grid caps last order)
 sums_from g above overlap grid last [] caps = refl
 sums_from g above overlap grid last (c ∷ rest) caps =
     sums_step g above overlap grid last c rest caps (caps c) refl (sums_from g above overlap grid last rest caps)
@@ -214,4 +241,5 @@ sums_from g above overlap grid last (c ∷ rest) caps =
 
 pub expected_with : (g : Graph) (above overlap : ℕ → ℕ → Bool) (grid : GridSize) (order : List Criterion) (caps : Criterion → ℕ) →
     expected_lines (drawing_problem g above overlap grid) order caps ≡ lines_with g above overlap grid (expected_bounds g above overlap grid order caps)
-expected_with g above overlap grid order caps = ap (λ (ls : Lines). map Formula (formula_clauses g above overlap grid) ++ ls) (sums_from g above overlap grid (formula_size g above overlap grid) order caps)
+expected_with g above overlap grid order caps = ap (λ (ls : Lines). map Formula (formula_clauses g above overlap grid) ++ ls)
+    (sums_from g above overlap grid (formula_size g above overlap grid) order caps)

@@ -18,7 +18,8 @@ use Rattle.drawing_cnf.proofs.BoundWords.{sum_bound_words}
 use Rattle.unary_sum.proofs.OutputLemmas.{length-block}
 use Rattle.cnf_laws.specs.Rank.{count_below, one_when}
 use Rattle.drawing_cnf.specs.Moved.{Former, former_at, is_matched, matched_before, matched}
-use Rattle.drawing_cnf.specs.MovedClauses.{kept_clause, unlike_clauses, moved_clauses, clauses_by, clauses_at, nodes_first, nodes_clauses, moved_sum, count_size, count_clauses}
+use Rattle.drawing_cnf.specs.MovedClauses.{kept_clause, unlike_clauses, moved_clauses, clauses_by, clauses_at, nodes_first, nodes_clauses, moved_sum}
+use Rattle.drawing_cnf.specs.MovedClauses.{count_size, count_clauses}
 use Rattle.cnf_laws.proofs.RankLemmas.{count_few}
 
 pub matched_few : (former : Former) → matched former ≤ length former
@@ -35,7 +36,8 @@ node_words : (n : NodeInts) (q : Point) (m : ℕ) → words_of (moved_clauses n 
 node_words n q m =
     let x = unlike_clauses n.x q.x m in
     let y = unlike_clauses n.y q.y m in
-    let a = clause_words [] (flip (int_at_least n.x q.x) ∷ int_at_least n.x (q.x + 1) ∷ flip (int_at_least n.y q.y) ∷ int_at_least n.y (q.y + 1) ∷ flip (yes m) ∷ []) in
+    let a = clause_words [] (flip (int_at_least n.x q.x) ∷ int_at_least n.x (q.x + 1) ∷ flip (int_at_least n.y q.y) ∷ int_at_least n.y (q.y + 1) ∷ flip (yes m)
+    ∷ []) in
     let b = unlike_words n.x q.x m in
     let c = unlike_words n.y q.y m in
     let e = words_append (kept_clause n q m) (x ++ y) in
@@ -60,12 +62,14 @@ count_words x former vars =
     let s = moved_sum former vars in
     let nodes = nodes_clauses x former first in
     let sum = sum_bound s vars in
-    let a : words_of nodes ≤ n * 28 = words_each 28 (clauses_at x former first) 0 n (λ j from to. by_words (former_at former j) (x j) (first + matched_before former j)) in
+    let a : words_of nodes ≤ n * 28 = words_each 28 (clauses_at x former first) 0 n
+    (λ j from to. by_words (former_at former j) (x j) (first + matched_before former j)) in
     let b : words_of sum ≤ 100 * (length (block first k) + 1) * (k + 2) + k * 10 = sum_bound_words s vars in
     let c : words_of sum ≤ 100 * (k + 1) * (k + 2) + k * 10 = subst (λ l. words_of sum ≤ 100 * (l + 1) * (k + 2) + k * 10) (length-block first k) b in
     total (words_of (nodes ++ sum)) (words_of nodes) (words_of sum) n k a c (square_more k n (matched_few former)) (matched_few former) (words_append nodes sum)
   where
-    total : (w a b n k : ℕ) → a ≤ n * 28 → b ≤ 100 * (k + 1) * (k + 2) + k * 10 → (k + 1) * (k + 2) ≤ (n + 1) * (n + 2) → k ≤ n → w ≡ a + b → w ≤ 200 * ((n + 1) * (n + 2))
+    total : (w a b n k : ℕ) → a ≤ n * 28 → b ≤ 100 * (k + 1) * (k + 2) + k * 10 → (k + 1) * (k + 2) ≤ (n + 1) * (n + 2) → k ≤ n → w ≡ a + b →
+    w ≤ 200 * ((n + 1) * (n + 2))
     total w a b n k ha hb hs le e = omega (arith, ha, hb, hs, le, e)
 
 pub count_vars : (former : Former) (vars : ℕ) → count_size former vars ≤ 20 * ((length former + 1) * (length former + 2))
@@ -74,7 +78,8 @@ count_vars former vars =
     let k = matched former in
     let first = nodes_first former vars in
     let b : sum_size (moved_sum former vars) ≤ 10 * (length (block first k) + 1) * (k + 2) = sum_count k (block first k) in
-    let c : sum_size (moved_sum former vars) ≤ 10 * (k + 1) * (k + 2) = subst (λ l. sum_size (moved_sum former vars) ≤ 10 * (l + 1) * (k + 2)) (length-block first k) b in
+    let c : sum_size (moved_sum former vars) ≤ 10 * (k + 1) * (k + 2) = subst (λ l. sum_size (moved_sum former vars) ≤ 10 * (l + 1) * (k + 2))
+    (length-block first k) b in
     total (sum_size (moved_sum former vars)) n k c (square_more k n (matched_few former)) (matched_few former)
   where
     total : (b n k : ℕ) → b ≤ 10 * (k + 1) * (k + 2) → (k + 1) * (k + 2) ≤ (n + 1) * (n + 2) → k ≤ n → k + k + b ≤ 20 * ((n + 1) * (n + 2))

@@ -32,4 +32,5 @@ how_many_less p q zero h = omega arith
 how_many_less p q (suc n) h = let a = how_many_less p q n h in let b = h n in omega (arith, a, b)
 
 pub moved_within : (former : Former) (place : ℕ → Point) → moved former place ≤ matched former
-moved_within former place = how_many_less (λ k. is_moved (former_at former k) (place k)) (λ k. is_matched (former_at former k)) (length former) (λ k. one_less (former_at former k) (place k))
+moved_within former place = how_many_less (λ k. is_moved (former_at former k) (place k)) (λ k. is_matched (former_at former k)) (length former)
+    (λ k. one_less (former_at former k) (place k))

@@ -27,33 +27,41 @@ use Rattle.drawing_cnf.proofs.BoundedLemmas.{ReadsLawful, models_read, sound_wit
 use Rattle.cnf_laws.proofs.MainLemmas.{all_listed, order_tables}
 
 -- A FORMULA WITHOUT BOUNDS
-pub whole_of : (e : Encoding) (g : Graph) (o : EdgeOrder) (grid : GridSize) → e.graph ≡ g → e.order ≡ o → e.grid ≡ grid → IsOrderOf g o → e.formula.clauses ≡ formula_clauses g (is_above o) (is_overlap o) grid → e.formula.vars ≡ formula_size g (is_above o) (is_overlap o) grid → e.bounds ≡ [] → IsWhole e
+pub whole_of : (e : Encoding) (g : Graph) (o : EdgeOrder) (grid : GridSize) → e.graph ≡ g → e.order ≡ o → e.grid ≡ grid → IsOrderOf g o →
+    e.formula.clauses ≡ formula_clauses g (is_above o) (is_overlap o) grid → e.formula.vars ≡ formula_size g (is_above o) (is_overlap o) grid → e.bounds ≡ [] →
+    IsWhole e
 whole_of e g o grid eg eo ed h clauses vars none =
     let size : e.formula.vars ≡ drawing_last e =
-    vars ∙ ap (λ (k : Graph). formula_size k (is_above o) (is_overlap o) grid) (sym eg) ∙ ap (λ (k : EdgeOrder). formula_size e.graph (is_above k) (is_overlap k) grid) (sym eo)
+    vars ∙ ap (λ (k : Graph). formula_size k (is_above o) (is_overlap o) grid) (sym eg)
+    ∙ ap (λ (k : EdgeOrder). formula_size e.graph (is_above k) (is_overlap k) grid) (sym eo)
     ∙ ap (λ (k : GridSize). formula_size e.graph (is_above e.order) (is_overlap e.order) k) (sym ed) in
     record {
       order = subst (λ (k : Graph). IsOrderOf k e.order) (sym eg) (subst (λ (k : EdgeOrder). IsOrderOf g k) (sym eo) h);
       clauses =
-          clauses ∙ ap (λ (k : Graph). formula_clauses k (is_above o) (is_overlap o) grid) (sym eg) ∙ ap (λ (k : EdgeOrder). formula_clauses e.graph (is_above k) (is_overlap k) grid) (sym eo)
+          clauses ∙ ap (λ (k : Graph). formula_clauses k (is_above o) (is_overlap o) grid) (sym eg)
+          ∙ ap (λ (k : EdgeOrder). formula_clauses e.graph (is_above k) (is_overlap k) grid) (sym eo)
           ∙ ap (λ (k : GridSize). formula_clauses e.graph (is_above e.order) (is_overlap e.order) k) (sym ed) ∙ sym (append-nil (drawing_clauses e))
           ∙ ap (λ (bs : List Bound). drawing_clauses e ++ bounds_clauses e.graph (encoded_vars e) e.grid bs) (sym none);
       behind = subst (λ (bs : List Bound). AreBehind e.graph (encoded_vars e) e.grid (drawing_last e) bs) (sym none) tt;
       vars = size ∙ ap (λ (bs : List Bound). bounds_last e.graph (encoded_vars e) e.grid (drawing_last e) bs) (sym none);
     }
 
-pub whole_made : (r : Result Encoding CnfFault) (g : Graph) (o : EdgeOrder) (grid : GridSize) → IsOrderOf g o → IfOk r (λ e. e.graph ≡ g) → IfOk r (λ e. e.order ≡ o) → IfOk r (λ e. e.grid ≡ grid) → IfOk r (λ e. e.formula.clauses ≡ formula_clauses g (is_above o) (is_overlap o) grid) → IfOk r (λ e. e.formula.vars ≡ formula_size g (is_above o) (is_overlap o) grid) → IfOk r (λ e. e.bounds ≡ []) → IfOk r (λ e. IsWhole e)
+pub whole_made : (r : Result Encoding CnfFault) (g : Graph) (o : EdgeOrder) (grid : GridSize) → IsOrderOf g o → IfOk r (λ e. e.graph ≡ g) →
+    IfOk r (λ e. e.order ≡ o) → IfOk r (λ e. e.grid ≡ grid) → IfOk r (λ e. e.formula.clauses ≡ formula_clauses g (is_above o) (is_overlap o) grid) →
+    IfOk r (λ e. e.formula.vars ≡ formula_size g (is_above o) (is_overlap o) grid) → IfOk r (λ e. e.bounds ≡ []) → IfOk r (λ e. IsWhole e)
 whole_made (Ok e) g o grid h eg eo ed clauses vars none = whole_of e g o grid eg eo ed h clauses vars none
 whole_made (Err x) g o grid h eg eo ed clauses vars none = tt
 
 -- bounds lie behind the variable behind which the first one does
-pub last_rises : (g : Graph) (x : DrawingVars) (grid : GridSize) (vars : ℕ) (bounds : List Bound) → AreBehind g x grid vars bounds → vars ≤ bounds_last g x grid vars bounds
+pub last_rises : (g : Graph) (x : DrawingVars) (grid : GridSize) (vars : ℕ) (bounds : List Bound) → AreBehind g x grid vars bounds →
+    vars ≤ bounds_last g x grid vars bounds
 last_rises g x grid vars [] h = omega arith
 last_rises g x grid vars (b ∷ rest) h = let low = h.0 in omega (arith, last_rises g x grid (b.last + size_of_bound g x grid b) rest h.1)
 
 -- ONE DRAWING
 -- drawings with laws 1 and 3 for which an assignment stands are one
-pub one_joined : (v : Assignment) (g : Graph) (grid : GridSize) (x : DrawingVars) (a b : Drawing) → IsTrackGraph g → IsJoinedOnGrid g grid a → IsJoinedOnGrid g grid b → StandsFor v g x a → StandsFor v g x b → a ≡ b
+pub one_joined : (v : Assignment) (g : Graph) (grid : GridSize) (x : DrawingVars) (a b : Drawing) → IsTrackGraph g → IsJoinedOnGrid g grid a →
+    IsJoinedOnGrid g grid b → StandsFor v g x a → StandsFor v g x b → a ≡ b
 one_joined v g grid x a b is la lb sa sb =
     ap (λ (ps : List Point). drawing ps a.lines) places ∙ ap (λ (ls : List (List Point)). drawing b.places ls) lines
   where
@@ -92,22 +100,29 @@ one_joined v g grid x a b is la lb sa sb =
         get_or_default a.lines k l [] lt ∙ one_line k (omega arith) ∙ get_or_default b.lines k [] l (omega arith))
 
 -- so are lawful ones
-pub one_drawing : (v : Assignment) (g : Graph) (above : ℕ → ℕ → Bool) (grid : GridSize) (x : DrawingVars) (a b : Drawing) → IsTrackGraph g → Lawful g above grid a → Lawful g above grid b → StandsFor v g x a → StandsFor v g x b → a ≡ b
+pub one_drawing : (v : Assignment) (g : Graph) (above : ℕ → ℕ → Bool) (grid : GridSize) (x : DrawingVars) (a b : Drawing) → IsTrackGraph g →
+    Lawful g above grid a → Lawful g above grid b → StandsFor v g x a → StandsFor v g x b → a ≡ b
 one_drawing v g above grid x a b is la lb sa sb = one_joined v g grid x a b is (lawful_loose g above grid a is la) (lawful_loose g above grid b is lb) sa sb
 
 -- A WHOLE FORMULA
-pub whole_reads : (e : Encoding) → IsTrackGraph e.graph → IsGrid e.grid → IsWhole e → (v : Assignment) → SatisfiesAll v e.formula.clauses → ReadsLawful v e.graph (is_above e.order) e.grid
+pub whole_reads : (e : Encoding) → IsTrackGraph e.graph → IsGrid e.grid → IsWhole e → (v : Assignment) → SatisfiesAll v e.formula.clauses →
+    ReadsLawful v e.graph (is_above e.order) e.grid
 whole_reads e is size w v h =
-    models_read v e.graph (is_above e.order) e.grid (instances e.graph (is_above e.order) (is_overlap e.order)) is size (all_listed e.graph (is_above e.order) (is_overlap e.order) (order_tables e.graph e.order w.order))
+    models_read v e.graph (is_above e.order) e.grid (instances e.graph (is_above e.order) (is_overlap e.order)) is size
+    (all_listed e.graph (is_above e.order) (is_overlap e.order) (order_tables e.graph e.order w.order))
     (satisfies_left v (drawing_clauses e) (bounds_clauses e.graph (encoded_vars e) e.grid e.bounds) (subst (λ (cs : Clauses). SatisfiesAll v cs) w.clauses h))
 
-pub whole_sound : (e : Encoding) → IsTrackGraph e.graph → IsGrid e.grid → IsWhole e → SoundWith e.graph (is_above e.order) e.grid (encoded_vars e) e.formula.clauses e.bounds
+pub whole_sound : (e : Encoding) → IsTrackGraph e.graph → IsGrid e.grid → IsWhole e →
+    SoundWith e.graph (is_above e.order) e.grid (encoded_vars e) e.formula.clauses e.bounds
 whole_sound e is size w v h =
-    sound_with e.graph (is_above e.order) e.grid (instances e.graph (is_above e.order) (is_overlap e.order)) e.bounds is size (all_listed e.graph (is_above e.order) (is_overlap e.order) (order_tables e.graph e.order w.order)) v
+    sound_with e.graph (is_above e.order) e.grid (instances e.graph (is_above e.order) (is_overlap e.order)) e.bounds is size
+    (all_listed e.graph (is_above e.order) (is_overlap e.order) (order_tables e.graph e.order w.order)) v
     (subst (λ (cs : Clauses). SatisfiesAll v cs) w.clauses h)
 
 -- a model that stands for a lawful drawing tells its values
-pub whole_tells : (e : Encoding) (v : Assignment) (d : Drawing) → IsTrackGraph e.graph → IsGrid e.grid → IsWhole e → SatisfiesAll v e.formula.clauses → Lawful e.graph (is_above e.order) e.grid d → StandsFor v e.graph (encoded_vars e) d → Tells v (values_of d) e.bounds
+pub whole_tells : (e : Encoding) (v : Assignment) (d : Drawing) → IsTrackGraph e.graph → IsGrid e.grid → IsWhole e → SatisfiesAll v e.formula.clauses →
+    Lawful e.graph (is_above e.order) e.grid d → StandsFor v e.graph (encoded_vars e) d → Tells v (values_of d) e.bounds
 whole_tells e v d is size w h lawful stands =
     let s = whole_sound e is size w v h in
-    subst (λ (b : Drawing). Tells v (values_of b) e.bounds) (one_drawing v e.graph (is_above e.order) e.grid (encoded_vars e) s.drawing d is s.lawful lawful s.stands stands) s.tells
+    subst (λ (b : Drawing). Tells v (values_of b) e.bounds) (one_drawing v e.graph (is_above e.order) e.grid (encoded_vars e) s.drawing d is s.lawful lawful
+    s.stands stands) s.tells

@@ -1,5 +1,6 @@
 -- The width bound is exact, and each drawing extends to it.
-use Rattle.std.proofs.Common.{◌≡◌, ◌⊎◌, ℕ, zero, suc, ◌+◌, ◌-◌, ◌≤◌, ◌<◌, Bool, true, false, not, List, [], ◌∷◌, ◌++◌, map, length, inl, inr, refl, sym, ◌∙◌, ap, subst, arith}
+use Rattle.std.proofs.Common.{◌≡◌, ◌⊎◌, ℕ, zero, suc, ◌+◌, ◌-◌, ◌≤◌, ◌<◌, Bool, true, false, not, List, [], ◌∷◌, ◌++◌, map, length, inl, inr, refl, sym, ◌∙◌}
+use Rattle.std.proofs.Common.{ap, subst, arith}
 use Rattle.std.specs.Prelude.{nat_le, All, max}
 use Rattle.std.specs.List.{flat_map}
 use Rattle.std.proofs.lemmas.Bool.Decides.{nat_tests, leb_tells}
@@ -16,7 +17,8 @@ use Rattle.cnf_core.specs.Clause.{Clauses, AllThere}
 use Rattle.cnf_core.specs.Assignment.{Assignment, SatisfiesAll, Extends}
 use Rattle.cnf_core.specs.LitOrTruth.{yes, flip, value, SomeTrue, AreWithin}
 use Rattle.cnf_core.specs.Formula.{each}
-use Rattle.cnf_core.proofs.ClauseLemmas.{first_or_later, satisfies_append, satisfies_left, satisfies_right, satisfies_each, satisfies_at, all_there_append, all_there_each}
+use Rattle.cnf_core.proofs.ClauseLemmas.{first_or_later, satisfies_append, satisfies_left, satisfies_right, satisfies_each, satisfies_at, all_there_append}
+use Rattle.cnf_core.proofs.ClauseLemmas.{all_there_each}
 use Rattle.cnf_core.proofs.GatherLemmas.{value-flip, flip_within, clause_holds, clause_there}
 use Rattle.cnf_core.proofs.SettingLemmas.{patch, patch_same}
 use Rattle.order_int.specs.OrderInt.{int_at_least}
@@ -38,17 +40,21 @@ all_west : (ps qs : List Point) → All (λ (p : Point). p.x ≤ maximum (map (�
 all_west [] qs = All-nil (λ (p : Point). p.x ≤ maximum (map (λ (p : Point). p.x) qs))
 all_west (q ∷ ps) qs =
     let m = maximum (map (λ (p : Point). p.x) (ps ++ qs)) in
-    All-cons (λ (p : Point). p.x ≤ max q.x m) q ps (omega arith) (All-weaker (λ (p : Point). p.x ≤ m) (λ (p : Point). p.x ≤ max q.x m) (λ p le. omega arith) ps (all_west ps qs))
+    All-cons (λ (p : Point). p.x ≤ max q.x m) q ps (omega arith) (All-weaker (λ (p : Point). p.x ≤ m) (λ (p : Point). p.x ≤ max q.x m) (λ p le. omega arith) ps
+    (all_west ps qs))
 
 -- the nodes' columns are those of all points
 pub place_low : (g : Graph) (grid : GridSize) (d : Drawing) (n : ℕ) → IsJoinedOnGrid g grid d → n < length g.nodes → (place d n).x ≤ width_of d
-place_low g grid d n loose lt = All-get_or (λ (p : Point). p.x ≤ width_of d) d.places n origin (let z = loose.fits.size.places in omega arith) (all_west d.places (flat_map (λ l. l) d.lines))
+place_low g grid d n loose lt = All-get_or (λ (p : Point). p.x ≤ width_of d) d.places n origin (let z = loose.fits.size.places in omega arith)
+    (all_west d.places (flat_map (λ l. l) d.lines))
 
-pub width_low : (g : Graph) (grid : GridSize) (d : Drawing) (w : ℕ) → IsTrackGraph g → IsJoinedOnGrid g grid d → ((n : ℕ) → n < length g.nodes → (place d n).x ≤ w) → width_of d ≤ w
+pub width_low : (g : Graph) (grid : GridSize) (d : Drawing) (w : ℕ) → IsTrackGraph g → IsJoinedOnGrid g grid d →
+    ((n : ℕ) → n < length g.nodes → (place d n).x ≤ w) → width_of d ≤ w
 width_low g grid d w is loose low = maximum-le (map (λ (p : Point). p.x) (all_points d)) w
     (All-map (λ k. k ≤ w) (λ (p : Point). p.x) (all_points d) (All-append (λ (p : Point). p.x ≤ w) d.places (flat_map (λ l. l) d.lines)
     (All-from_get_or (λ (p : Point). p.x ≤ w) d.places origin (λ n within. let z = loose.fits.size.places in low n (omega arith)))
-    (All-flat_map (λ (p : Point). p.x ≤ w) d.lines (All-from_get_or (All (λ (p : Point). p.x ≤ w)) d.lines [] (λ e within. let z = loose.fits.size.lines in line_low e (omega arith))))))
+    (All-flat_map (λ (p : Point). p.x ≤ w) d.lines (All-from_get_or (All (λ (p : Point). p.x ≤ w)) d.lines []
+    (λ e within. let z = loose.fits.size.lines in line_low e (omega arith))))))
   where
     line_low : (e : ℕ) → e < length g.edges → All (λ (p : Point). p.x ≤ w) (line d e)
     line_low e lt =
@@ -58,12 +64,14 @@ width_low g grid d w is loose low = maximum-le (map (λ (p : Point). p.x) (all_p
         All-weaker (IsOnGrid (grid_size w grid.height)) (λ (p : Point). p.x ≤ w) (λ p on. on.in_width) (line d e)
         (heights_on_grid (grid_size w grid.height) (line d e) j.shape j.in_height (omega arith))
 
-some_node : (v : Assignment) (x : DrawingVars) (k n rest most : ℕ) → n + rest ≤ most → SomeTrue v (node_columns x k n rest) → (i : ℕ) × (i < most) × Is (value v (int_at_least (x.node i).x k))
+some_node : (v : Assignment) (x : DrawingVars) (k n rest most : ℕ) → n + rest ≤ most → SomeTrue v (node_columns x k n rest) →
+    (i : ℕ) × (i < most) × Is (value v (int_at_least (x.node i).x k))
 some_node v x k n zero most le h = absurd h
 some_node v x k n (suc rest) most le (inl h) = (n, omega arith, h)
 some_node v x k n (suc rest) most le (inr h) = some_node v x k (n + 1) rest most (omega arith) h
 
-pub width_tells : (v : Assignment) (g : Graph) (x : DrawingVars) (grid : GridSize) (d : Drawing) (b k : ℕ) → Read v g x grid d → 1 ≤ k → SatisfiesAll v (width_at g x b k) → v b ≡ nat_le k (width_of d)
+pub width_tells : (v : Assignment) (g : Graph) (x : DrawingVars) (grid : GridSize) (d : Drawing) (b k : ℕ) → Read v g x grid d → 1 ≤ k →
+    SatisfiesAll v (width_at g x b k) → v b ≡ nat_le k (width_of d)
 width_tells v g x grid d b k r from h = cases (v b) refl
   where
     m : ℕ
@@ -93,7 +101,8 @@ width_tells v g x grid d b k r from h = cases (v b) refl
           let more = le.1 in
           let low = width_low g grid d (k - 1) r.graph r.loose (λ n lt. elim (leb_tells k (place d n).x) [
             | inr gt ↦ let less = gt.1 in omega arith
-            | inl high ↦ absurd (elim (either_of v (flip (int_at_least (x.node n).x k)) (yes b) (satisfies_at v (column_gives x b k) 0 m (satisfies_left v given long h) n (omega arith) (omega arith))) [
+            | inl high ↦ absurd (elim (either_of v (flip (int_at_least (x.node n).x k)) (yes b)
+            (satisfies_at v (column_gives x b k) 0 m (satisfies_left v given long h) n (omega arith) (omega arith))) [
               | inl off ↦ cc (sym (value-flip v (int_at_least (x.node n).x k)) ∙ off, reads n lt ∙ high.0)
               | inr on ↦ cc (s, on)
             ])
@@ -101,15 +110,20 @@ width_tells v g x grid d b k r from h = cases (v b) refl
           absurd (omega arith)
     ]
 
-pub width_exact : (v : Assignment) (g : Graph) (x : DrawingVars) (grid : GridSize) (d : Drawing) (last cap : ℕ) → Read v g x grid d → SatisfiesAll v (width_bound g x last cap) → IsExact v last cap (width_of d)
-width_exact v g x grid d last cap r h k from to = width_tells v g x grid d (last + k) k r from (satisfies_at v (λ k. width_at g x (last + k) k) 1 cap h k from (omega arith))
+pub width_exact : (v : Assignment) (g : Graph) (x : DrawingVars) (grid : GridSize) (d : Drawing) (last cap : ℕ) → Read v g x grid d →
+    SatisfiesAll v (width_bound g x last cap) → IsExact v last cap (width_of d)
+width_exact v g x grid d last cap r h k from to = width_tells v g x grid d (last + k) k r from
+    (satisfies_at v (λ k. width_at g x (last + k) k) 1 cap h k from (omega arith))
 
 -- either one is at least k, or all are less
-columns_or : (v : Assignment) (x : DrawingVars) (k n rest : ℕ) → SomeTrue v (node_columns x k n rest) ⊎ ((i : ℕ) → n ≤ i → i < n + rest → value v (int_at_least (x.node i).x k) ≡ false)
+columns_or : (v : Assignment) (x : DrawingVars) (k n rest : ℕ) → SomeTrue v (node_columns x k n rest) ⊎
+    ((i : ℕ) → n ≤ i → i < n + rest → value v (int_at_least (x.node i).x k) ≡ false)
 columns_or v x k n zero = inr (λ i from to. absurd (omega arith))
 columns_or v x k n (suc rest) = cases (value v (int_at_least (x.node n).x k)) refl (columns_or v x k (n + 1) rest)
   where
-    cases : (b : Bool) → value v (int_at_least (x.node n).x k) ≡ b → (SomeTrue v (node_columns x k (n + 1) rest) ⊎ ((i : ℕ) → n + 1 ≤ i → i < n + 1 + rest → value v (int_at_least (x.node i).x k) ≡ false)) → SomeTrue v (node_columns x k n (suc rest)) ⊎ ((i : ℕ) → n ≤ i → i < n + suc rest → value v (int_at_least (x.node i).x k) ≡ false)
+    cases : (b : Bool) → value v (int_at_least (x.node n).x k) ≡ b →
+    (SomeTrue v (node_columns x k (n + 1) rest) ⊎ ((i : ℕ) → n + 1 ≤ i → i < n + 1 + rest → value v (int_at_least (x.node i).x k) ≡ false)) →
+    SomeTrue v (node_columns x k n (suc rest)) ⊎ ((i : ℕ) → n ≤ i → i < n + suc rest → value v (int_at_least (x.node i).x k) ≡ false)
     cases true s other = inl (inl s)
     cases false s (inl a) = inl (inr a)
     cases false s (inr f) = inr (λ i from to. elim (first_or_later n i from) [
@@ -118,7 +132,8 @@ columns_or v x k n (suc rest) = cases (value v (int_at_least (x.node n).x k)) re
     ])
 
 -- and back
-pub width_holds : (v : Assignment) (g : Graph) (x : DrawingVars) (grid : GridSize) (d : Drawing) (b k : ℕ) → Read v g x grid d → 1 ≤ k → v b ≡ nat_le k (width_of d) → SatisfiesAll v (width_at g x b k)
+pub width_holds : (v : Assignment) (g : Graph) (x : DrawingVars) (grid : GridSize) (d : Drawing) (b k : ℕ) → Read v g x grid d → 1 ≤ k →
+    v b ≡ nat_le k (width_of d) → SatisfiesAll v (width_at g x b k)
 width_holds v g x grid d b k r from h = satisfies_append v (each (column_gives x b k) 0 m) (some_column_clause x m b k)
     (satisfies_each v (column_gives x b k) 0 m (λ n low high. give n (omega arith)))
     (clause_holds v [] (node_columns x k 0 m ++ flip (yes b) ∷ []) (inr (some_to v (node_columns x k 0 m) (flip (yes b) ∷ []) (all_or (v b) refl))))
@@ -151,7 +166,8 @@ width_holds v g x grid d b k r from h = satisfies_append v (each (column_gives x
           absurd (grind (arith, nat_tests, t, low, from))
     ]
 
-pub width_extends : (v : Assignment) (vars : ℕ) (g : Graph) (x : DrawingVars) (grid : GridSize) (d : Drawing) (last cap : ℕ) → AreVars vars g x grid.width → vars ≤ last → Read v g x grid d → Extends (last + 1) cap v (λ w. SatisfiesAll w (width_bound g x last cap))
+pub width_extends : (v : Assignment) (vars : ℕ) (g : Graph) (x : DrawingVars) (grid : GridSize) (d : Drawing) (last cap : ℕ) → AreVars vars g x grid.width →
+    vars ≤ last → Read v g x grid d → Extends (last + 1) cap v (λ w. SatisfiesAll w (width_bound g x last cap))
 width_extends v vars g x grid d last cap a le r =
     let f : ℕ → Bool = λ k. nat_le (k + 1) (width_of d) in
     let w = patch (last + 1) cap f v in
@@ -160,22 +176,28 @@ width_extends v vars g x grid d last cap a le r =
     record {
       to = w;
       same = same;
-      holds = satisfies_each w (λ k. width_at g x (last + k) k) 1 cap (λ k from to. width_holds w g x grid d (last + k) k q from (set_bound v last cap (width_of d) k from (omega arith)));
+      holds = satisfies_each w (λ k. width_at g x (last + k) k) 1 cap (λ k from to. width_holds w g x grid d (last + k) k q from
+      (set_bound v last cap (width_of d) k from (omega arith)));
     }
 
 -- where its variables lie
-pub columns_within : (vars : ℕ) (g : Graph) (x : DrawingVars) (width k n rest : ℕ) → AreVars vars g x width → n + rest ≤ length g.nodes → AreWithin vars (node_columns x k n rest)
+pub columns_within : (vars : ℕ) (g : Graph) (x : DrawingVars) (width k n rest : ℕ) → AreVars vars g x width → n + rest ≤ length g.nodes →
+    AreWithin vars (node_columns x k n rest)
 columns_within vars g x width k n zero a le = tt
-columns_within vars g x width k n (suc rest) a le = (at_least_within vars (x.node n).x k (a.node_x n (omega arith)), columns_within vars g x width k (n + 1) rest a (omega arith))
+columns_within vars g x width k n (suc rest) a le = (at_least_within vars (x.node n).x k (a.node_x n (omega arith)), columns_within vars g x width k (n + 1)
+    rest a (omega arith))
 
 width_at_there : (vars : ℕ) (g : Graph) (x : DrawingVars) (width b k : ℕ) → AreVars vars g x width → 1 ≤ b → b ≤ vars → AllThere vars (width_at g x b k)
 width_at_there vars g x width b k a from to =
     let m = length g.nodes in
     all_there_append vars (each (column_gives x b k) 0 m) (some_column_clause x m b k)
-    (all_there_each vars (column_gives x b k) 0 m (λ n low high. clause_there vars [] (flip (int_at_least (x.node n).x k) ∷ yes b ∷ []) tt (flip_within vars (int_at_least (x.node n).x k) (at_least_within vars (x.node n).x k (a.node_x n (omega arith))), ((from, to), tt))))
-    (clause_there vars [] (node_columns x k 0 m ++ flip (yes b) ∷ []) tt (both_within vars (node_columns x k 0 m) (flip (yes b) ∷ []) (columns_within vars g x width k 0 m a (omega arith)) ((from, to), tt)))
+    (all_there_each vars (column_gives x b k) 0 m (λ n low high. clause_there vars [] (flip (int_at_least (x.node n).x k) ∷ yes b ∷ []) tt
+    (flip_within vars (int_at_least (x.node n).x k) (at_least_within vars (x.node n).x k (a.node_x n (omega arith))), ((from, to), tt))))
+    (clause_there vars [] (node_columns x k 0 m ++ flip (yes b) ∷ []) tt (both_within vars (node_columns x k 0 m) (flip (yes b) ∷ [])
+    (columns_within vars g x width k 0 m a (omega arith)) ((from, to), tt)))
 
-pub width_there : (vars : ℕ) (g : Graph) (x : DrawingVars) (width last cap : ℕ) → AreVars vars g x width → vars ≤ last → AllThere (last + cap) (width_bound g x last cap)
+pub width_there : (vars : ℕ) (g : Graph) (x : DrawingVars) (width last cap : ℕ) → AreVars vars g x width → vars ≤ last →
+    AllThere (last + cap) (width_bound g x last cap)
 width_there vars g x width last cap a le =
     all_there_each (last + cap) (λ k. width_at g x (last + k) k) 1 cap (λ k from to.
     width_at_there (last + cap) g x width (last + k) k (vars_more vars (last + cap) g x width (omega arith) a) (omega arith) (omega arith))

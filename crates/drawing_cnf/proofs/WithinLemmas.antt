@@ -14,5 +14,10 @@ past_within vars i k m there from to = (flip_within vars (int_at_least i k) (at_
 
 pub kept_within : (vars : ℕ) (x y : IntVars) (j k m : ℕ) → IntIsThere vars x → IntIsThere vars y → 1 ≤ m → m ≤ vars →
     AreWithin vars (flip (int_at_least x j) ∷ int_at_least x (j + 1) ∷ flip (int_at_least y k) ∷ int_at_least y (k + 1) ∷ flip (yes m) ∷ [])
-kept_within vars x y j k m tx ty from to =
-    (flip_within vars (int_at_least x j) (at_least_within vars x j tx), (at_least_within vars x (j + 1) tx, (flip_within vars (int_at_least y k) (at_least_within vars y k ty), (at_least_within vars y (k + 1) ty, ((from, to), tt)))))
+kept_within vars x y j k m tx ty from to = (
+  flip_within vars (int_at_least x j) (at_least_within vars x j tx),
+  (
+    at_least_within vars x (j + 1) tx,
+    (flip_within vars (int_at_least y k) (at_least_within vars y k ty), (at_least_within vars y (k + 1) ty, ((from, to), tt))),
+  ),
+)

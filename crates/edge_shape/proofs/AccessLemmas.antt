@@ -21,7 +21,8 @@ level_at_end line width h le =
     let is = steps_are line h in
     level_outside (height line) (west_end line).x (steps_of line) width (line_is_flat line h) (inr (omega arith))
 
-pub up_reads : (v : Assignment) (e : EdgeSpot) (line : List Point) (x : ℕ) → is_line line ≡ true → (east_end line).x ≤ e.width → ReadsLine v (lits_of e) e.width line → x ≤ e.width → value v (up_at e x) ≡ is_up (step_slope (height line) x)
+pub up_reads : (v : Assignment) (e : EdgeSpot) (line : List Point) (x : ℕ) → is_line line ≡ true → (east_end line).x ≤ e.width →
+    ReadsLine v (lits_of e) e.width line → x ≤ e.width → value v (up_at e x) ≡ is_up (step_slope (height line) x)
 up_reads v e line x h size r le = elim (leb_tells (suc x) e.width) [
   | inl a ↦ let lt = a.1 in let t : nat_lt x e.width ≡ true = grind (arith, nat_tests) in rw t (r.up x (omega arith))
   | inr a ↦
@@ -31,7 +32,8 @@ up_reads v e line x h size r le = elim (leb_tells (suc x) e.width) [
       rw t (sym (ap is_up (sym (ap (step_slope (height line)) z) ∙ level_at_end line e.width h size)))
 ]
 
-pub down_reads : (v : Assignment) (e : EdgeSpot) (line : List Point) (x : ℕ) → is_line line ≡ true → (east_end line).x ≤ e.width → ReadsLine v (lits_of e) e.width line → x ≤ e.width → value v (down_at e x) ≡ is_down (step_slope (height line) x)
+pub down_reads : (v : Assignment) (e : EdgeSpot) (line : List Point) (x : ℕ) → is_line line ≡ true → (east_end line).x ≤ e.width →
+    ReadsLine v (lits_of e) e.width line → x ≤ e.width → value v (down_at e x) ≡ is_down (step_slope (height line) x)
 down_reads v e line x h size r le = elim (leb_tells (suc x) e.width) [
   | inl a ↦ let lt = a.1 in let t : nat_lt x e.width ≡ true = grind (arith, nat_tests) in rw t (r.down x (omega arith))
   | inr a ↦
@@ -49,19 +51,23 @@ inner_between line c h le =
     let n = steps_of line in
     let is = steps_are line h in
     let t : nat_lt c (w + n) ≡ false = grind (arith, nat_tests) in
-    let none : turns_behind y w n c ≡ false = elim (nat_le w c) as (λ (b : Bool). (b && (nat_lt c (w + n) && not (same_slope (step_slope y c) (step_slope y (c + 1))))) ≡ false) [ true ↦ rw t refl | false ↦ refl ] in
+    let none : turns_behind y w n c ≡ false = elim (nat_le w c) as (λ (b : Bool). (b &&
+    (nat_lt c (w + n) && not (same_slope (step_slope y c) (step_slope y (c + 1))))) ≡ false) [ true ↦ rw t refl | false ↦ refl ] in
     sym (ap (λ (l : List Point). has_inner l (c + 1)) (line_again line n h is)) ∙ inner_turns y w n c ∙ none
 
 -- the first column has none
 inner_first : (line : List Point) → is_line line ≡ true → has_inner line 0 ≡ false
-inner_first line h = sym (ap (λ (l : List Point). has_inner l 0) (line_again line (steps_of line) h (steps_are line h))) ∙ inner_before (height line) (west_end line).x (steps_of line) 0 (omega arith)
+inner_first line h = sym (ap (λ (l : List Point). has_inner l 0) (line_again line (steps_of line) h (steps_are line h)))
+    ∙ inner_before (height line) (west_end line).x (steps_of line) 0 (omega arith)
 
-pub bend_reads : (v : Assignment) (e : EdgeSpot) (line : List Point) (x : ℕ) → is_line line ≡ true → (east_end line).x ≤ e.width → ReadsLine v (lits_of e) e.width line → x ≤ e.width → value v (bend_at e x) ≡ has_inner line x
+pub bend_reads : (v : Assignment) (e : EdgeSpot) (line : List Point) (x : ℕ) → is_line line ≡ true → (east_end line).x ≤ e.width →
+    ReadsLine v (lits_of e) e.width line → x ≤ e.width → value v (bend_at e x) ≡ has_inner line x
 bend_reads v e line zero h size r le = sym (inner_first line h)
 bend_reads v e line (suc c) h size r le =
     let z : c + 1 ≡ suc c = omega arith in
     elim (leb_tells (suc (suc c)) e.width) [
-      | inl a ↦ let lt = a.1 in let p : nat_lt 0 (suc c) ≡ true = grind (arith, nat_tests) in let t : nat_lt (suc c) e.width ≡ true = grind (arith, nat_tests) in rw (p, t) (subst (λ k. v ((lits_of e).bend k) ≡ has_inner line k) z (r.bend c (omega arith)))
+      | inl a ↦ let lt = a.1 in let p : nat_lt 0 (suc c) ≡ true = grind (arith, nat_tests) in let t : nat_lt (suc c) e.width ≡ true = grind
+          (arith, nat_tests) in rw (p, t) (subst (λ k. v ((lits_of e).bend k) ≡ has_inner line k) z (r.bend c (omega arith)))
       | inr a ↦
           let far = a.1 in
           let p : nat_lt 0 (suc c) ≡ true = grind (arith, nat_tests) in

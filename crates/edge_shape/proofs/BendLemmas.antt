@@ -21,7 +21,8 @@ no_level Down = refl
 no_level Level = refl
 no_level Up = refl
 
-pub bends_are : (line : List Point) → is_line line ≡ true → bends line ≡ one_if (not (is_level (slope_west line)) && has_level_piece line) + one_if (not (is_level (slope_east line)) && has_level_piece line)
+pub bends_are : (line : List Point) → is_line line ≡ true → bends line ≡ one_if (not (is_level (slope_west line)) && has_level_piece line) + one_if
+    (not (is_level (slope_east line)) && has_level_piece line)
 bends_are line h = cases (has_level_piece line) refl
   where
     cases : (b : Bool) → has_level_piece line ≡ b → bends line ≡ one_if (not (is_level (slope_west line)) && b) + one_if (not (is_level (slope_east line)) && b)

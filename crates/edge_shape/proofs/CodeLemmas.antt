@@ -16,7 +16,8 @@ inner_three (a ∷ []) d x is = absurd (omega arith)
 inner_three (a ∷ b ∷ []) d x is = absurd (omega arith)
 inner_three (a ∷ b ∷ c ∷ e ∷ rest) d x is = absurd (omega arith)
 
-pub inner_four : (line : List Point) (d : Point) (x : ℕ) → length line ≡ 4 → (nat_eq (slice_index_or line 1 d).x x || nat_eq (slice_index_or line 2 d).x x) ≡ has_inner line x
+pub inner_four : (line : List Point) (d : Point) (x : ℕ) → length line ≡ 4 →
+    (nat_eq (slice_index_or line 1 d).x x || nat_eq (slice_index_or line 2 d).x x) ≡ has_inner line x
 inner_four (a ∷ b ∷ c ∷ e ∷ []) d x is = ap (λ t. nat_eq b.x x || t) (or_false (nat_eq c.x x))
 inner_four [] d x is = absurd (omega arith)
 inner_four (a ∷ []) d x is = absurd (omega arith)

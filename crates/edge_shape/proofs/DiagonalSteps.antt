@@ -15,7 +15,8 @@ use Rattle.edge_shape.proofs.LineHeights.{line_is_flat, steps_are}
 abbrev bit : Bool → ℕ
 bit b = cond b 1 0
 
-pub count_same : (f g : ℕ → Bool) (from n : ℕ) → ((c : ℕ) → from ≤ c → c < from + n → f c ≡ g c) → count_by f (range_with_len from n) ≡ count_by g (range_with_len from n)
+pub count_same : (f g : ℕ → Bool) (from n : ℕ) → ((c : ℕ) → from ≤ c → c < from + n → f c ≡ g c) →
+    count_by f (range_with_len from n) ≡ count_by g (range_with_len from n)
 count_same f g from zero h = refl
 count_same f g from (suc n) h =
     let a = sum_by-cons (λ x. cond (f x) 1 0) from (range_with_len (from + 1) n) in
@@ -43,7 +44,8 @@ step_turns h c = cases (h c) (h (c + 1)) (nat_lt (h c) (h (c + 1))) (nat_lt (h (
     cases a b false true e f = rw (e, f) (grind (arith, nat_tests, f))
     cases a b false false e f = rw (e, f) (grind (arith, nat_tests, e, f))
 
-pub diagonal_steps : (line : List Point) (width : ℕ) → is_line line ≡ true → (east_end line).x ≤ width → diagonal line ≡ count_by (λ c. is_up (step_slope (height line) c) || is_down (step_slope (height line) c)) (range_with_len 0 width)
+pub diagonal_steps : (line : List Point) (width : ℕ) → is_line line ≡ true → (east_end line).x ≤ width →
+    diagonal line ≡ count_by (λ c. is_up (step_slope (height line) c) || is_down (step_slope (height line) c)) (range_with_len 0 width)
 diagonal_steps line width h size =
     let y = height line in
     let w = (west_end line).x in
@@ -53,10 +55,13 @@ diagonal_steps line width h size =
     let flat = line_is_flat line h in
     let cut : width ≡ w + (z - w) + (width - z) = omega arith in
     let there : w + (z - w) ≡ z = omega arith in
-    let whole : turns_in y 0 width ≡ turns_in y 0 (w + (z - w)) + turns_in y (0 + (w + (z - w))) (width - z) = ap (turns_in y 0) cut ∙ turns_in-append y 0 (w + (z - w)) (width - z) in
+    let whole : turns_in y 0 width ≡ turns_in y 0 (w + (z - w)) + turns_in y (0 + (w + (z - w))) (width - z) = ap (turns_in y 0) cut
+    ∙ turns_in-append y 0 (w + (z - w)) (width - z) in
     let front : turns_in y 0 (w + (z - w)) ≡ turns_in y 0 w + turns_in y (0 + w) (z - w) = turns_in-append y 0 w (z - w) in
-    let before : turns_in y 0 w ≡ 0 = count_none (turns y) 0 w (λ c low high. level_turns y c (flat.west c (omega arith) ∙ sym (flat.west (c + 1) (omega arith)))) in
-    let behind : turns_in y (0 + (w + (z - w))) (width - z) ≡ 0 = count_none (turns y) (0 + (w + (z - w))) (width - z) (λ c low high. level_turns y c (flat.east c (omega arith) ∙ sym (flat.east (c + 1) (omega arith)))) in
+    let before : turns_in y 0 w ≡ 0 = count_none (turns y) 0 w (λ c low high. level_turns y c
+    (flat.west c (omega arith) ∙ sym (flat.west (c + 1) (omega arith)))) in
+    let behind : turns_in y (0 + (w + (z - w))) (width - z) ≡ 0 = count_none (turns y) (0 + (w + (z - w))) (width - z)
+    (λ c low high. level_turns y c (flat.east c (omega arith) ∙ sym (flat.east (c + 1) (omega arith)))) in
     let middle : turns_in y (0 + w) (z - w) ≡ turns_in y w (z - w) = (let k : 0 + w ≡ w = omega arith in ap (λ x. turns_in y x (z - w)) k) in
     let all : turns_in y 0 width ≡ turns_in y w (z - w) = omega (arith, whole, front, before, behind, middle) in
     diagonal_by_columns line h ∙ sym all ∙ count_same (turns y) (λ c. is_up (step_slope y c) || is_down (step_slope y c)) 0 width (λ c low high. step_turns y c)

@@ -11,7 +11,9 @@ use Rattle.order_int.proofs.OrderLemmas.{le_means, equal_means}
 use Rattle.edge_shape.specs.Track.{step_slope, IsTrack, IsFlatOutside}
 use Rattle.edge_shape.specs.Rules.{rule_clauses, FollowsRules}
 use Rattle.edge_shape.specs.EdgeVars.{NodeInts, EdgeLits}
-use Rattle.edge_shape.specs.Edge.{range_rules, step_rules, height_clauses, seen_rules, shape_rules, end_rules, same_where, slope_rules, bend_rules, inner_rules, end_piece_rules, level_rules, beside_end_rules, step_clauses, end_clauses, column_clauses, whole_clauses, further_clauses, edge_clauses, ReadsTrack}
+use Rattle.edge_shape.specs.Edge.{range_rules, step_rules, height_clauses, seen_rules, shape_rules, end_rules, same_where, slope_rules, bend_rules}
+use Rattle.edge_shape.specs.Edge.{inner_rules, end_piece_rules, level_rules, beside_end_rules, step_clauses, end_clauses, column_clauses, whole_clauses}
+use Rattle.edge_shape.specs.Edge.{further_clauses, edge_clauses, ReadsTrack}
 use Rattle.edge_shape.specs.Columns.{is_up, is_down, is_level, has_level}
 use Rattle.edge_shape.proofs.RuleLemmas.{rules_say}
 use Rattle.edge_shape.proofs.FamilyLemmas.{StepFacts, range_means, step_means, seen_means, shape_means, same_means, bend_means, inner_means}
@@ -28,17 +30,20 @@ pub record HasRows (e : EdgeLits) (high width : ℕ) : Type 0 where
 abbrev pub heights : Assignment → EdgeLits → ℕ → ℕ → ℕ
 heights v e width c = number v (e.height (min c width))
 
-heights_read : (v : Assignment) (e : EdgeLits) (high width : ℕ) → HasRows e high width → SatisfiesAll v (each (λ c. int_clauses (e.height c)) 0 (width + 1)) → (c : ℕ) → c ≤ width → Reads v (e.height c) (heights v e width c)
+heights_read : (v : Assignment) (e : EdgeLits) (high width : ℕ) → HasRows e high width → SatisfiesAll v (each (λ c. int_clauses (e.height c)) 0 (width + 1)) →
+    (c : ℕ) → c ≤ width → Reads v (e.height c) (heights v e width c)
 heights_read v e high width rows h c le =
     let z : c ≡ min c width = omega arith in
     let low = rows.lowest c le in
-    subst (λ k. Reads v (e.height c) (number v (e.height k))) z (int_means v (e.height c) (omega arith) (satisfies_at v (λ k. int_clauses (e.height k)) 0 (width + 1) h c (omega arith) (omega arith)))
+    subst (λ k. Reads v (e.height c) (number v (e.height k))) z (int_means v (e.height c) (omega arith)
+    (satisfies_at v (λ k. int_clauses (e.height k)) 0 (width + 1) h c (omega arith) (omega arith)))
 
 none : {A : Type 0} → ⊥ ⊎ A → A
 none (inl x) = absurd x
 none (inr a) = a
 
-step_part : (v : Assignment) (e : EdgeLits) (high c : ℕ) → SatisfiesAll v (step_clauses e high c) → (FollowsRules v (step_rules e c) × SatisfiesAll v (height_clauses e high c)) × (FollowsRules v (seen_rules e c) × FollowsRules v (shape_rules e c))
+step_part : (v : Assignment) (e : EdgeLits) (high c : ℕ) → SatisfiesAll v (step_clauses e high c) →
+    (FollowsRules v (step_rules e c) × SatisfiesAll v (height_clauses e high c)) × (FollowsRules v (seen_rules e c) × FollowsRules v (shape_rules e c))
 step_part v e high c h =
     let A = rule_clauses (step_rules e c) in
     let B = height_clauses e high c in
@@ -46,16 +51,22 @@ step_part v e high c h =
     let D = rule_clauses (shape_rules e c) in
     let l = satisfies_left v (A ++ B) (C ++ D) h in
     let r = satisfies_right v (A ++ B) (C ++ D) h in
-    ((rules_say v (step_rules e c) (satisfies_left v A B l), satisfies_right v A B l), (rules_say v (seen_rules e c) (satisfies_left v C D r), rules_say v (shape_rules e c) (satisfies_right v C D r)))
+    ((rules_say v (step_rules e c) (satisfies_left v A B l), satisfies_right v A B l),
+    (rules_say v (seen_rules e c) (satisfies_left v C D r), rules_say v (shape_rules e c) (satisfies_right v C D r)))
 
-pub columns_say : (v : Assignment) (e : EdgeLits) (west east : NodeInts) (high width w n : ℕ) (y : ℕ → ℕ) → HasRows e high width → Reads v west.x w → Reads v east.x (w + n + 1) → ((c : ℕ) → c ≤ width → Reads v (e.height c) (y c)) → SatisfiesAll v (column_clauses e west east high width) → AreColumns v e width y w n
+pub columns_say : (v : Assignment) (e : EdgeLits) (west east : NodeInts) (high width w n : ℕ) (y : ℕ → ℕ) → HasRows e high width → Reads v west.x w →
+    Reads v east.x (w + n + 1) → ((c : ℕ) → c ≤ width → Reads v (e.height c) (y c)) → SatisfiesAll v (column_clauses e west east high width) →
+    AreColumns v e width y w n
 columns_say v e west east high width w n y rows rw rz ry h =
     let ranges = satisfies_left v (each (λ c. rule_clauses (range_rules e west.x east.x c)) 0 (width + 1)) (each (step_clauses e high) 0 width) h in
     let steps = satisfies_right v (each (λ c. rule_clauses (range_rules e west.x east.x c)) 0 (width + 1)) (each (step_clauses e high) 0 width) h in
-    let at : (c : ℕ) → c < width → SatisfiesAll v (step_clauses e high c) = λ c lt. satisfies_at v (step_clauses e high) 0 width steps c (omega arith) (omega arith) in
-    let facts : (c : ℕ) → c < width → StepFacts (v (e.inside c)) (v (e.inside (c + 1))) (v (e.up c)) (v (e.down c)) = λ c lt. step_means v e c (step_part v e high c (at c lt)).0.0 in
+    let at : (c : ℕ) → c < width → SatisfiesAll v (step_clauses e high c) = λ c lt. satisfies_at v (step_clauses e high) 0 width steps c (omega arith)
+    (omega arith) in
+    let facts : (c : ℕ) → c < width → StepFacts (v (e.inside c)) (v (e.inside (c + 1))) (v (e.up c)) (v (e.down c)) = λ c lt. step_means v e c
+    (step_part v e high c (at c lt)).0.0 in
     record {
-      inside = λ c le. range_means v e west.x east.x c w (w + n + 1) rw rz (rules_say v (range_rules e west.x east.x c) (satisfies_at v (λ k. rule_clauses (range_rules e west.x east.x k)) 0 (width + 1) ranges c (omega arith) (omega arith)));
+      inside = λ c le. range_means v e west.x east.x c w (w + n + 1) rw rz (rules_say v (range_rules e west.x east.x c)
+      (satisfies_at v (λ k. rule_clauses (range_rules e west.x east.x k)) 0 (width + 1) ranges c (omega arith) (omega arith)));
       steps = facts;
       goes = λ c lt.
           let ra = ry c (omega arith) in
@@ -70,11 +81,14 @@ columns_say v e west east high width w n y rows rw rz ry h =
     }
 
 -- the four slopes
-slope_part : (v : Assignment) (e : EdgeLits) (x z : IntVars) (c : ℕ) → FollowsRules v (slope_rules e x z c) → (FollowsRules v (same_where x c e.west_up (e.up c)) × FollowsRules v (same_where x c e.west_down (e.down c))) × (FollowsRules v (same_where z (c + 1) e.east_up (e.up c)) × FollowsRules v (same_where z (c + 1) e.east_down (e.down c)))
+slope_part : (v : Assignment) (e : EdgeLits) (x z : IntVars) (c : ℕ) → FollowsRules v (slope_rules e x z c) →
+    (FollowsRules v (same_where x c e.west_up (e.up c)) × FollowsRules v (same_where x c e.west_down (e.down c))) ×
+    (FollowsRules v (same_where z (c + 1) e.east_up (e.up c)) × FollowsRules v (same_where z (c + 1) e.east_down (e.down c)))
 slope_part v e x z c h = (((h.0, (h.1.0, tt)), (h.1.1.0, (h.1.1.1.0, tt))), ((h.1.1.1.1.0, (h.1.1.1.1.1.0, tt)), (h.1.1.1.1.1.1.0, (h.1.1.1.1.1.1.1.0, tt))))
 
 -- the columns, the whole line and the bends
-pub edge_reads : (v : Assignment) (e : EdgeLits) (west east : NodeInts) (high width w n : ℕ) (y : ℕ → ℕ) → w + n + 1 ≤ width → Reads v west.x w → Reads v east.x (w + n + 1) → ((c : ℕ) → c ≤ width → Reads v (e.height c) (y c)) → AreColumns v e width y w n
+pub edge_reads : (v : Assignment) (e : EdgeLits) (west east : NodeInts) (high width w n : ℕ) (y : ℕ → ℕ) → w + n + 1 ≤ width → Reads v west.x w →
+    Reads v east.x (w + n + 1) → ((c : ℕ) → c ≤ width → Reads v (e.height c) (y c)) → AreColumns v e width y w n
     → SatisfiesAll v (whole_clauses e west east width) → SatisfiesAll v (each (λ c. rule_clauses (inner_rules e c)) 0 (width - 1)) → ReadsTrack v e width y w n
 edge_reads v e west east high width w n y size rx rz ry a h inner =
     let A = rule_clauses (end_rules e) in
@@ -83,33 +97,43 @@ edge_reads v e west east high width w n y size rx rz ry a h inner =
     let D = rule_clauses (bend_rules e.second_bend e.east_up e.east_down (e.seen (width - 1))) in
     let slopes = satisfies_right v A B (satisfies_left v (A ++ B) (C ++ D) h) in
     let bends = satisfies_right v (A ++ B) (C ++ D) h in
-    let at : (c : ℕ) → c < width → FollowsRules v (slope_rules e west.x east.x c) = λ c lt. rules_say v (slope_rules e west.x east.x c) (satisfies_at v (λ k. rule_clauses (slope_rules e west.x east.x k)) 0 width slopes c (omega arith) (omega arith)) in
+    let at : (c : ℕ) → c < width → FollowsRules v (slope_rules e west.x east.x c) = λ c lt. rules_say v (slope_rules e west.x east.x c)
+    (satisfies_at v (λ k. rule_clauses (slope_rules e west.x east.x k)) 0 width slopes c (omega arith) (omega arith)) in
     let up = columns-up v e width y w n a in
     let down = columns-down v e width y w n a in
     let first = slope_part v e west.x east.x w (at w (omega arith)) in
     let last = slope_part v e west.x east.x (w + n) (at (w + n) (omega arith)) in
     let wu : v e.west_up ≡ is_up (step_slope y w) = same_means v west.x w e.west_up (e.up w) w rx refl first.0.0 ∙ up w (omega arith) in
     let wd : v e.west_down ≡ is_down (step_slope y w) = same_means v west.x w e.west_down (e.down w) w rx refl first.0.1 ∙ down w (omega arith) in
-    let eu : v e.east_up ≡ is_up (step_slope y (w + n)) = same_means v east.x (w + n + 1) e.east_up (e.up (w + n)) (w + n + 1) rz refl last.1.0 ∙ up (w + n) (omega arith) in
-    let ed : v e.east_down ≡ is_down (step_slope y (w + n)) = same_means v east.x (w + n + 1) e.east_down (e.down (w + n)) (w + n + 1) rz refl last.1.1 ∙ down (w + n) (omega arith) in
-    let level : v (e.seen (width - 1)) ≡ has_level y w n = columns-seen v e width y w n a (width - 1) (omega arith) ∙ seen_to_end y w n (width - 1 - (w + n)) (width - 1) (omega arith) in
+    let eu : v e.east_up ≡ is_up (step_slope y (w + n)) = same_means v east.x (w + n + 1) e.east_up (e.up (w + n)) (w + n + 1) rz refl last.1.0
+    ∙ up (w + n) (omega arith) in
+    let ed : v e.east_down ≡ is_down (step_slope y (w + n)) = same_means v east.x (w + n + 1) e.east_down (e.down (w + n)) (w + n + 1) rz refl last.1.1
+    ∙ down (w + n) (omega arith) in
+    let level : v (e.seen (width - 1)) ≡ has_level y w n = columns-seen v e width y w n a (width - 1) (omega arith)
+    ∙ seen_to_end y w n (width - 1 - (w + n)) (width - 1) (omega arith) in
     record {
       inside = a.inside;
       up = up;
       down = down;
       seen = columns-seen v e width y w n a;
       bend = λ c lt.
-          inner_means v e c (a.steps c (omega arith)).one (a.steps (c + 1) (omega arith)).one (rules_say v (inner_rules e c) (satisfies_at v (λ k. rule_clauses (inner_rules e k)) 0 (width - 1) inner c (omega arith) (omega arith)))
-          ∙ turns_are y w n c (v (e.inside c)) (v (e.inside (c + 2))) (v (e.up c)) (v (e.up (c + 1))) (v (e.down c)) (v (e.down (c + 1))) (a.inside c (omega arith)) (a.inside (c + 2) (omega arith)) (up c (omega arith)) (up (c + 1) lt) (down c (omega arith)) (down (c + 1) lt);
+          inner_means v e c (a.steps c (omega arith)).one (a.steps (c + 1) (omega arith)).one
+          (rules_say v (inner_rules e c) (satisfies_at v (λ k. rule_clauses (inner_rules e k)) 0 (width - 1) inner c (omega arith) (omega arith)))
+          ∙ turns_are y w n c (v (e.inside c)) (v (e.inside (c + 2))) (v (e.up c)) (v (e.up (c + 1))) (v (e.down c)) (v (e.down (c + 1)))
+          (a.inside c (omega arith)) (a.inside (c + 2) (omega arith)) (up c (omega arith)) (up (c + 1) lt) (down c (omega arith)) (down (c + 1) lt);
       height = ry;
       west_up = wu;
       west_down = wd;
       east_up = eu;
       east_down = ed;
-      first_bend = bend_means v e.first_bend e.west_up e.west_down (e.seen (width - 1)) (rules_say v (bend_rules e.first_bend e.west_up e.west_down (e.seen (width - 1))) (satisfies_left v C D bends))
-          ∙ ap (λ b. (b || v e.west_down) && v (e.seen (width - 1))) wu ∙ ap (λ b. (is_up (step_slope y w) || b) && v (e.seen (width - 1))) wd ∙ ap (λ b. b && v (e.seen (width - 1))) (diagonal_bool (step_slope y w)) ∙ ap (λ b. not (is_level (step_slope y w)) && b) level;
-      second_bend = bend_means v e.second_bend e.east_up e.east_down (e.seen (width - 1)) (rules_say v (bend_rules e.second_bend e.east_up e.east_down (e.seen (width - 1))) (satisfies_right v C D bends))
-          ∙ ap (λ b. (b || v e.east_down) && v (e.seen (width - 1))) eu ∙ ap (λ b. (is_up (step_slope y (w + n)) || b) && v (e.seen (width - 1))) ed ∙ ap (λ b. b && v (e.seen (width - 1))) (diagonal_bool (step_slope y (w + n))) ∙ ap (λ b. not (is_level (step_slope y (w + n))) && b) level;
+      first_bend = bend_means v e.first_bend e.west_up e.west_down (e.seen (width - 1))
+      (rules_say v (bend_rules e.first_bend e.west_up e.west_down (e.seen (width - 1))) (satisfies_left v C D bends))
+          ∙ ap (λ b. (b || v e.west_down) && v (e.seen (width - 1))) wu ∙ ap (λ b. (is_up (step_slope y w) || b) && v (e.seen (width - 1))) wd
+          ∙ ap (λ b. b && v (e.seen (width - 1))) (diagonal_bool (step_slope y w)) ∙ ap (λ b. not (is_level (step_slope y w)) && b) level;
+      second_bend = bend_means v e.second_bend e.east_up e.east_down (e.seen (width - 1))
+      (rules_say v (bend_rules e.second_bend e.east_up e.east_down (e.seen (width - 1))) (satisfies_right v C D bends))
+          ∙ ap (λ b. (b || v e.east_down) && v (e.seen (width - 1))) eu ∙ ap (λ b. (is_up (step_slope y (w + n)) || b) && v (e.seen (width - 1))) ed
+          ∙ ap (λ b. b && v (e.seen (width - 1))) (diagonal_bool (step_slope y (w + n))) ∙ ap (λ b. not (is_level (step_slope y (w + n))) && b) level;
     }
 
 -- the two ends
@@ -118,7 +142,9 @@ pub record EndsMeet (y : ℕ → ℕ) (a b least w z width : ℕ) : Type 0 where
   pub west : y 0 ≡ a
   pub east : y width ≡ b
 
-pub ends_say : (v : Assignment) (e : EdgeLits) (west east : NodeInts) (least width w z a b : ℕ) (y : ℕ → ℕ) → Reads v west.x w → Reads v west.y a → Reads v east.x z → Reads v east.y b → Reads v (e.height 0) (y 0) → Reads v (e.height width) (y width) → SatisfiesAll v (end_clauses e west east least width) → EndsMeet y a b least w z width
+pub ends_say : (v : Assignment) (e : EdgeLits) (west east : NodeInts) (least width w z a b : ℕ) (y : ℕ → ℕ) → Reads v west.x w → Reads v west.y a →
+    Reads v east.x z → Reads v east.y b → Reads v (e.height 0) (y 0) → Reads v (e.height width) (y width) →
+    SatisfiesAll v (end_clauses e west east least width) → EndsMeet y a b least w z width
 ends_say v e west east least width w z a b y rx ra rz rb r0 r1 h =
     let A = le_clauses west.x east.x least [] in
     let B = equal_clauses (e.height 0) west.y [] in
@@ -144,7 +170,9 @@ pub record TrackIsRead (v : Assignment) (e : EdgeLits) (width least w z a b : �
   pub reads : ReadsTrack v e width y w n
 
 edge_parts : (v : Assignment) (e : EdgeLits) (west east : NodeInts) (least high width : ℕ) → SatisfiesAll v (edge_clauses e west east least high width) →
-    (SatisfiesAll v (each (λ c. int_clauses (e.height c)) 0 (width + 1)) × SatisfiesAll v (end_clauses e west east least width)) × (SatisfiesAll v (column_clauses e west east high width) × (SatisfiesAll v (whole_clauses e west east width) × SatisfiesAll v (further_clauses e west east high width)))
+    (SatisfiesAll v (each (λ c. int_clauses (e.height c)) 0 (width + 1)) × SatisfiesAll v (end_clauses e west east least width)) ×
+    (SatisfiesAll v (column_clauses e west east high width) × (SatisfiesAll v (whole_clauses e west east width) × SatisfiesAll v
+    (further_clauses e west east high width)))
 edge_parts v e west east least high width h =
     let A = each (λ c. int_clauses (e.height c)) 0 (width + 1) in
     let B = end_clauses e west east least width in
@@ -157,7 +185,9 @@ edge_parts v e west east least high width h =
     ((satisfies_left v A B l, satisfies_right v A B l), (satisfies_left v C (D ++ E) r, (satisfies_left v D E s, satisfies_right v D E s)))
 
 -- the clauses mean a track
-pub edge_means : (v : Assignment) (e : EdgeLits) (west east : NodeInts) (least high width w z a b : ℕ) → HasRows e high width → 1 ≤ least → z ≤ width → Reads v west.x w → Reads v west.y a → Reads v east.x z → Reads v east.y b → SatisfiesAll v (edge_clauses e west east least high width) → TrackIsRead v e width least w z a b
+pub edge_means : (v : Assignment) (e : EdgeLits) (west east : NodeInts) (least high width w z a b : ℕ) → HasRows e high width → 1 ≤ least → z ≤ width →
+    Reads v west.x w → Reads v west.y a → Reads v east.x z → Reads v east.y b → SatisfiesAll v (edge_clauses e west east least high width) →
+    TrackIsRead v e width least w z a b
 edge_means v e west east least high width w z a b rows some size rx ra rz rb h =
     let parts = edge_parts v e west east least high width h in
     let y = heights v e width in
@@ -189,8 +219,10 @@ edge_means v e west east least high width w z a b rows some size rx ra rz rb h =
       reads = edge_reads v e west east high width w n y fits rx rz' ry columns parts.1.1.0 inner;
     }
   where
-    past_east : (c : ℕ) → w + (z - w - 1) + 1 ≤ width → AreColumns v e width (heights v e width) w (z - w - 1) → w + (z - w - 1) + 1 ≤ c → heights v e width width ≡ heights v e width (w + (z - w - 1) + 1) → heights v e width c ≡ heights v e width (w + (z - w - 1) + 1)
+    past_east : (c : ℕ) → w + (z - w - 1) + 1 ≤ width → AreColumns v e width (heights v e width) w (z - w - 1) → w + (z - w - 1) + 1 ≤ c →
+    heights v e width width ≡ heights v e width (w + (z - w - 1) + 1) → heights v e width c ≡ heights v e width (w + (z - w - 1) + 1)
     past_east c fits columns le behind =
         let k = min c width in
         let same : min c width ≡ min k width = omega arith in
-        ap (λ j. number v (e.height j)) same ∙ flat_east v e width (heights v e width) w (z - w - 1) columns (k - (w + (z - w - 1) + 1)) k (omega arith) (omega arith)
+        ap (λ j. number v (e.height j)) same ∙ flat_east v e width (heights v e width) w (z - w - 1) columns (k - (w + (z - w - 1) + 1)) k (omega arith)
+        (omega arith)

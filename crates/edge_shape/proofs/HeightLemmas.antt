@@ -22,7 +22,8 @@ near_means v a b m n high ra rb to h = elim (leb_tells 2 m) [
       let one = satisfies_at v (near_clause a b) 1 (high - 1) h (m - 1) (omega arith) (omega arith) in
       elim (clause_says v [] (flip (int_at_least a (m - 1 + 1)) ∷ int_at_least b (m - 1) ∷ []) one) [
         | inl x ↦ absurd x
-        | inr (inl s) ↦ let t : not (nat_le (m - 1 + 1) m) ≡ true = sym (ap not (ra.each (m - 1 + 1))) ∙ sym (value-flip v (int_at_least a (m - 1 + 1))) ∙ s in let e : nat_le (m - 1 + 1) m ≡ true = grind (arith, nat_tests) in absurd (cc (rw e at t))
+        | inr (inl s) ↦ let t : not (nat_le (m - 1 + 1) m) ≡ true = sym (ap not (ra.each (m - 1 + 1))) ∙ sym (value-flip v (int_at_least a (m - 1 + 1)))
+            ∙ s in let e : nat_le (m - 1 + 1) m ≡ true = grind (arith, nat_tests) in absurd (cc (rw e at t))
         | inr (inr (inl s)) ↦ let t : nat_le (m - 1) n ≡ true = sym (rb.each (m - 1)) ∙ s in grind (arith, nat_tests, t)
         | inr (inr (inr s)) ↦ absurd s
       ]
@@ -56,7 +57,8 @@ unless_no v x P e (inl (inl h)) = cc (rw e at h)
 unless_no v x P e (inl (inr h)) = absurd h
 unless_no v x P e (inr p) = p
 
-pub height_means : (v : Assignment) (e : EdgeLits) (high c m n : ℕ) → Reads v (e.height c) m → Reads v (e.height (c + 1)) n → m ≤ high → n ≤ high → (Is (v (e.up c)) → Is (v (e.down c)) → ⊥) → SatisfiesAll v (height_clauses e high c) → GoesBy (v (e.up c)) (v (e.down c)) m n
+pub height_means : (v : Assignment) (e : EdgeLits) (high c m n : ℕ) → Reads v (e.height c) m → Reads v (e.height (c + 1)) n → m ≤ high → n ≤ high →
+    (Is (v (e.up c)) → Is (v (e.down c)) → ⊥) → SatisfiesAll v (height_clauses e high c) → GoesBy (v (e.up c)) (v (e.down c)) m n
 height_means v e high c m n rm rn mh nh one h =
     let a = e.height c in
     let b = e.height (c + 1) in
@@ -96,7 +98,8 @@ by_bools true false m n g = let a = g.up refl in ((λ x. omega arith), ((λ x. c
 by_bools false true m n g = let a = g.down refl in ((λ x. cc), ((λ x. omega arith), (omega arith, omega arith)))
 by_bools false false m n g = let a = g.level refl refl in ((λ x. omega arith), ((λ x. omega arith), (omega arith, omega arith)))
 
-pub height_holds : (v : Assignment) (e : EdgeLits) (high c m n : ℕ) → Reads v (e.height c) m → Reads v (e.height (c + 1)) n → GoesBy (v (e.up c)) (v (e.down c)) m n → SatisfiesAll v (height_clauses e high c)
+pub height_holds : (v : Assignment) (e : EdgeLits) (high c m n : ℕ) → Reads v (e.height c) m → Reads v (e.height (c + 1)) n →
+    GoesBy (v (e.up c)) (v (e.down c)) m n → SatisfiesAll v (height_clauses e high c)
 height_holds v e high c m n rm rn g =
     let a = e.height c in
     let b = e.height (c + 1) in

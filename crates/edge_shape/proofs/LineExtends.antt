@@ -24,7 +24,8 @@ use Rattle.edge_shape.proofs.BendLemmas.{bends_are}
 pub rows_of : (first high width : ℕ) → HasRows (edge_lits first high width) high width
 rows_of first high width = record { lowest = λ c le. refl; highest = λ c le. refl }
 
-pub set_reads : (first high width : ℕ) (v : Assignment) (line : List Point) → 1 ≤ width → ((c : ℕ) → height line c ≤ high) → ReadsLine (set_edge (line_bits line) first high width v) (edge_lits first high width) width line
+pub set_reads : (first high width : ℕ) (v : Assignment) (line : List Point) → 1 ≤ width → ((c : ℕ) → height line c ≤ high) →
+    ReadsLine (set_edge (line_bits line) first high width v) (edge_lits first high width) width line
 set_reads first high width v line some low =
     let b = line_bits line in
     let w = set_edge b first high width v in
@@ -56,7 +57,8 @@ some_width width high least p q line j =
     omega arith
 
 -- with a line between the nodes' points in the edge's variables, the edge's clauses are satisfied
-pub set_satisfies : (v : Assignment) (first high width least : ℕ) (west east : NodeInts) (p q : Point) (line : List Point) → LieBefore first west → LieBefore first east → Reads v west.x p.x → Reads v west.y p.y → Reads v east.x q.x → Reads v east.y q.y → JoinsPoints width high least p q line
+pub set_satisfies : (v : Assignment) (first high width least : ℕ) (west east : NodeInts) (p q : Point) (line : List Point) → LieBefore first west →
+    LieBefore first east → Reads v west.x p.x → Reads v west.y p.y → Reads v east.x q.x → Reads v east.y q.y → JoinsPoints width high least p q line
     → SatisfiesAll (set_edge (line_bits line) first high width v) (edge_clauses (edge_lits first high width) west east least high width)
 set_satisfies v first high width least west east p q line bw be rx ra rz rb j =
     let w = set_edge (line_bits line) first high width v in
@@ -67,22 +69,32 @@ set_satisfies v first high width least west east p q line bw be rx ra rz rb j =
     (set_reads first high width v line (some_width width high least p q line j) j.in_height)
 
 -- each line between the points of an assignment extends it
-pub line_extends : (v : Assignment) (first high width least : ℕ) (west east : NodeInts) (p q : Point) (line : List Point) → LieBefore first west → LieBefore first east → Reads v west.x p.x → Reads v west.y p.y → Reads v east.x q.x → Reads v east.y q.y → JoinsPoints width high least p q line
-    → Extends first (edge_size high width) v (λ w. ReadsLine w (edge_lits first high width) width line × SatisfiesAll w (edge_clauses (edge_lits first high width) west east least high width))
+pub line_extends : (v : Assignment) (first high width least : ℕ) (west east : NodeInts) (p q : Point) (line : List Point) → LieBefore first west →
+    LieBefore first east → Reads v west.x p.x → Reads v west.y p.y → Reads v east.x q.x → Reads v east.y q.y → JoinsPoints width high least p q line
+    → Extends first (edge_size high width) v (λ w. ReadsLine w (edge_lits first high width) width line × SatisfiesAll w
+    (edge_clauses (edge_lits first high width) west east least high width))
 line_extends v first high width least west east p q line bw be rx ra rz rb j = record {
   to = set_edge (line_bits line) first high width v;
   same = set_same (line_bits line) first high width v;
-  holds = (set_reads first high width v line (some_width width high least p q line j) j.in_height, set_satisfies v first high width least west east p q line bw be rx ra rz rb j);
+  holds = (
+    set_reads first high width v line (some_width width high least p q line j) j.in_height,
+    set_satisfies v first high width least west east p q line bw
+        be rx ra rz rb j,
+  );
 }
 
 -- an assignment reads one line
-pub one_line : (v : Assignment) (e : EdgeLits) (width high least : ℕ) (p q : Point) (a b : List Point) → JoinsPoints width high least p q a → JoinsPoints width high least p q b → ReadsLine v e width a → ReadsLine v e width b → a ≡ b
+pub one_line : (v : Assignment) (e : EdgeLits) (width high least : ℕ) (p q : Point) (a b : List Point) → JoinsPoints width high least p q a →
+    JoinsPoints width high least p q b → ReadsLine v e width a → ReadsLine v e width b → a ≡ b
 one_line v e width high least p q a b ja jb ra rb =
     let size = ja.in_width in
     let ea : (east_end a).x ≡ q.x = ap (λ (k : Point). k.x) ja.ends in
     let west : (west_end a).x ≡ (west_end b).x = ap (λ (k : Point). k.x) (ja.begins ∙ sym jb.begins) in
     let east : (east_end a).x ≡ (east_end b).x = ap (λ (k : Point). k.x) (ja.ends ∙ sym jb.ends) in
-    same_heights_same_line a b ja.shape jb.shape west east (λ c from to. reads_once v (e.height c) (height a c) (height b c) (ra.height c (omega arith)) (rb.height c (omega arith)))
+    same_heights_same_line a b ja.shape jb.shape west east (λ c from to. reads_once v (e.height c) (height a c) (height b c) (ra.height c (omega arith))
+    (rb.height c (omega arith)))
 
-pub bends_read : (v : Assignment) (e : EdgeLits) (width : ℕ) (line : List Point) → is_line line ≡ true → ReadsLine v e width line → bends line ≡ one_if (v e.first_bend) + one_if (v e.second_bend)
-bends_read v e width line h r = bends_are line h ∙ ap (λ b. one_if b + one_if (not (is_level (slope_east line)) && has_level_piece line)) (sym r.first_bend) ∙ ap (λ b. one_if (v e.first_bend) + one_if b) (sym r.second_bend)
+pub bends_read : (v : Assignment) (e : EdgeLits) (width : ℕ) (line : List Point) → is_line line ≡ true → ReadsLine v e width line →
+    bends line ≡ one_if (v e.first_bend) + one_if (v e.second_bend)
+bends_read v e width line h r = bends_are line h ∙ ap (λ b. one_if b + one_if (not (is_level (slope_east line)) && has_level_piece line)) (sym r.first_bend)
+    ∙ ap (λ b. one_if (v e.first_bend) + one_if b) (sym r.second_bend)

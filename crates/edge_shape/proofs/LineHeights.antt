@@ -15,23 +15,26 @@ use Rattle.edge_shape.proofs.ShapeLemmas.{rest_of, track_is_line, track_east, tr
 -- the points of a track over a column
 inner_cons : (y : ℕ → ℕ) (p : Point) (c n x : ℕ) → inner_of (p ∷ points_behind y c n) x ≡ (nat_eq p.x x || inner_of (points_behind y c n) x)
 inner_cons y p c zero x = refl
-inner_cons y p c (suc n) x = elim (same_slope (step_slope y c) (step_slope y (c + 1))) as (λ (same : Bool). inner_of (p ∷ rest_of same y c n) x ≡ (nat_eq p.x x || inner_of (rest_of same y c n) x)) [
-  | true ↦ inner_cons y p (c + 1) n x
-  | false ↦ refl
-]
+inner_cons y p c (suc n) x = elim (same_slope (step_slope y c) (step_slope y (c + 1))) as
+    (λ (same : Bool). inner_of (p ∷ rest_of same y c n) x ≡ (nat_eq p.x x || inner_of (rest_of same y c n) x)) [
+      | true ↦ inner_cons y p (c + 1) n x
+      | false ↦ refl
+    ]
 
 pub inner_before : (y : ℕ → ℕ) (c n x : ℕ) → x ≤ c → inner_of (points_behind y c n) x ≡ false
 inner_before y c zero x le = refl
 inner_before y c (suc n) x le = elim (same_slope (step_slope y c) (step_slope y (c + 1))) as (λ (same : Bool). inner_of (rest_of same y c n) x ≡ false) [
   | true ↦ inner_before y (c + 1) n x (omega arith)
-  | false ↦ let e : nat_eq (c + 1) x ≡ false = grind (arith, nat_tests) in inner_cons y (over y (c + 1)) (c + 1) n x ∙ rw e (inner_before y (c + 1) n x (omega arith))
+  | false ↦ let e : nat_eq (c + 1) x ≡ false = grind (arith, nat_tests) in inner_cons y (over y (c + 1)) (c + 1) n x
+      ∙ rw e (inner_before y (c + 1) n x (omega arith))
 ]
 
 turns_first : (y : ℕ → ℕ) (c n : ℕ) → inner_of (points_behind y c (suc n)) (c + 1) ≡ turns_behind y c (suc n) c
 turns_first y c n =
     let p : nat_le c c ≡ true = grind (arith, nat_tests) in
     let q : nat_lt c (c + suc n) ≡ true = grind (arith, nat_tests) in
-    elim (same_slope (step_slope y c) (step_slope y (c + 1))) as (λ (same : Bool). inner_of (rest_of same y c n) (c + 1) ≡ (nat_le c c && (nat_lt c (c + suc n) && not same))) [
+    elim (same_slope (step_slope y c) (step_slope y (c + 1))) as (λ (same : Bool). inner_of (rest_of same y c n) (c + 1)
+    ≡ (nat_le c c && (nat_lt c (c + suc n) && not same))) [
       | true ↦ rw (p, q) (inner_before y (c + 1) n (c + 1) (omega arith))
       | false ↦ let e : nat_eq (c + 1) (c + 1) ≡ true = grind (arith, nat_tests) in rw (p, q) (inner_cons y (over y (c + 1)) (c + 1) n (c + 1) ∙ rw e refl)
     ]

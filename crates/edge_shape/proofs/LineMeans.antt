@@ -21,7 +21,8 @@ use Rattle.edge_shape.proofs.EdgeHolds.{edge_clauses_hold}
 use Rattle.edge_shape.proofs.LineHeights.{inner_turns, height_behind, steps_are, line_is_flat, heights_same, point_is}
 
 -- a line that is read is a track that is read
-pub read_line : (v : Assignment) (e : EdgeLits) (width : ℕ) (line : List Point) → is_line line ≡ true → ReadsTrack v e width (height line) (west_end line).x (steps_of line) → ReadsLine v e width line
+pub read_line : (v : Assignment) (e : EdgeLits) (width : ℕ) (line : List Point) → is_line line ≡ true →
+    ReadsTrack v e width (height line) (west_end line).x (steps_of line) → ReadsLine v e width line
 read_line v e width line h r =
     let y = height line in
     let w = (west_end line).x in
@@ -44,7 +45,8 @@ read_line v e width line h r =
       second_bend = r.second_bend ∙ ap (λ s. not (is_level s) && has_level y w n) last;
     }
 
-pub read_track : (v : Assignment) (e : EdgeLits) (width : ℕ) (line : List Point) → is_line line ≡ true → ReadsLine v e width line → ReadsTrack v e width (height line) (west_end line).x (steps_of line)
+pub read_track : (v : Assignment) (e : EdgeLits) (width : ℕ) (line : List Point) → is_line line ≡ true → ReadsLine v e width line →
+    ReadsTrack v e width (height line) (west_end line).x (steps_of line)
 read_track v e width line h r =
     let y = height line in
     let w = (west_end line).x in
@@ -68,7 +70,9 @@ read_track v e width line h r =
     }
 
 -- each model is a line
-pub models_are_lines : (v : Assignment) (e : EdgeLits) (west east : NodeInts) (least high width : ℕ) (p q : Point) → HasRows e high width → 1 ≤ least → q.x ≤ width → Reads v west.x p.x → Reads v west.y p.y → Reads v east.x q.x → Reads v east.y q.y → SatisfiesAll v (edge_clauses e west east least high width) → LineIsRead v e width high least p q
+pub models_are_lines : (v : Assignment) (e : EdgeLits) (west east : NodeInts) (least high width : ℕ) (p q : Point) → HasRows e high width → 1 ≤ least →
+    q.x ≤ width → Reads v west.x p.x → Reads v west.y p.y → Reads v east.x q.x → Reads v east.y q.y →
+    SatisfiesAll v (edge_clauses e west east least high width) → LineIsRead v e width high least p q
 models_are_lines v e west east least high width p q rows some size rx ra rz rb h =
     let t = edge_means v e west east least high width p.x q.x p.y q.y rows some size rx ra rz rb h in
     let ends = t.ends in
@@ -79,7 +83,8 @@ models_are_lines v e west east least high width p q rows some size rx ra rz rb h
     let last : east_end line ≡ q = track_east t.y p.x t.n ∙ point_is t.y (p.x + t.n + 1) q ends (ap t.y ends ∙ t.east) in
     let last_x : (east_end line).x ≡ q.x = ap (λ (k : Point). k.x) last in
     let n_is : t.n ≡ steps_of line = omega arith in
-    let reads : ReadsTrack v e width (height line) p.x (steps_of line) = subst (λ k. ReadsTrack v e width (height line) p.x k) n_is (subst (λ (f : ℕ → ℕ). ReadsTrack v e width f p.x t.n) (sym same) t.reads) in
+    let reads : ReadsTrack v e width (height line) p.x (steps_of line) = subst (λ k. ReadsTrack v e width (height line) p.x k) n_is
+    (subst (λ (f : ℕ → ℕ). ReadsTrack v e width f p.x t.n) (sym same) t.reads) in
     let flat = line_is_flat line is_one in
     let low : (c : ℕ) → c ≤ width → height line c ≤ high = λ c le. let r = reads.height c le in let top = r.high in let hs = rows.highest c le in omega arith in
     record {
@@ -103,7 +108,9 @@ models_are_lines v e west east least high width p q rows some size rx ra rz rb h
     }
 
 -- each line is a model
-pub lines_are_models : (v : Assignment) (e : EdgeLits) (west east : NodeInts) (least high width : ℕ) (p q : Point) (line : List Point) → HasRows e high width → Reads v west.x p.x → Reads v west.y p.y → Reads v east.x q.x → Reads v east.y q.y → JoinsPoints width high least p q line → ReadsLine v e width line → SatisfiesAll v (edge_clauses e west east least high width)
+pub lines_are_models : (v : Assignment) (e : EdgeLits) (west east : NodeInts) (least high width : ℕ) (p q : Point) (line : List Point) → HasRows e high width →
+    Reads v west.x p.x → Reads v west.y p.y → Reads v east.x q.x → Reads v east.y q.y → JoinsPoints width high least p q line → ReadsLine v e width line →
+    SatisfiesAll v (edge_clauses e west east least high width)
 lines_are_models v e west east least high width p q line rows rx ra rz rb j r =
     let h = j.shape in
     let y = height line in

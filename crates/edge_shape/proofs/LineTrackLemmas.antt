@@ -13,7 +13,8 @@ use Rattle.edge_shape.specs.Track.{slope_by, step_slope, same_slope, over, point
 use Rattle.edge_shape.proofs.TrackLemmas.{slope_by_reaches, same_is, same_self}
 
 -- steps of one slope have no point between them
-points_skip : (y : ℕ → ℕ) (c m n : ℕ) → ((k : ℕ) → c ≤ k → k < c + m → step_slope y (k + 1) ≡ step_slope y k) → points_behind y c (m + n) ≡ points_behind y (c + m) n
+points_skip : (y : ℕ → ℕ) (c m n : ℕ) → ((k : ℕ) → c ≤ k → k < c + m → step_slope y (k + 1) ≡ step_slope y k) →
+    points_behind y c (m + n) ≡ points_behind y (c + m) n
 points_skip y c zero n h =
     let z : 0 + n ≡ n = omega arith in
     let s : c ≡ c + zero = omega arith in
@@ -21,7 +22,8 @@ points_skip y c zero n h =
 points_skip y c (suc m) n h =
     let z : suc m + n ≡ suc (m + n) = omega arith in
     let s : c + 1 + m ≡ c + suc m = omega arith in
-    let same : same_slope (step_slope y c) (step_slope y (c + 1)) ≡ true = ap (same_slope (step_slope y c)) (h c (omega arith) (omega arith)) ∙ same_self (step_slope y c) in
+    let same : same_slope (step_slope y c) (step_slope y (c + 1)) ≡ true = ap (same_slope (step_slope y c)) (h c (omega arith) (omega arith))
+    ∙ same_self (step_slope y c) in
     ap (points_behind y c) z ∙ rw same (points_skip y (c + 1) m n (λ k from to. h k (omega arith) (omega arith)) ∙ ap (λ x. points_behind y x n) s)
 
 differ : (s t : Slope) → s ≢ t → same_slope s t ≡ false
@@ -35,13 +37,16 @@ abbrev pub Alternate : Point → Point → List Point → Type 0
 Alternate a b [] = ⊤
 Alternate a b (c ∷ rest) = (slope (piece a b) ≢ slope (piece b c)) × Alternate b c rest
 
-pub step_over : (y : ℕ → ℕ) (a b : Point) (rest : List Point) (k : ℕ) → ArePieces a (b ∷ rest) → ((j : ℕ) → a.x ≤ j → y j ≡ height_from a (b ∷ rest) j) → a.x ≤ k → k < b.x → step_slope y k ≡ slope (piece a b)
+pub step_over : (y : ℕ → ℕ) (a b : Point) (rest : List Point) (k : ℕ) → ArePieces a (b ∷ rest) → ((j : ℕ) → a.x ≤ j → y j ≡ height_from a (b ∷ rest) j) →
+    a.x ≤ k → k < b.x → step_slope y k ≡ slope (piece a b)
 step_over y a b rest k h same from to =
     ap (λ z. slope_by z (y (k + 1))) (same k from)
     ∙ ap (slope_by (height_from a (b ∷ rest) k)) (same (k + 1) (omega arith))
-    ∙ slope_by_reaches (slope (piece a b)) 1 (height_from a (b ∷ rest) k) (height_from a (b ∷ rest) (k + 1)) (omega arith) (height_from-step a b rest k h from to)
+    ∙ slope_by_reaches (slope (piece a b)) 1 (height_from a (b ∷ rest) k) (height_from a (b ∷ rest) (k + 1)) (omega arith)
+    (height_from-step a b rest k h from to)
 
-pub later_same : (y : ℕ → ℕ) (a b : Point) (rest : List Point) → ArePieces a (b ∷ rest) → ((j : ℕ) → a.x ≤ j → y j ≡ height_from a (b ∷ rest) j) → (j : ℕ) → b.x ≤ j → y j ≡ height_from b rest j
+pub later_same : (y : ℕ → ℕ) (a b : Point) (rest : List Point) → ArePieces a (b ∷ rest) → ((j : ℕ) → a.x ≤ j → y j ≡ height_from a (b ∷ rest) j) → (j : ℕ) →
+    b.x ≤ j → y j ≡ height_from b rest j
 later_same y a b rest h same j from =
     let rising = h.0.rising in
     same j (omega arith) ∙ height_from-past a b rest j h from
@@ -51,11 +56,13 @@ over_end y a b rest h same =
     let e : y b.x ≡ b.y = later_same y a b rest h same b.x (omega arith) ∙ height_from-west b rest h.1 in
     ap (λ z. let p : Point = record { x = b.x; y = z } in p) e
 
-one_slope_run : (y : ℕ → ℕ) (a b : Point) (rest : List Point) (m : ℕ) → ArePieces a (b ∷ rest) → ((j : ℕ) → a.x ≤ j → y j ≡ height_from a (b ∷ rest) j) → a.x + m + 1 ≡ b.x → (k : ℕ) → a.x ≤ k → k < a.x + m → step_slope y (k + 1) ≡ step_slope y k
+one_slope_run : (y : ℕ → ℕ) (a b : Point) (rest : List Point) (m : ℕ) → ArePieces a (b ∷ rest) → ((j : ℕ) → a.x ≤ j → y j ≡ height_from a (b ∷ rest) j) →
+    a.x + m + 1 ≡ b.x → (k : ℕ) → a.x ≤ k → k < a.x + m → step_slope y (k + 1) ≡ step_slope y k
 one_slope_run y a b rest m h same is k from to =
     step_over y a b rest (k + 1) h same (omega arith) (omega arith) ∙ sym (step_over y a b rest k h same from (omega arith))
 
-pub points_again : (y : ℕ → ℕ) (a b : Point) (rest : List Point) (n : ℕ) → ArePieces a (b ∷ rest) → Alternate a b rest → ((j : ℕ) → a.x ≤ j → y j ≡ height_from a (b ∷ rest) j) → a.x + n + 1 ≡ (last_from b rest).x → points_behind y a.x n ≡ b ∷ rest
+pub points_again : (y : ℕ → ℕ) (a b : Point) (rest : List Point) (n : ℕ) → ArePieces a (b ∷ rest) → Alternate a b rest →
+    ((j : ℕ) → a.x ≤ j → y j ≡ height_from a (b ∷ rest) j) → a.x + n + 1 ≡ (last_from b rest).x → points_behind y a.x n ≡ b ∷ rest
 points_again y a b [] n h alt same is =
     let z : n ≡ n + 0 = omega arith in
     let s : a.x + n + 1 ≡ b.x = is in
@@ -113,7 +120,8 @@ line_alternates a b (c ∷ d ∷ []) h =
 line_alternates a b (c ∷ d ∷ e ∷ rest) h = let few = (line_length (a ∷ b ∷ c ∷ d ∷ e ∷ rest) h).1 in absurd (omega (arith, few))
 
 -- UNIQUENESS: a line is the points over its own heights
-pub line_again : (line : List Point) (n : ℕ) → is_line line ≡ true → (west_end line).x + n + 1 ≡ (east_end line).x → line_over (height line) (west_end line).x n ≡ line
+pub line_again : (line : List Point) (n : ℕ) → is_line line ≡ true → (west_end line).x + n + 1 ≡ (east_end line).x →
+    line_over (height line) (west_end line).x n ≡ line
 line_again [] n h is = absurd (false≢true h)
 line_again (a ∷ []) n h is = absurd (false≢true h)
 line_again (a ∷ b ∷ rest) n h is =

@@ -12,7 +12,8 @@ use Rattle.order_int.specs.OrderInt.{int_at_least}
 use Rattle.order_int.proofs.IntLemmas.{at_least_within}
 use Rattle.edge_shape.specs.EdgeVars.{EdgeLits, before, column, edge_lits, edge_size, IsSpot}
 use Rattle.edge_shape.specs.Rules.{literals_of, AllWithin}
-use Rattle.edge_shape.specs.Edge.{range_rules, step_rules, seen_rules, shape_rules, end_rules, slope_rules, inner_rules, end_piece_rules, bend_rules, level_rules, beside_end_rules}
+use Rattle.edge_shape.specs.Edge.{range_rules, step_rules, seen_rules, shape_rules, end_rules, slope_rules, inner_rules, end_piece_rules, bend_rules}
+use Rattle.edge_shape.specs.Edge.{level_rules, beside_end_rules}
 
 -- c blocks of k variables and one more are among width of them
 pub blocks : (k width c : ℕ) → c < width → c * k + k ≤ width * k
@@ -22,12 +23,16 @@ blocks k width c lt =
     omega arith
 
 -- a column's variables, but for those of the last
-pub column_there : (first high width vars c k : ℕ) → IsSpot first high width → first + edge_size high width ≤ vars + 1 → c < width → k ≤ 4 → (1 ≤ column first high c + k) × (column first high c + k ≤ vars)
+pub column_there : (first high width vars c k : ℕ) → IsSpot first high width → first + edge_size high width ≤ vars + 1 → c < width → k ≤ 4 →
+    (1 ≤ column first high c + k) × (column first high c + k ≤ vars)
 column_there first high width vars zero k p there lt small = let from = p.from in let all = blocks (high + 5) width 0 lt in (omega arith, omega arith)
-column_there first high width vars (suc c) k p there lt small = let from = p.from in let all = blocks (high + 5) width (c + 1) (omega arith) in let one : (c + 1) * (high + 5) ≡ c * (high + 5) + (high + 5) = omega arith in (omega arith, omega arith)
+column_there first high width vars (suc c) k p there lt small = let from = p.from in let all = blocks (high + 5) width (c + 1) (omega arith) in let one :
+    (c + 1) * (high + 5) ≡ c * (high + 5) + (high + 5) = omega arith in (omega arith, omega arith)
 
-pub inside_there : (first high width vars c : ℕ) → IsSpot first high width → first + edge_size high width ≤ vars + 1 → c ≤ width → (1 ≤ column first high c) × (column first high c ≤ vars)
-inside_there first high width vars zero p there le = let from = p.from in let some = p.some_columns in let all = blocks (high + 5) width 0 (omega arith) in (omega arith, omega arith)
+pub inside_there : (first high width vars c : ℕ) → IsSpot first high width → first + edge_size high width ≤ vars + 1 → c ≤ width →
+    (1 ≤ column first high c) × (column first high c ≤ vars)
+inside_there first high width vars zero p there le = let from = p.from in let some = p.some_columns in let all = blocks (high + 5) width 0 (omega arith) in
+    (omega arith, omega arith)
 inside_there first high width vars (suc c) p there le = let from = p.from in let all = blocks (high + 5) width c (omega arith) in (omega arith, omega arith)
 
 -- the literals of a step's column
@@ -41,11 +46,13 @@ pub record StepWithin (vars : ℕ) (e : EdgeLits) (c : ℕ) : Type 0 where
   pub down_before : IsWithin vars (before e.down c)
   pub seen_before : IsWithin vars (before e.seen c)
 
-before_within : (first high width vars c k : ℕ) → IsSpot first high width → first + edge_size high width ≤ vars + 1 → c < width → k ≤ 4 → IsWithin vars (before (λ d. column first high d + k) c)
+before_within : (first high width vars c k : ℕ) → IsSpot first high width → first + edge_size high width ≤ vars + 1 → c < width → k ≤ 4 →
+    IsWithin vars (before (λ d. column first high d + k) c)
 before_within first high width vars zero k p there lt small = tt
 before_within first high width vars (suc c) k p there lt small = column_there first high width vars c k p there (omega arith) small
 
-pub step_literals : (first high width vars c : ℕ) → IsSpot first high width → first + edge_size high width ≤ vars + 1 → c < width → StepWithin vars (edge_lits first high width) c
+pub step_literals : (first high width vars c : ℕ) → IsSpot first high width → first + edge_size high width ≤ vars + 1 → c < width →
+    StepWithin vars (edge_lits first high width) c
 step_literals first high width vars c p there lt = record {
   here = inside_there first high width vars c p there (omega arith);
   next = inside_there first high width vars (c + 1) p there (omega arith);
@@ -58,29 +65,63 @@ step_literals first high width vars c p there lt = record {
 }
 
 pub step_within : (vars : ℕ) (e : EdgeLits) (c : ℕ) → StepWithin vars e c → AllWithin vars (map literals_of (step_rules e c))
-step_within vars e c s = (((s.up, (s.here, (tt, (tt, (tt, tt))))), omega arith), (((s.up, (s.next, (tt, (tt, (tt, tt))))), omega arith), (((s.down, (s.here, (tt, (tt, (tt, tt))))), omega arith), (((s.down, (s.next, (tt, (tt, (tt, tt))))), omega arith), (((s.up, (s.down, (tt, (tt, (tt, tt))))), omega arith), tt)))))
+step_within vars e c s = (
+  ((s.up, (s.here, (tt, (tt, (tt, tt))))), omega arith),
+  (
+    ((s.up, (s.next, (tt, (tt, (tt, tt))))), omega arith),
+    (
+      ((s.down, (s.here, (tt, (tt, (tt, tt))))), omega arith),
+      (
+        ((s.down, (s.next, (tt, (tt, (tt, tt))))), omega arith),
+        (((s.up, (s.down, (tt, (tt, (tt, tt))))), omega arith), tt),
+      ),
+    ),
+  ),
+)
 
 pub seen_within : (vars : ℕ) (e : EdgeLits) (c : ℕ) → StepWithin vars e c → AllWithin vars (map literals_of (seen_rules e c))
 seen_within vars e c s =
     let b = s.seen_before in
-    let n = flip_within vars (before e.seen c) s.seen_before in
-    (((s.here, (s.next, (s.up, (s.down, (s.seen, tt))))), omega arith), (((n, (s.seen, (tt, (tt, (tt, tt))))), omega arith), (((s.seen, (b, (s.here, (tt, (tt, tt))))), omega arith), (((s.seen, (b, (s.next, (tt, (tt, tt))))), omega arith), (((s.seen, (s.up, (b, (tt, (tt, tt))))), omega arith), (((s.seen, (s.down, (b, (tt, (tt, tt))))), omega arith), tt))))))
+    let n = flip_within vars (before e.seen c) s.seen_before in (
+      ((s.here, (s.next, (s.up, (s.down, (s.seen, tt))))), omega arith),
+      (
+        ((n, (s.seen, (tt, (tt, (tt, tt))))), omega arith),
+        (
+          ((s.seen, (b, (s.here, (tt, (tt, tt))))), omega arith),
+          (
+            ((s.seen, (b, (s.next, (tt, (tt, tt))))), omega arith),
+            (((s.seen, (s.up, (b, (tt, (tt, tt))))), omega arith), (((s.seen, (s.down, (b, (tt, (tt, tt))))), omega arith), tt)),
+          ),
+        ),
+      ),
+    )
 
 pub shape_within : (vars : ℕ) (e : EdgeLits) (c : ℕ) → StepWithin vars e c → AllWithin vars (map literals_of (shape_rules e c))
 shape_within vars e c s =
     let u = flip_within vars (before e.up c) s.up_before in
     let d = flip_within vars (before e.down c) s.down_before in
-    let n = flip_within vars (before e.seen c) s.seen_before in
-    (((u, (s.down, (tt, (tt, (tt, tt))))), omega arith), (((d, (s.up, (tt, (tt, (tt, tt))))), omega arith), (((n, (u, (s.next, (s.up, (tt, tt))))), omega arith), (((n, (d, (s.next, (s.down, (tt, tt))))), omega arith), tt))))
+    let n = flip_within vars (before e.seen c) s.seen_before in (
+      ((u, (s.down, (tt, (tt, (tt, tt))))), omega arith),
+      (
+        ((d, (s.up, (tt, (tt, (tt, tt))))), omega arith),
+        (((n, (u, (s.next, (s.up, (tt, tt))))), omega arith), (((n, (d, (s.next, (s.down, (tt, tt))))), omega arith), tt)),
+      ),
+    )
 
 -- the two literals of a near clause
-pub near_within : (vars : ℕ) (a b : IntVars) (k : ℕ) → IntIsThere vars a → IntIsThere vars b → AreWithin vars (flip (int_at_least a (k + 1)) ∷ int_at_least b k ∷ [])
+pub near_within : (vars : ℕ) (a b : IntVars) (k : ℕ) → IntIsThere vars a → IntIsThere vars b →
+    AreWithin vars (flip (int_at_least a (k + 1)) ∷ int_at_least b k ∷ [])
 near_within vars a b k ta tb = (flip_within vars (int_at_least a (k + 1)) (at_least_within vars a (k + 1) ta), (at_least_within vars b k tb, tt))
 
-pub height_there : (first high width vars c : ℕ) → IsSpot first high width → first + edge_size high width ≤ vars + 1 → c ≤ width → IntIsThere vars ((edge_lits first high width).height c)
+pub height_there : (first high width vars c : ℕ) → IsSpot first high width → first + edge_size high width ≤ vars + 1 → c ≤ width →
+    IntIsThere vars ((edge_lits first high width).height c)
 height_there first high width vars c p there le = elim (eqb_tells c width) [
-  | inl same ↦ let from = p.from in let z : c ≡ width = same.1 in let w : c * (high + 5) ≡ width * (high + 5) = ap (λ k. k * (high + 5)) z in rw same.0 (record { from = omega arith; to = omega arith })
-  | inr other ↦ let from = p.from in let ne = other.1 in let all = blocks (high + 5) width c (omega arith) in rw other.0 (record { from = omega arith; to = omega arith })
+  | inl same ↦ let from = p.from in let z : c ≡ width = same.1 in let w : c * (high + 5) ≡ width * (high + 5) = ap (λ k. k * (high + 5)) z in rw same.0
+      (record { from = omega arith; to = omega arith })
+  | inr other ↦ let from = p.from in let ne = other.1 in let all = blocks (high + 5) width c (omega arith) in rw other.0 (record {
+    from = omega arith;
+    to = omega arith;
+  })
 ]
 
 -- the six of the whole line
@@ -92,7 +133,8 @@ pub record WholeWithin (vars : ℕ) (e : EdgeLits) : Type 0 where
   pub first_bend : IsThere vars (positive_of e.first_bend)
   pub second_bend : IsThere vars (positive_of e.second_bend)
 
-pub whole_literals : (first high width vars : ℕ) → IsSpot first high width → first + edge_size high width ≤ vars + 1 → WholeWithin vars (edge_lits first high width)
+pub whole_literals : (first high width vars : ℕ) → IsSpot first high width → first + edge_size high width ≤ vars + 1 →
+    WholeWithin vars (edge_lits first high width)
 whole_literals first high width vars p there = let from = p.from in record {
   west_up = (omega arith, omega arith);
   west_down = (omega arith, omega arith);
@@ -102,13 +144,18 @@ whole_literals first high width vars p there = let from = p.from in record {
   second_bend = (omega arith, omega arith);
 }
 
-pub range_within : (vars : ℕ) (e : EdgeLits) (x z : IntVars) (c : ℕ) → IsThere vars (positive_of (e.inside c)) → IntIsThere vars x → IntIsThere vars z → AllWithin vars (map literals_of (range_rules e x z c))
+pub range_within : (vars : ℕ) (e : EdgeLits) (x z : IntVars) (c : ℕ) → IsThere vars (positive_of (e.inside c)) → IntIsThere vars x → IntIsThere vars z →
+    AllWithin vars (map literals_of (range_rules e x z c))
 range_within vars e x z c i tx tz =
     let a = at_least_within vars x (c + 1) tx in
-    let b = at_least_within vars z c tz in
-    (((i, (flip_within vars (int_at_least x (c + 1)) a, (tt, (tt, (tt, tt))))), omega arith), (((i, (b, (tt, (tt, (tt, tt))))), omega arith), (((flip_within vars (int_at_least z c) b, (a, (i, (tt, (tt, tt))))), omega arith), tt)))
+    let b = at_least_within vars z c tz in (
+      ((i, (flip_within vars (int_at_least x (c + 1)) a, (tt, (tt, (tt, tt))))), omega arith),
+      (((i, (b, (tt, (tt, (tt, tt))))), omega arith), (((flip_within vars (int_at_least z c) b, (a, (i, (tt, (tt, tt))))), omega arith), tt)),
+    )
 
-pub inner_within : (vars : ℕ) (e : EdgeLits) (c : ℕ) → IsThere vars (positive_of (e.bend (c + 1))) → IsThere vars (positive_of (e.inside c)) → IsThere vars (positive_of (e.inside (c + 2))) → IsThere vars (positive_of (e.up c)) → IsThere vars (positive_of (e.up (c + 1))) → IsThere vars (positive_of (e.down c)) → IsThere vars (positive_of (e.down (c + 1))) → AllWithin vars (map literals_of (inner_rules e c))
+pub inner_within : (vars : ℕ) (e : EdgeLits) (c : ℕ) → IsThere vars (positive_of (e.bend (c + 1))) → IsThere vars (positive_of (e.inside c)) →
+    IsThere vars (positive_of (e.inside (c + 2))) → IsThere vars (positive_of (e.up c)) → IsThere vars (positive_of (e.up (c + 1))) →
+    IsThere vars (positive_of (e.down c)) → IsThere vars (positive_of (e.down (c + 1))) → AllWithin vars (map literals_of (inner_rules e c))
 inner_within vars e c b i k u p d q = (
   ((b, (i, (tt, (tt, (tt, tt))))), omega arith),
   (
@@ -119,7 +166,13 @@ inner_within vars e c b i k u p d q = (
         ((b, (d, (q, (tt, (tt, tt))))), omega arith),
         (
           ((b, (u, (d, (p, (q, tt))))), omega arith),
-          (((i, (k, (u, (p, (b, tt))))), omega arith), (((i, (k, (p, (u, (b, tt))))), omega arith), (((i, (k, (d, (q, (b, tt))))), omega arith), (((i, (k, (q, (d, (b, tt))))), omega arith), tt)))),
+          (
+            ((i, (k, (u, (p, (b, tt))))), omega arith),
+            (
+              ((i, (k, (p, (u, (b, tt))))), omega arith),
+              (((i, (k, (d, (q, (b, tt))))), omega arith), (((i, (k, (q, (d, (b, tt))))), omega arith), tt)),
+            ),
+          ),
         ),
       ),
     ),
@@ -127,12 +180,16 @@ inner_within vars e c b i k u p d q = (
 )
 
 pub through_within : (vars : ℕ) (e : EdgeLits) (c : ℕ) → WholeWithin vars e → StepWithin vars e c → AllWithin vars (map literals_of (end_piece_rules e c))
-through_within vars e c w s = (((s.up, (w.west_up, (w.east_up, (tt, (tt, tt))))), omega arith), (((s.down, (w.west_down, (w.east_down, (tt, (tt, tt))))), omega arith), tt))
+through_within vars e c w s = (
+  ((s.up, (w.west_up, (w.east_up, (tt, (tt, tt))))), omega arith),
+  (((s.down, (w.west_down, (w.east_down, (tt, (tt, tt))))), omega arith), tt),
+)
 
 pub end_within : (vars : ℕ) (e : EdgeLits) → WholeWithin vars e → AllWithin vars (map literals_of (end_rules e))
 end_within vars e w = (((w.west_up, (w.west_down, (tt, (tt, (tt, tt))))), omega arith), (((w.east_up, (w.east_down, (tt, (tt, (tt, tt))))), omega arith), tt))
 
-pub slope_within : (vars : ℕ) (e : EdgeLits) (x z : IntVars) (c : ℕ) → WholeWithin vars e → StepWithin vars e c → IntIsThere vars x → IntIsThere vars z → AllWithin vars (map literals_of (slope_rules e x z c))
+pub slope_within : (vars : ℕ) (e : EdgeLits) (x z : IntVars) (c : ℕ) → WholeWithin vars e → StepWithin vars e c → IntIsThere vars x → IntIsThere vars z →
+    AllWithin vars (map literals_of (slope_rules e x z c))
 slope_within vars e x z c w s tx tz =
     let a = flip_within vars (int_at_least x c) (at_least_within vars x c tx) in
     let b = at_least_within vars x (c + 1) tx in
@@ -145,23 +202,52 @@ slope_within vars e x z c w s tx tz =
           ((a, (w.west_down, (b, (s.down, (tt, tt))))), omega arith),
           (
             ((a, (s.down, (b, (w.west_down, (tt, tt))))), omega arith),
-            (((f, (w.east_up, (g, (s.up, (tt, tt))))), omega arith), (((f, (s.up, (g, (w.east_up, (tt, tt))))), omega arith), (((f, (w.east_down, (g, (s.down, (tt, tt))))), omega arith), (((f, (s.down, (g, (w.east_down, (tt, tt))))), omega arith), tt)))),
+            (
+              ((f, (w.east_up, (g, (s.up, (tt, tt))))), omega arith),
+              (
+                ((f, (s.up, (g, (w.east_up, (tt, tt))))), omega arith),
+                (((f, (w.east_down, (g, (s.down, (tt, tt))))), omega arith), (((f, (s.down, (g, (w.east_down, (tt, tt))))), omega arith), tt)),
+              ),
+            ),
           ),
         ),
       ),
     )
 
-pub bend_within : (vars b r f l : ℕ) → IsThere vars (positive_of b) → IsThere vars (positive_of r) → IsThere vars (positive_of f) → IsThere vars (positive_of l) → AllWithin vars (map literals_of (bend_rules b r f l))
-bend_within vars b r f l tb tr tf tl = (((tb, (tr, (tf, (tt, (tt, tt))))), omega arith), (((tb, (tl, (tt, (tt, (tt, tt))))), omega arith), (((tr, (tl, (tb, (tt, (tt, tt))))), omega arith), (((tf, (tl, (tb, (tt, (tt, tt))))), omega arith), tt))))
+pub bend_within : (vars b r f l : ℕ) → IsThere vars (positive_of b) → IsThere vars (positive_of r) → IsThere vars (positive_of f) →
+    IsThere vars (positive_of l) → AllWithin vars (map literals_of (bend_rules b r f l))
+bend_within vars b r f l tb tr tf tl = (
+  ((tb, (tr, (tf, (tt, (tt, tt))))), omega arith),
+  (((tb, (tl, (tt, (tt, (tt, tt))))), omega arith), (((tr, (tl, (tb, (tt, (tt, tt))))), omega arith), (((tf, (tl, (tb, (tt, (tt, tt))))), omega arith), tt))),
+)
 
 pub level_within : (vars : ℕ) (e : EdgeLits) (l : ℕ) → WholeWithin vars e → IsThere vars (positive_of l) → AllWithin vars (map literals_of (level_rules e l))
-level_within vars e l w s = (((w.west_up, (w.west_down, (s, (tt, (tt, tt))))), omega arith), (((w.east_up, (w.east_down, (s, (tt, (tt, tt))))), omega arith), (((w.west_up, (w.east_up, (s, (tt, (tt, tt))))), omega arith), (((w.west_down, (w.east_down, (s, (tt, (tt, tt))))), omega arith), (((w.east_up, (w.west_up, (s, (tt, (tt, tt))))), omega arith), (((w.east_down, (w.west_down, (s, (tt, (tt, tt))))), omega arith), tt))))))
+level_within vars e l w s = (
+  ((w.west_up, (w.west_down, (s, (tt, (tt, tt))))), omega arith),
+  (
+    ((w.east_up, (w.east_down, (s, (tt, (tt, tt))))), omega arith),
+    (
+      ((w.west_up, (w.east_up, (s, (tt, (tt, tt))))), omega arith),
+      (
+        ((w.west_down, (w.east_down, (s, (tt, (tt, tt))))), omega arith),
+        (
+          ((w.east_up, (w.west_up, (s, (tt, (tt, tt))))), omega arith),
+          (((w.east_down, (w.west_down, (s, (tt, (tt, tt))))), omega arith), tt),
+        ),
+      ),
+    ),
+  ),
+)
 
-pub edge_within : (vars : ℕ) (e : EdgeLits) (a b : IntVars) (high : ℕ) → WholeWithin vars e → IntIsThere vars a → IntIsThere vars b → AllWithin vars (map literals_of (beside_end_rules e a b high))
+pub edge_within : (vars : ℕ) (e : EdgeLits) (a b : IntVars) (high : ℕ) → WholeWithin vars e → IntIsThere vars a → IntIsThere vars b →
+    AllWithin vars (map literals_of (beside_end_rules e a b high))
 edge_within vars e a b high w ta tb = (
   ((w.west_down, (at_least_within vars a 1 ta, (tt, (tt, (tt, tt))))), omega arith),
   (
     ((w.west_up, (flip_within vars (int_at_least a high) (at_least_within vars a high ta), (tt, (tt, (tt, tt))))), omega arith),
-    (((w.east_up, (at_least_within vars b 1 tb, (tt, (tt, (tt, tt))))), omega arith), (((w.east_down, (flip_within vars (int_at_least b high) (at_least_within vars b high tb), (tt, (tt, (tt, tt))))), omega arith), tt)),
+    (
+      ((w.east_up, (at_least_within vars b 1 tb, (tt, (tt, (tt, tt))))), omega arith),
+      (((w.east_down, (flip_within vars (int_at_least b high) (at_least_within vars b high tb), (tt, (tt, (tt, tt))))), omega arith), tt),
+    ),
   ),
 )

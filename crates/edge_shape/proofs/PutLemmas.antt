@@ -14,7 +14,8 @@ pub put_none : (x : ℕ) (old target : Assignment) → ((k : ℕ) → k < x → 
 put_none x old target same = record { below = λ k lt. sym (same k lt); above = λ k le. refl }
 
 -- one variable more
-pub put_next : (x : ℕ) (old target now new : Assignment) → PutTo x old target now → new x ≡ target x → ((k : ℕ) → k ≢ x → new k ≡ now k) → PutTo (x + 1) old target new
+pub put_next : (x : ℕ) (old target now new : Assignment) → PutTo x old target now → new x ≡ target x → ((k : ℕ) → k ≢ x → new k ≡ now k) →
+    PutTo (x + 1) old target new
 put_next x old target now new p is others = record {
   below = λ k lt. elim (eqb_tells k x) [ inl e ↦ ap new e.1 ∙ is ∙ sym (ap target e.1) | inr e ↦ let ne = e.1 in others k ne ∙ p.below k (omega arith) ];
   above = λ k le. others k (omega arith) ∙ p.above k (omega arith);
@@ -22,7 +23,11 @@ put_next x old target now new p is others = record {
 
 -- after all, where the new values are the old ones from x on
 pub put_all : (x : ℕ) (old target now : Assignment) → PutTo x old target now → ((k : ℕ) → x ≤ k → target k ≡ old k) → now ≡ target
-put_all x old target now p same = fun_ext (λ k. elim (leb_tells x k) [ inl a ↦ p.above k a.1 ∙ sym (same k a.1) | inr a ↦ let low = a.1 in p.below k (omega arith) ])
+put_all x old target now p same = fun_ext (λ k. elim (leb_tells x k) [
+  | inl a ↦ p.above k a.1
+      ∙ sym (same k a.1)
+  | inr a ↦ let low = a.1 in p.below k (omega arith)
+])
 
 -- what the helpers of put answer
 

@@ -33,7 +33,8 @@ pub record HasRuns (y : ℕ → ℕ) (w e : ℕ) : Type 0 where
   pub runs : AreRuns y w first last e s t
 
 -- two diagonal steps beside each other are alike
-alike : (y : ℕ → ℕ) (w first last e : ℕ) (s t : Slope) → AreRuns y w first last e s t → (c : ℕ) → w ≤ c → c + 1 < e → step_slope y c ≢ Level → step_slope y (c + 1) ≢ Level → step_slope y (c + 1) ≡ step_slope y c
+alike : (y : ℕ → ℕ) (w first last e : ℕ) (s t : Slope) → AreRuns y w first last e s t → (c : ℕ) → w ≤ c → c + 1 < e → step_slope y c ≢ Level →
+    step_slope y (c + 1) ≢ Level → step_slope y (c + 1) ≡ step_slope y c
 alike y w first last e s t r c from to ne next =
     elim (leb_tells (suc (c + 1)) first) [
       | inl a ↦ let h = a.1 in r.to_first (c + 1) (omega arith) (omega arith) ∙ sym (r.to_first c from (omega arith))
@@ -50,7 +51,8 @@ alike y w first last e s t r c from to ne next =
     ]
 
 -- behind a level step
-on : (y : ℕ → ℕ) (w first last e : ℕ) (s t : Slope) → AreRuns y w first last e s t → (d c : ℕ) → w ≤ d → d ≤ c → c + 1 < e → step_slope y d ≡ Level → step_slope y c ≢ Level → step_slope y (c + 1) ≡ step_slope y c
+on : (y : ℕ → ℕ) (w first last e : ℕ) (s t : Slope) → AreRuns y w first last e s t → (d c : ℕ) → w ≤ d → d ≤ c → c + 1 < e → step_slope y d ≡ Level →
+    step_slope y c ≢ Level → step_slope y (c + 1) ≡ step_slope y c
 on y w first last e s t r d c low from to level ne =
     elim (leb_tells first d) [
       | inl a ↦ let h = a.1 in elim (leb_tells last c) [
@@ -73,8 +75,10 @@ pub runs_are_a_track : (y : ℕ → ℕ) (w n e : ℕ) → w + n + 1 ≡ e → H
 runs_are_a_track y w n e is h r = record {
   rises = λ c from to. (by_one_row (step_slope y c) (y c) (y (c + 1)) (h.each c from (omega arith))).0;
   falls = λ c from to. (by_one_row (step_slope y c) (y c) (y (c + 1)) (h.each c from (omega arith))).1;
-  no_peak = λ c from to up down. let x : Down ≡ Up = sym down ∙ alike y w r.first r.last e r.s r.t r.runs c from (omega arith) (λ l. let z : Up ≡ Level = sym up ∙ l in cc) (λ l. let z : Down ≡ Level = sym down ∙ l in cc) ∙ up in cc;
-  no_dip = λ c from to down up. let x : Up ≡ Down = sym up ∙ alike y w r.first r.last e r.s r.t r.runs c from (omega arith) (λ l. let z : Down ≡ Level = sym down ∙ l in cc) (λ l. let z : Up ≡ Level = sym up ∙ l in cc) ∙ down in cc;
+  no_peak = λ c from to up down. let x : Down ≡ Up = sym down ∙ alike y w r.first r.last e r.s r.t r.runs c from (omega arith)
+      (λ l. let z : Up ≡ Level = sym up ∙ l in cc) (λ l. let z : Down ≡ Level = sym down ∙ l in cc) ∙ up in cc;
+  no_dip = λ c from to down up. let x : Up ≡ Down = sym up ∙ alike y w r.first r.last e r.s r.t r.runs c from (omega arith)
+      (λ l. let z : Down ≡ Level = sym down ∙ l in cc) (λ l. let z : Up ≡ Level = sym up ∙ l in cc) ∙ down in cc;
   goes_on = λ d c low from to level ne. on y w r.first r.last e r.s r.t r.runs d c low from (omega arith) level ne;
 }
 
@@ -225,12 +229,14 @@ abbrev pub StepsAt : (ℕ → ℕ) → ℕ → Type 0
 StepsAt h k = Reaches (slope_by (h k) (h (k + 1))) 1 (h k) (h (k + 1))
 
 near_step : (a b : Point) (rest : List Point) (k : ℕ) → ArePieces a (b ∷ rest) → a.x ≤ k → k < b.x → StepsAt (height_from a (b ∷ rest)) k
-near_step a b rest k h from to = some_slope (slope (piece a b)) (height_from a (b ∷ rest) k) (height_from a (b ∷ rest) (k + 1)) (height_from-step a b rest k h from to)
+near_step a b rest k h from to = some_slope (slope (piece a b)) (height_from a (b ∷ rest) k) (height_from a (b ∷ rest) (k + 1))
+    (height_from-step a b rest k h from to)
 
 far_step : (a b : Point) (rest : List Point) (k : ℕ) → ArePieces a (b ∷ rest) → b.x ≤ k → StepsAt (height_from b rest) k → StepsAt (height_from a (b ∷ rest)) k
 far_step a b rest k h past s =
     let H = height_from b rest in
-    some_slope (slope_by (H k) (H (k + 1))) (height_from a (b ∷ rest) k) (height_from a (b ∷ rest) (k + 1)) (past_first a b rest (slope_by (H k) (H (k + 1))) k h past s)
+    some_slope (slope_by (H k) (H (k + 1))) (height_from a (b ∷ rest) k) (height_from a (b ∷ rest) (k + 1))
+    (past_first a b rest (slope_by (H k) (H (k + 1))) k h past s)
 
 pub steps_along : (a b : Point) (rest : List Point) (k : ℕ) → ArePieces a (b ∷ rest) → a.x ≤ k → k < (last_from b rest).x → StepsAt (height_from a (b ∷ rest)) k
 steps_along a b [] k h from to = near_step a b [] k h from to
@@ -245,7 +251,8 @@ line_steps (a ∷ []) h = absurd (false≢true h)
 line_steps (a ∷ b ∷ rest) h = record { each = λ k from to. steps_along a b rest k (pieces_of a (b ∷ rest) h) from to }
 
 -- THE SECOND DIRECTION: a line's heights are a track
-pub line_is_track : (line : List Point) (n : ℕ) → is_line line ≡ true → (west_end line).x + n + 1 ≡ (east_end line).x → IsTrack (height line) (west_end line).x n
+pub line_is_track : (line : List Point) (n : ℕ) → is_line line ≡ true → (west_end line).x + n + 1 ≡ (east_end line).x →
+    IsTrack (height line) (west_end line).x n
 line_is_track line n h is = runs_are_a_track (height line) (west_end line).x n (east_end line).x is (line_steps line h) (line_runs line h)
 
 -- the slopes of a line at its ends are those of its first and last step
@@ -274,7 +281,8 @@ diagonal_one Up ne = refl
 level_none : (s : Slope) → s ≡ Level → one_if (is_diagonal s) ≡ 0
 level_none s e = ap (λ t. one_if (is_diagonal t)) e
 
-pub bends_by_slopes : (line : List Point) (d : ℕ) → is_line line ≡ true → (west_end line).x ≤ d → d < (east_end line).x → step_slope (height line) d ≡ Level → bends line ≡ one_if (is_diagonal (slope_west line)) + one_if (is_diagonal (slope_east line))
+pub bends_by_slopes : (line : List Point) (d : ℕ) → is_line line ≡ true → (west_end line).x ≤ d → d < (east_end line).x → step_slope (height line) d ≡ Level →
+    bends line ≡ one_if (is_diagonal (slope_west line)) + one_if (is_diagonal (slope_east line))
 bends_by_slopes [] d h from to level = absurd (false≢true h)
 bends_by_slopes (a ∷ []) d h from to level = absurd (false≢true h)
 bends_by_slopes (a ∷ b ∷ []) d h from to level =
@@ -294,7 +302,8 @@ bends_by_slopes (a ∷ b ∷ c ∷ d1 ∷ []) d h from to level =
     omega arith
 bends_by_slopes (a ∷ b ∷ c ∷ d1 ∷ e ∷ rest) d h from to level = let few = (line_length (a ∷ b ∷ c ∷ d1 ∷ e ∷ rest) h).1 in absurd (omega (arith, few))
 
-pub no_bends : (line : List Point) → is_line line ≡ true → ((d : ℕ) → (west_end line).x ≤ d → d < (east_end line).x → step_slope (height line) d ≢ Level) → bends line ≡ 0
+pub no_bends : (line : List Point) → is_line line ≡ true → ((d : ℕ) → (west_end line).x ≤ d → d < (east_end line).x → step_slope (height line) d ≢ Level) →
+    bends line ≡ 0
 no_bends [] h none = absurd (false≢true h)
 no_bends (a ∷ []) h none = absurd (false≢true h)
 no_bends (a ∷ b ∷ []) h none = refl
@@ -305,7 +314,8 @@ no_bends (a ∷ b ∷ c ∷ []) h none =
     let next = all.1.0.rising in
     elim (two_slopes (slope (piece a b)) (slope (piece b c)) (shape_of (a ∷ b ∷ c ∷ []) h)) [
       | inl x ↦ absurd (none a.x (omega arith) (omega arith) (step_over y a b (c ∷ []) a.x all (λ j z. refl) (omega arith) rising ∙ x.0))
-      | inr x ↦ absurd (none b.x (omega arith) (omega arith) (step_over y b c [] b.x all.1 (later_same y a b (c ∷ []) all (λ j z. refl)) (omega arith) next ∙ x.1))
+      | inr x ↦ absurd (none b.x (omega arith) (omega arith) (step_over y b c [] b.x all.1 (later_same y a b (c ∷ []) all (λ j z. refl)) (omega arith) next
+          ∙ x.1))
     ]
 no_bends (a ∷ b ∷ c ∷ d ∷ []) h none =
     let y = height (a ∷ b ∷ c ∷ d ∷ []) in
@@ -314,5 +324,6 @@ no_bends (a ∷ b ∷ c ∷ d ∷ []) h none =
     let next = all.1.0.rising in
     let more = all.1.1.0.rising in
     let x = three_slopes (slope (piece a b)) (slope (piece b c)) (slope (piece c d)) (shape_of (a ∷ b ∷ c ∷ d ∷ []) h) in
-    absurd (none b.x (omega arith) (omega arith) (step_over y b c (d ∷ []) b.x all.1 (later_same y a b (c ∷ d ∷ []) all (λ j z. refl)) (omega arith) next ∙ x.1))
+    absurd (none b.x (omega arith) (omega arith) (step_over y b c (d ∷ []) b.x all.1 (later_same y a b (c ∷ d ∷ []) all (λ j z. refl)) (omega arith) next
+    ∙ x.1))
 no_bends (a ∷ b ∷ c ∷ d ∷ e ∷ rest) h none = let few = (line_length (a ∷ b ∷ c ∷ d ∷ e ∷ rest) h).1 in absurd (omega (arith, few))

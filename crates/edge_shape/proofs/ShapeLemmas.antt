@@ -1,5 +1,6 @@
 -- The points over a track are a line, with the track's heights and slopes.
-use Rattle.std.proofs.Common.{◌≡◌, ◌≢◌, ℕ, zero, suc, ◌+◌, ◌-◌, ◌<◌, ◌≤◌, inl, inr, Bool, true, false, cond, List, [], ◌∷◌, ◌++◌, map, refl, sym, ◌∙◌, ap, subst, arith}
+use Rattle.std.proofs.Common.{◌≡◌, ◌≢◌, ℕ, zero, suc, ◌+◌, ◌-◌, ◌<◌, ◌≤◌, inl, inr, Bool, true, false, cond, List, [], ◌∷◌, ◌++◌, map, refl, sym, ◌∙◌, ap}
+use Rattle.std.proofs.Common.{subst, arith}
 use Rattle.std.specs.List.{list_all}
 use Rattle.std.proofs.lemmas.Bool.{le-leb}
 use Rattle.std.proofs.lemmas.Bool.Decides.{leb_tells}
@@ -27,7 +28,8 @@ pub track_steps : (y : ℕ → ℕ) (w n : ℕ) → IsTrack y w n → AreSteps y
 track_steps y w n t = record { each = λ k from to. reaches_by_slope (y k) (y (k + 1)) (t.rises k from to) (t.falls k from to) }
 
 -- a run goes on over a step of the same slope
-goes_further : (y : ℕ → ℕ) (b c : ℕ) → b ≤ c → IsRun y (step_slope y c) b (c + 1) → same_slope (step_slope y c) (step_slope y (c + 1)) ≡ true → Reaches (step_slope y (c + 1)) 1 (y (c + 1)) (y (c + 1 + 1)) → IsRun y (step_slope y (c + 1)) b (c + 1 + 1)
+goes_further : (y : ℕ → ℕ) (b c : ℕ) → b ≤ c → IsRun y (step_slope y c) b (c + 1) → same_slope (step_slope y c) (step_slope y (c + 1)) ≡ true →
+    Reaches (step_slope y (c + 1)) 1 (y (c + 1)) (y (c + 1 + 1)) → IsRun y (step_slope y (c + 1)) b (c + 1 + 1)
 goes_further y b c le r same h =
     run_more y (step_slope y (c + 1)) b (c + 1) (omega arith) (subst (λ s. IsRun y s b (c + 1)) (same_is (step_slope y c) (step_slope y (c + 1)) same) r) h
 
@@ -35,22 +37,27 @@ abbrev pub rest_of : Bool → (ℕ → ℕ) → ℕ → ℕ → List Point
 rest_of same y c n = cond same [] (over y (c + 1) ∷ []) ++ points_behind y (c + 1) n
 
 -- each part from point to point is a piece, and these are their slopes
-pub pieces_over : (y : ℕ → ℕ) (b c n : ℕ) → b ≤ c → AreSteps y c n → IsRun y (step_slope y c) b (c + 1) → list_all is_piece (pieces_from (over y b) (points_behind y c n)) ≡ true
+pub pieces_over : (y : ℕ → ℕ) (b c n : ℕ) → b ≤ c → AreSteps y c n → IsRun y (step_slope y c) b (c + 1) →
+    list_all is_piece (pieces_from (over y b) (points_behind y c n)) ≡ true
 pieces_over y b c zero le h r = rw (run_piece y (step_slope y c) b (c + 1) (omega arith) r) refl
 pieces_over y b c (suc n) le h r =
     let later = later_steps y c n h in
     let next = later.each (c + 1) (omega arith) (omega arith) in
-    elim (same_slope (step_slope y c) (step_slope y (c + 1))) as (λ same. same_slope (step_slope y c) (step_slope y (c + 1)) ≡ same → list_all is_piece (pieces_from (over y b) (rest_of same y c n)) ≡ true) [
+    elim (same_slope (step_slope y c) (step_slope y (c + 1))) as (λ same. same_slope (step_slope y c) (step_slope y (c + 1)) ≡ same → list_all is_piece
+    (pieces_from (over y b) (rest_of same y c n)) ≡ true) [
       | true ↦ λ e. pieces_over y b (c + 1) n (omega arith) later (goes_further y b c le r e next)
-      | false ↦ λ e. rw (run_piece y (step_slope y c) b (c + 1) (omega arith) r) (pieces_over y (c + 1) (c + 1) n (omega arith) later (run_one y (step_slope y (c + 1)) (c + 1) next))
+      | false ↦ λ e. rw (run_piece y (step_slope y c) b (c + 1) (omega arith) r) (pieces_over y (c + 1) (c + 1) n (omega arith) later
+          (run_one y (step_slope y (c + 1)) (c + 1) next))
     ] refl
 
-pub slopes_over : (y : ℕ → ℕ) (b c n : ℕ) → b ≤ c → AreSteps y c n → IsRun y (step_slope y c) b (c + 1) → map slope (pieces_from (over y b) (points_behind y c n)) ≡ slopes_from y c n
+pub slopes_over : (y : ℕ → ℕ) (b c n : ℕ) → b ≤ c → AreSteps y c n → IsRun y (step_slope y c) b (c + 1) →
+    map slope (pieces_from (over y b) (points_behind y c n)) ≡ slopes_from y c n
 slopes_over y b c zero le h r = ap (λ s. s ∷ []) (run_slope y (step_slope y c) b (c + 1) (omega arith) r)
 slopes_over y b c (suc n) le h r =
     let later = later_steps y c n h in
     let next = later.each (c + 1) (omega arith) (omega arith) in
-    elim (same_slope (step_slope y c) (step_slope y (c + 1))) as (λ same. same_slope (step_slope y c) (step_slope y (c + 1)) ≡ same → map slope (pieces_from (over y b) (rest_of same y c n)) ≡ cond same [] (step_slope y c ∷ []) ++ slopes_from y (c + 1) n) [
+    elim (same_slope (step_slope y c) (step_slope y (c + 1))) as (λ same. same_slope (step_slope y c) (step_slope y (c + 1)) ≡ same → map slope
+    (pieces_from (over y b) (rest_of same y c n)) ≡ cond same [] (step_slope y c ∷ []) ++ slopes_from y (c + 1) n) [
       | true ↦ λ e. slopes_over y b (c + 1) n (omega arith) later (goes_further y b c le r e next)
       | false ↦ λ e.
           let first = run_slope y (step_slope y c) b (c + 1) (omega arith) r in
@@ -59,18 +66,21 @@ slopes_over y b c (suc n) le h r =
     ] refl
 
 -- the heights are those of the track
-pub height_over : (y : ℕ → ℕ) (b c n k : ℕ) → b ≤ c → AreSteps y c n → IsRun y (step_slope y c) b (c + 1) → b ≤ k → k ≤ c + n + 1 → height_from (over y b) (points_behind y c n) k ≡ y k
+pub height_over : (y : ℕ → ℕ) (b c n k : ℕ) → b ≤ c → AreSteps y c n → IsRun y (step_slope y c) b (c + 1) → b ≤ k → k ≤ c + n + 1 →
+    height_from (over y b) (points_behind y c n) k ≡ y k
 height_over y b c zero k le h r from to =
     let near : k ≤ c + 1 = omega arith in
     rw (le-leb k (c + 1) near) (run_height y (step_slope y c) b (c + 1) k (omega arith) r from near)
 height_over y b c (suc n) k le h r from to =
     let later = later_steps y c n h in
     let next = later.each (c + 1) (omega arith) (omega arith) in
-    elim (same_slope (step_slope y c) (step_slope y (c + 1))) as (λ same. same_slope (step_slope y c) (step_slope y (c + 1)) ≡ same → height_from (over y b) (rest_of same y c n) k ≡ y k) [
+    elim (same_slope (step_slope y c) (step_slope y (c + 1))) as (λ same. same_slope (step_slope y c) (step_slope y (c + 1)) ≡ same → height_from (over y b)
+    (rest_of same y c n) k ≡ y k) [
       | true ↦ λ e. height_over y b (c + 1) n k (omega arith) later (goes_further y b c le r e next) from (omega arith)
       | false ↦ λ e. elim (leb_tells k (c + 1)) [
         | inl near ↦ rw near.0 (run_height y (step_slope y c) b (c + 1) k (omega arith) r from near.1)
-        | inr far ↦ let past = far.1 in rw far.0 (height_over y (c + 1) (c + 1) n k (omega arith) later (run_one y (step_slope y (c + 1)) (c + 1) next) (omega arith) (omega arith))
+        | inr far ↦ let past = far.1 in rw far.0 (height_over y (c + 1) (c + 1) n k (omega arith) later (run_one y (step_slope y (c + 1)) (c + 1) next)
+            (omega arith) (omega arith))
       ]
     ] refl
 
@@ -129,7 +139,8 @@ slopes-level : (y : ℕ → ℕ) (c n : ℕ) → GoesOn y c n → step_slope y c
 slopes-level y c zero g level = rw level refl
 slopes-level y c (suc n) g level =
     let later = later_goes_on y c n g in
-    elim (step_slope y (c + 1)) as (λ s. step_slope y (c + 1) ≡ s → is_tail (cond (same_slope (step_slope y c) s) [] (step_slope y c ∷ []) ++ slopes_from y (c + 1) n) ≡ true) [
+    elim (step_slope y (c + 1)) as (λ s. step_slope y (c + 1) ≡ s → is_tail (cond (same_slope (step_slope y c) s) [] (step_slope y c ∷ []) ++ slopes_from y
+    (c + 1) n) ≡ true) [
       | Down ↦ λ e. rw (level, diagonal_end y (c + 1) n later (λ l. down≢level (sym e ∙ l)), e) refl
       | Level ↦ λ e. rw level (slopes-level y (c + 1) n later e)
       | Up ↦ λ e. rw (level, diagonal_end y (c + 1) n later (λ l. up≢level (sym e ∙ l)), e) refl
@@ -177,17 +188,20 @@ track_shape y c (suc n) t =
     let peak = t.no_peak c (omega arith) (omega arith) in
     let dip = t.no_dip c (omega arith) (omega arith) in
     elim (step_slope y c) as (λ r. step_slope y c ≡ r → is_shape (cond (same_slope r (step_slope y (c + 1))) [] (r ∷ []) ++ slopes_from y (c + 1) n) ≡ true) [
-      | Level ↦ λ e. subst (λ r. is_shape (cond (same_slope r (step_slope y (c + 1))) [] (r ∷ []) ++ slopes_from y (c + 1) n) ≡ true) e (shape_is_tail (slopes_from y c (suc n)) (slopes-level y c (suc n) (level_goes_on y c (suc n) t e) e))
-      | Up ↦ λ e. elim (step_slope y (c + 1)) as (λ s. step_slope y (c + 1) ≡ s → is_shape (cond (same_slope Up s) [] (Up ∷ []) ++ slopes_from y (c + 1) n) ≡ true) [
-        | Up ↦ λ f. track_shape y (c + 1) n later
-        | Level ↦ λ f. shape_of_tail Up (slopes_from y (c + 1) n) up≢level (slopes-level y (c + 1) n (level_goes_on y (c + 1) n later f) f)
-        | Down ↦ λ f. absurd (peak e f)
-      ] refl
-      | Down ↦ λ e. elim (step_slope y (c + 1)) as (λ s. step_slope y (c + 1) ≡ s → is_shape (cond (same_slope Down s) [] (Down ∷ []) ++ slopes_from y (c + 1) n) ≡ true) [
-        | Down ↦ λ f. track_shape y (c + 1) n later
-        | Level ↦ λ f. shape_of_tail Down (slopes_from y (c + 1) n) down≢level (slopes-level y (c + 1) n (level_goes_on y (c + 1) n later f) f)
-        | Up ↦ λ f. absurd (dip e f)
-      ] refl
+      | Level ↦ λ e. subst (λ r. is_shape (cond (same_slope r (step_slope y (c + 1))) [] (r ∷ []) ++ slopes_from y (c + 1) n) ≡ true) e
+          (shape_is_tail (slopes_from y c (suc n)) (slopes-level y c (suc n) (level_goes_on y c (suc n) t e) e))
+      | Up ↦ λ e. elim (step_slope y (c + 1)) as (λ s. step_slope y (c + 1) ≡ s → is_shape (cond (same_slope Up s) [] (Up ∷ []) ++ slopes_from y (c + 1) n)
+          ≡ true) [
+            | Up ↦ λ f. track_shape y (c + 1) n later
+            | Level ↦ λ f. shape_of_tail Up (slopes_from y (c + 1) n) up≢level (slopes-level y (c + 1) n (level_goes_on y (c + 1) n later f) f)
+            | Down ↦ λ f. absurd (peak e f)
+          ] refl
+      | Down ↦ λ e. elim (step_slope y (c + 1)) as (λ s. step_slope y (c + 1) ≡ s → is_shape
+          (cond (same_slope Down s) [] (Down ∷ []) ++ slopes_from y (c + 1) n) ≡ true) [
+            | Down ↦ λ f. track_shape y (c + 1) n later
+            | Level ↦ λ f. shape_of_tail Down (slopes_from y (c + 1) n) down≢level (slopes-level y (c + 1) n (level_goes_on y (c + 1) n later f) f)
+            | Up ↦ λ f. absurd (dip e f)
+          ] refl
     ] refl
 
 first_run : (y : ℕ → ℕ) (w n : ℕ) → IsTrack y w n → IsRun y (step_slope y w) w (w + 1)

@@ -71,7 +71,8 @@ pub run_more : (y : ℕ → ℕ) (s : Slope) (b d : ℕ) → b ≤ d → IsRun y
 run_more y s b d le r h k from to = elim (up_to k d to) [
   | inl e ↦
       let z : d - b + 1 ≡ d + 1 - b = omega arith in
-      subst (λ j. Reaches s (j - b) (y b) (y j)) (sym e) (subst (λ m. Reaches s m (y b) (y (d + 1))) z (reaches_more s (d - b) (y b) (y d) (y (d + 1)) (r d le (omega arith)) h))
+      subst (λ j. Reaches s (j - b) (y b) (y j)) (sym e) (subst (λ m. Reaches s m (y b) (y (d + 1))) z
+      (reaches_more s (d - b) (y b) (y d) (y (d + 1)) (r d le (omega arith)) h))
   | inr near ↦ r k from near
 ]
 

@@ -10,7 +10,8 @@ use Rattle.edge_shape.specs.Columns.{steps_of}
 use Rattle.edge_shape.proofs.LineTrackLemmas.{line_again}
 use Rattle.edge_shape.proofs.LineHeights.{height_before, height_behind, steps_are}
 
-pub same_heights_same_line : (a b : List Point) → is_line a ≡ true → is_line b ≡ true → (west_end a).x ≡ (west_end b).x → (east_end a).x ≡ (east_end b).x → ((c : ℕ) → (west_end a).x ≤ c → c ≤ (east_end a).x → height a c ≡ height b c) → a ≡ b
+pub same_heights_same_line : (a b : List Point) → is_line a ≡ true → is_line b ≡ true → (west_end a).x ≡ (west_end b).x → (east_end a).x ≡ (east_end b).x →
+    ((c : ℕ) → (west_end a).x ≤ c → c ≤ (east_end a).x → height a c ≡ height b c) → a ≡ b
 same_heights_same_line a b ha hb west east same =
     let rise = ends_rise a ha in
     let all : height a ≡ height b = fun_ext (λ c. elim (leb_tells (west_end a).x c) [
@@ -30,5 +31,6 @@ same_heights_same_line a b ha hb west east same =
     let sb = steps_are b hb in
     let n : steps_of a ≡ steps_of b = omega arith in
     sym (line_again a (steps_of a) ha sa)
-    ∙ ap (λ (f : ℕ → ℕ). line_over f (west_end a).x (steps_of a)) all ∙ ap (λ k. line_over (height b) k (steps_of a)) west ∙ ap (line_over (height b) (west_end b).x) n
+    ∙ ap (λ (f : ℕ → ℕ). line_over f (west_end a).x (steps_of a)) all ∙ ap (λ k. line_over (height b) k (steps_of a)) west
+    ∙ ap (line_over (height b) (west_end b).x) n
     ∙ line_again b (steps_of b) hb sb

@@ -45,18 +45,23 @@ record IsCutSo (form : CapsForm) (height bends diagonal width : Field) : Type 0 
   diagonal_is : diagonal ≡ form.diagonal
   width_is : width ≡ form.width
 
-first_cut : (text rest height more : List ℕ) (form : CapsForm) → text ≡ behind_word rest → IsCutAt 32 rest height more → IsOfCapsForm text form → (height ≡ form.height) × (more ≡ three form.bends form.diagonal form.width)
+first_cut : (text rest height more : List ℕ) (form : CapsForm) → text ≡ behind_word rest → IsCutAt 32 rest height more → IsOfCapsForm text form →
+    (height ≡ form.height) × (more ≡ three form.bends form.diagonal form.width)
 first_cut text rest height more form is cut h =
-    let same = same_cut height form.height more (three form.bends form.diagonal form.width) cut.first (number_is_one form.height h.numbers.0) (sym cut.spelled ∙ fields_behind text rest form is h) in
+    let same = same_cut height form.height more (three form.bends form.diagonal form.width) cut.first (number_is_one form.height h.numbers.0)
+    (sym cut.spelled ∙ fields_behind text rest form is h) in
     (same.field, same.rest)
 
-second_cut : (text rest height more bends later : List ℕ) (form : CapsForm) → text ≡ behind_word rest → IsCutAt 32 rest height more → IsCutAt 32 more bends later → IsOfCapsForm text form → (bends ≡ form.bends) × (later ≡ form.diagonal ++ 32 ∷ (form.width ++ []))
+second_cut : (text rest height more bends later : List ℕ) (form : CapsForm) → text ≡ behind_word rest → IsCutAt 32 rest height more →
+    IsCutAt 32 more bends later → IsOfCapsForm text form → (bends ≡ form.bends) × (later ≡ form.diagonal ++ 32 ∷ (form.width ++ []))
 second_cut text rest height more bends later form is cut next h =
     let one = first_cut text rest height more form is cut h in
-    let same = same_cut bends form.bends later (form.diagonal ++ 32 ∷ (form.width ++ [])) next.first (number_is_one form.bends h.numbers.1.0) (sym next.spelled ∙ one.1) in
+    let same = same_cut bends form.bends later (form.diagonal ++ 32 ∷ (form.width ++ [])) next.first (number_is_one form.bends h.numbers.1.0)
+    (sym next.spelled ∙ one.1) in
     (same.field, same.rest)
 
-all_cut : (text rest height more bends later diagonal width : List ℕ) (form : CapsForm) → text ≡ behind_word rest → IsCutAt 32 rest height more → IsCutAt 32 more bends later → IsCutAt 32 later diagonal width → IsOfCapsForm text form →
+all_cut : (text rest height more bends later diagonal width : List ℕ) (form : CapsForm) → text ≡ behind_word rest → IsCutAt 32 rest height more →
+    IsCutAt 32 more bends later → IsCutAt 32 later diagonal width → IsOfCapsForm text form →
     IsCutSo form height bends diagonal width
 all_cut text rest height more bends later diagonal width form is cut next last h =
     let one = first_cut text rest height more form is cut h in
@@ -71,10 +76,13 @@ pub no_height : (text rest : List ℕ) → text ≡ behind_word rest → LacksBy
 no_height text rest is one = λ form h. no_cut rest form.height (three form.bends form.diagonal form.width) one (fields_behind text rest form is h)
 
 pub no_bends : (text rest height more : List ℕ) → text ≡ behind_word rest → IsCutAt 32 rest height more → LacksByte 32 more → LacksCaps text
-no_bends text rest height more is cut one = λ form h. no_cut more form.bends (form.diagonal ++ 32 ∷ (form.width ++ [])) one (first_cut text rest height more form is cut h).1
+no_bends text rest height more is cut one = λ form h. no_cut more form.bends (form.diagonal ++ 32 ∷ (form.width ++ [])) one
+    (first_cut text rest height more form is cut h).1
 
-pub no_diagonal : (text rest height more bends later : List ℕ) → text ≡ behind_word rest → IsCutAt 32 rest height more → IsCutAt 32 more bends later → LacksByte 32 later → LacksCaps text
-no_diagonal text rest height more bends later is cut next one = λ form h. no_cut later form.diagonal (form.width ++ []) one (second_cut text rest height more bends later form is cut next h).1
+pub no_diagonal : (text rest height more bends later : List ℕ) → text ≡ behind_word rest → IsCutAt 32 rest height more → IsCutAt 32 more bends later →
+    LacksByte 32 later → LacksCaps text
+no_diagonal text rest height more bends later is cut next one = λ form h. no_cut later form.diagonal (form.width ++ []) one
+    (second_cut text rest height more bends later form is cut next h).1
 
 abbrev with_fields : Field → Field → Field → Field → CapsForm
 with_fields height bends diagonal width = record { height = height; bends = bends; diagonal = diagonal; width = width }
@@ -86,7 +94,8 @@ same_form form height bends diagonal width s =
     ∙ ap (λ (t : Field). with_fields form.height form.bends t width) s.diagonal_is
     ∙ ap (λ (t : Field). with_fields form.height form.bends form.diagonal t) s.width_is
 
-pub no_numbers : (text rest height more bends later diagonal width : List ℕ) → text ≡ behind_word rest → IsCutAt 32 rest height more → IsCutAt 32 more bends later → IsCutAt 32 later diagonal width →
+pub no_numbers : (text rest height more bends later diagonal width : List ℕ) → text ≡ behind_word rest → IsCutAt 32 rest height more →
+    IsCutAt 32 more bends later → IsCutAt 32 later diagonal width →
     (AllByRecursion IsNumber (caps_fields (with_fields height bends diagonal width)) → ⊥) → LacksCaps text
 no_numbers text rest height more bends later diagonal width is cut next last not = λ form h.
     let same = same_form form height bends diagonal width (all_cut text rest height more bends later diagonal width form is cut next last h) in
@@ -95,8 +104,10 @@ no_numbers text rest height more bends later diagonal width is cut next last not
 form_once : (text : List ℕ) (a b : CapsForm) → IsOfCapsForm text a → IsOfCapsForm text b → a ≡ b
 form_once text a b h k =
     let cut : (f : Field) (r : List ℕ) → IsNumber f → IsCutAt 32 (f ++ 32 ∷ r) f r = λ f r n. record { first = number_is_one f n; spelled = refl } in
-    let s = all_cut text (four a) a.height (three a.bends a.diagonal a.width) a.bends (a.diagonal ++ 32 ∷ (a.width ++ [])) a.diagonal (a.width ++ []) b h.spelled
-    (cut a.height (three a.bends a.diagonal a.width) h.numbers.0) (cut a.bends (a.diagonal ++ 32 ∷ (a.width ++ [])) h.numbers.1.0) (cut a.diagonal (a.width ++ []) h.numbers.1.1.0) k in
+    let s = all_cut text (four a) a.height (three a.bends a.diagonal a.width) a.bends (a.diagonal ++ 32 ∷ (a.width ++ [])) a.diagonal (a.width ++ []) b
+    h.spelled
+    (cut a.height (three a.bends a.diagonal a.width) h.numbers.0) (cut a.bends (a.diagonal ++ 32 ∷ (a.width ++ [])) h.numbers.1.0)
+    (cut a.diagonal (a.width ++ []) h.numbers.1.1.0) k in
     ap (λ (t : Field). with_fields a.height a.bends a.diagonal t) (sym (append-nil a.width)) ∙ same_form b a.height a.bends a.diagonal (a.width ++ []) s
 
 -- ---- the caps of a text
@@ -126,7 +137,17 @@ caps_right text caps h = (
   (caps.height, record { written = refl; from = omega arith; to = h.small Height }),
   (
     (caps.bends, record { written = refl; from = omega arith; to = h.small Bends }),
-    ((caps.diagonal, record { written = refl; from = omega arith; to = h.small Diagonal }), ((caps.width, record { written = refl; from = omega arith; to = h.small Width }), tt)),
+    (
+      (
+        caps.diagonal,
+        record {
+          written = refl;
+          from = omega arith;
+          to = h.small Diagonal;
+        },
+      ),
+      ((caps.width, record { written = refl; from = omega arith; to = h.small Width }), tt),
+    ),
   ),
 )
 
@@ -137,7 +158,8 @@ caps_once text a b h k =
     let values : ℕ → ℕ → ℕ → ℕ → Values = λ x y z w. record { height = x; bends = y; diagonal = z; width = w } in
     let height = decimal_once a.height b.height (small a.height (h.small Height)) (small b.height (k.small Height)) (ap (λ (f : CapsForm). f.height) same) in
     let bends = decimal_once a.bends b.bends (small a.bends (h.small Bends)) (small b.bends (k.small Bends)) (ap (λ (f : CapsForm). f.bends) same) in
-    let diagonal = decimal_once a.diagonal b.diagonal (small a.diagonal (h.small Diagonal)) (small b.diagonal (k.small Diagonal)) (ap (λ (f : CapsForm). f.diagonal) same) in
+    let diagonal = decimal_once a.diagonal b.diagonal (small a.diagonal (h.small Diagonal)) (small b.diagonal (k.small Diagonal))
+    (ap (λ (f : CapsForm). f.diagonal) same) in
     let width = decimal_once a.width b.width (small a.width (h.small Width)) (small b.width (k.small Width)) (ap (λ (f : CapsForm). f.width) same) in
     ap (λ x. values x a.bends a.diagonal a.width) height
     ∙ ap (λ y. values b.height y a.diagonal a.width) bends
@@ -153,7 +175,8 @@ caps_text_of text form caps h a = record {
       ∙ ap (λ (t : Field). unended_text (codes "caps") (caps_fields (with_fields t form.bends form.diagonal form.width))) a.height.written
       ∙ ap (λ (t : Field). unended_text (codes "caps") (caps_fields (with_fields (decimal caps.height) t form.diagonal form.width))) a.bends.written
       ∙ ap (λ (t : Field). unended_text (codes "caps") (caps_fields (with_fields (decimal caps.height) (decimal caps.bends) t form.width))) a.diagonal.written
-      ∙ ap (λ (t : Field). unended_text (codes "caps") (caps_fields (with_fields (decimal caps.height) (decimal caps.bends) (decimal caps.diagonal) t))) a.width.written;
+      ∙ ap (λ (t : Field). unended_text (codes "caps") (caps_fields (with_fields (decimal caps.height) (decimal caps.bends) (decimal caps.diagonal) t)))
+      a.width.written;
 }
   where
     each : (c : Criterion) → value_of caps c ≤ MAX_NUMBER
@@ -174,24 +197,30 @@ caps_lack caps h =
     let bends = 32 ∷ (decimal caps.bends ++ diagonal) in
     let height = 32 ∷ (decimal caps.height ++ bends) in
     lacks_both (codes "caps") height (search rules)
-    (lacks_field caps.height bends (h Height) (lacks_field caps.bends diagonal (h Bends) (lacks_field caps.diagonal width (h Diagonal) (lacks_field caps.width [] (h Width) tt))))
+    (lacks_field caps.height bends (h Height) (lacks_field caps.bends diagonal (h Bends)
+    (lacks_field caps.diagonal width (h Diagonal) (lacks_field caps.width [] (h Width) tt))))
 
 -- ---- one fault or none
 
-form_or_caps : (greatest : Criterion → ℕ) (order : List Criterion) (text : List ℕ) (caps : Values) → IsCapsText text caps → HasCapsFault greatest order text Form → ⊥
+form_or_caps : (greatest : Criterion → ℕ) (order : List Criterion) (text : List ℕ) (caps : Values) → IsCapsText text caps →
+    HasCapsFault greatest order text Form → ⊥
 form_or_caps greatest order text caps h f = f (decimals_of caps) (caps_form_of text caps h)
 
-number_or_caps : (greatest : Criterion → ℕ) (order : List Criterion) (text : List ℕ) (caps : Values) → IsCapsText text caps → HasCapsFault greatest order text Number → ⊥
-number_or_caps greatest order text caps h f = f.2 (subst HasRightCaps (form_once text (decimals_of caps) f.0 (caps_form_of text caps h) f.1) (caps_right text caps h))
+number_or_caps : (greatest : Criterion → ℕ) (order : List Criterion) (text : List ℕ) (caps : Values) → IsCapsText text caps →
+    HasCapsFault greatest order text Number → ⊥
+number_or_caps greatest order text caps h f = f.2 (subst HasRightCaps (form_once text (decimals_of caps) f.0 (caps_form_of text caps h) f.1)
+    (caps_right text caps h))
 
-pub caps_no_fault : (greatest : Criterion → ℕ) (order : List Criterion) (text : List ℕ) (caps : Values) (what : HintsWhat) → AreCapsOf greatest order text caps → HasCapsFault greatest order text what → ⊥
+pub caps_no_fault : (greatest : Criterion → ℕ) (order : List Criterion) (text : List ℕ) (caps : Values) (what : HintsWhat) →
+    AreCapsOf greatest order text caps → HasCapsFault greatest order text what → ⊥
 caps_no_fault greatest order text caps Header h f = f
 caps_no_fault greatest order text caps Form h f = form_or_caps greatest order text caps h.is_text f
 caps_no_fault greatest order text caps Number h f = number_or_caps greatest order text caps h.is_text f
 caps_no_fault greatest order text caps Twice h f = f
 caps_no_fault greatest order text caps Range h f = f.2 (subst (AreInRange greatest order) (caps_once text caps f.0 h.is_text f.1) h.range)
 
-pub caps_fault_once : (greatest : Criterion → ℕ) (order : List Criterion) (text : List ℕ) (a b : HintsWhat) → HasCapsFault greatest order text a → HasCapsFault greatest order text b → a ≡ b
+pub caps_fault_once : (greatest : Criterion → ℕ) (order : List Criterion) (text : List ℕ) (a b : HintsWhat) → HasCapsFault greatest order text a →
+    HasCapsFault greatest order text b → a ≡ b
 caps_fault_once greatest order text Form Form f g = refl
 caps_fault_once greatest order text Form Number f g = absurd (f g.0 g.1)
 caps_fault_once greatest order text Form Range f g = absurd (form_or_caps greatest order text g.0 g.1 f)

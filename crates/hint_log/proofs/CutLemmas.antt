@@ -1,5 +1,6 @@
 -- A text that is cut behind its first field `0`, and what stands before it.
-use Rattle.std.proofs.Common.{◌≡◌, ◌≢◌, ℕ, suc, ◌+◌, ◌≤◌, List, [], ◌∷◌, ◌++◌, length, take, drop, refl, sym, ◌∙◌, ap, subst, arith, append_assoc, length-append}
+use Rattle.std.proofs.Common.{◌≡◌, ◌≢◌, ℕ, suc, ◌+◌, ◌≤◌, List, [], ◌∷◌, ◌++◌, length, take, drop, refl, sym, ◌∙◌, ap, subst, arith, append_assoc}
+use Rattle.std.proofs.Common.{length-append}
 use Rattle.std.proofs.Math.Seq.{take-append-add}
 use Rattle.std.proofs.lemmas.List.{length-take-le, take-append-drop}
 use Rattle.outside_io.specs.Fields.{LacksByte, spaced}
@@ -36,12 +37,14 @@ begins_space [] t = record { rest = t; is = refl }
 begins_space (f ∷ fields) t = record { rest = (f ++ spaced fields) ++ 32 ∷ t; is = refl }
 
 -- no `0` ends before fields none of which is `0`
-pub not_before : (fields : List Field) (a b t : List ℕ) → AreNumbers fields → NoneIsZero fields → spaced fields ++ 32 ∷ 48 ∷ 32 ∷ t ≡ a ++ 32 ∷ 48 ∷ 32 ∷ b → length (spaced fields) ≤ length a
+pub not_before : (fields : List Field) (a b t : List ℕ) → AreNumbers fields → NoneIsZero fields → spaced fields ++ 32 ∷ 48 ∷ 32 ∷ t ≡ a ++ 32 ∷ 48 ∷ 32 ∷ b →
+    length (spaced fields) ≤ length a
 not_before [] a b t numbers none e = omega arith
 not_before (f ∷ fields) [] b t numbers none e =
     let next = begins_space fields (48 ∷ 32 ∷ t) in
     let tail : (f ++ spaced fields) ++ 32 ∷ 48 ∷ 32 ∷ t ≡ 48 ∷ 32 ∷ b = cc in
-    let split : f ++ 32 ∷ next.rest ≡ 48 ∷ 32 ∷ b = ap (λ (s : List ℕ). f ++ s) (sym next.is) ∙ sym (append_assoc f (spaced fields) (32 ∷ 48 ∷ 32 ∷ t)) ∙ tail in
+    let split : f ++ 32 ∷ next.rest ≡ 48 ∷ 32 ∷ b = ap (λ (s : List ℕ). f ++ s) (sym next.is) ∙ sym (append_assoc f (spaced fields) (32 ∷ 48 ∷ 32 ∷ t))
+    ∙ tail in
     let cut = same_cut f (48 ∷ []) next.rest b (number_is_one f numbers.0) zero_is_one split in
     absurd (none.0 cut.field)
 not_before (f ∷ fields) (x ∷ a) b t numbers none e =
@@ -54,7 +57,8 @@ not_before (f ∷ fields) (x ∷ a) b t numbers none e =
     omega arith
 
 -- the same behind a letter
-pub not_before_letter : (letter : ℕ) (fields : List Field) (a b t : List ℕ) → letter ≢ 32 → AreNumbers fields → NoneIsZero fields → (letter ∷ spaced fields) ++ 32 ∷ 48 ∷ 32 ∷ t ≡ a ++ 32 ∷ 48 ∷ 32 ∷ b → length (letter ∷ spaced fields) ≤ length a
+pub not_before_letter : (letter : ℕ) (fields : List Field) (a b t : List ℕ) → letter ≢ 32 → AreNumbers fields → NoneIsZero fields →
+    (letter ∷ spaced fields) ++ 32 ∷ 48 ∷ 32 ∷ t ≡ a ++ 32 ∷ 48 ∷ 32 ∷ b → length (letter ∷ spaced fields) ≤ length a
 not_before_letter letter fields [] b t other numbers none e = let same : letter ≡ 32 = cc in absurd (other same)
 not_before_letter letter fields (x ∷ a) b t other numbers none e =
     let tail : spaced fields ++ 32 ∷ 48 ∷ 32 ∷ t ≡ a ++ 32 ∷ 48 ∷ 32 ∷ b = cc in
@@ -63,7 +67,8 @@ not_before_letter letter fields (x ∷ a) b t other numbers none e =
 
 -- ---- fields before which no `0` ends
 
-pub none_is_zero : (front : List ℕ) (fields : List Field) (t : List ℕ) → NoZeroBefore ((front ++ spaced fields) ++ 32 ∷ 48 ∷ 32 ∷ t) (length (front ++ spaced fields)) → NoneIsZero fields
+pub none_is_zero : (front : List ℕ) (fields : List Field) (t : List ℕ) →
+    NoZeroBefore ((front ++ spaced fields) ++ 32 ∷ 48 ∷ 32 ∷ t) (length (front ++ spaced fields)) → NoneIsZero fields
 none_is_zero front [] t none = tt
 none_is_zero front (f ∷ fields) t none = (
   λ zero.
@@ -103,7 +108,8 @@ pub record SameCuts (front other rest another : List ℕ) : Type 0 where
 tail_of : (r s : List ℕ) → 32 ∷ 48 ∷ 32 ∷ r ≡ 32 ∷ 48 ∷ 32 ∷ s → r ≡ s
 tail_of r s e = cc
 
-pub cut_once : (text front other rest another : List ℕ) → IsCutBehindZero text front rest → IsCutBehindZero text other another → SameCuts front other rest another
+pub cut_once : (text front other rest another : List ℕ) → IsCutBehindZero text front rest → IsCutBehindZero text other another →
+    SameCuts front other rest another
 cut_once text front other rest another h k =
     let low = h.first k.before another k.spelled in
     let high = k.first h.before rest h.spelled in
@@ -111,7 +117,8 @@ cut_once text front other rest another h k =
     record { front_is = h.front_is ∙ ap (λ (t : List ℕ). t ++ 32 ∷ 48 ∷ []) p.front ∙ sym k.front_is; rest_is = tail_of rest another p.rest }
 
 -- the cut that such a loop finds
-pub cut_found : (text rest : List ℕ) (place : ℕ) → place ≤ length text → NoZeroBefore text place → drop place text ≡ 32 ∷ 48 ∷ 32 ∷ rest → IsCutBehindZero text (take (place + 2) text) rest
+pub cut_found : (text rest : List ℕ) (place : ℕ) → place ≤ length text → NoZeroBefore text place → drop place text ≡ 32 ∷ 48 ∷ 32 ∷ rest →
+    IsCutBehindZero text (take (place + 2) text) rest
 cut_found text rest place low none here =
     let a = take place text in
     let size : length a ≡ place = length-take-le place text low in

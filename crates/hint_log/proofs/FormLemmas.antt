@@ -1,5 +1,6 @@
 -- What the parts of a text that is cut behind its literals say of the whole of it.
-use Rattle.std.proofs.Common.{◌≡◌, ◌≢◌, ℕ, ◌≤◌, ◌⊎◌, inl, inr, Bool, true, false, List, [], ◌∷◌, ◌++◌, length, map, decimal, Option, Some, None, MatchOption, refl, sym, ◌∙◌, ap, subst, arith, append_assoc}
+use Rattle.std.proofs.Common.{◌≡◌, ◌≢◌, ℕ, ◌≤◌, ◌⊎◌, inl, inr, Bool, true, false, List, [], ◌∷◌, ◌++◌, length, map, decimal, Option, Some, None, MatchOption}
+use Rattle.std.proofs.Common.{refl, sym, ◌∙◌, ap, subst, arith, append_assoc}
 use Rattle.std.specs.Prelude.{⊤, is_some}
 use Rattle.std.proofs.lemmas.Bool.{true≢false}
 use Rattle.std.specs.List.{AllByRecursion}
@@ -32,7 +33,8 @@ use Rattle.hint_log.specs.HintForm.{NoneIsZero, EndsAtZero, HintForm, IsOfHintFo
 use Rattle.hint_log.specs.declared.text_fault.HintTextFault.{HintTextFault}
 use Rattle.hint_log.specs.declared.text_fault.HintTextFault.TheVariants.{Hints, Memory}
 use Rattle.hint_log.specs.HintFaults.{SpellsHint, IsHintOf, HasHintTextFault, IsHintWhere}
-use Rattle.hint_log.specs.Parts.{IsCutBehindZero, NoZeroBefore, LacksZero, BeginsHinted, HasHintNumbers, HasNumberFields, HasWrongNumbers, LacksNumbers, IsFormFor, IsUnjoined, fault_of}
+use Rattle.hint_log.specs.Parts.{IsCutBehindZero, NoZeroBefore, LacksZero, BeginsHinted, HasHintNumbers, HasNumberFields, HasWrongNumbers, LacksNumbers}
+use Rattle.hint_log.specs.Parts.{IsFormFor, IsUnjoined, fault_of}
 use Rattle.hint_log.proofs.CutLemmas.{not_before_letter, none_is_zero, SameCuts, cut_once}
 
 -- ---- texts of fields
@@ -45,7 +47,8 @@ pub behind_space : (fields : List Field) → spaced (with_zero fields) ≡ 32 �
 behind_space fields = spaced_with fields (48 ∷ [])
 
 -- the whole, cut where the literals end
-whole_is : (letter : ℕ) (fields numbers : List Field) → (letter ∷ spaced (with_zero fields)) ++ spaced (with_zero numbers) ≡ (letter ∷ spaced fields) ++ 32 ∷ 48 ∷ 32 ∷ fields_left numbers
+whole_is : (letter : ℕ) (fields numbers : List Field) → (letter ∷ spaced (with_zero fields)) ++ spaced (with_zero numbers) ≡ (letter ∷ spaced fields) ++ 32 ∷ 48
+    ∷ 32 ∷ fields_left numbers
 whole_is letter fields numbers =
     ap (λ (t : List ℕ). t ++ spaced (with_zero numbers)) (lettered letter fields)
     ∙ append_assoc (letter ∷ spaced fields) (32 ∷ 48 ∷ []) (spaced (with_zero numbers))
@@ -53,7 +56,8 @@ whole_is letter fields numbers =
 
 -- ---- a form has a cut
 
-cut_at : (text : List ℕ) (letter : ℕ) (fields numbers : List Field) → letter ≢ 32 → AreNumbers fields → NoneIsZero fields → text ≡ (letter ∷ spaced (with_zero fields)) ++ spaced (with_zero numbers) →
+cut_at : (text : List ℕ) (letter : ℕ) (fields numbers : List Field) → letter ≢ 32 → AreNumbers fields → NoneIsZero fields →
+    text ≡ (letter ∷ spaced (with_zero fields)) ++ spaced (with_zero numbers) →
     IsCutBehindZero text (letter ∷ spaced (with_zero fields)) (fields_left numbers)
 cut_at text letter fields numbers other are none spelled =
     let is : text ≡ (letter ∷ spaced fields) ++ 32 ∷ 48 ∷ 32 ∷ fields_left numbers = spelled ∙ whole_is letter fields numbers in
@@ -64,7 +68,8 @@ cut_at text letter fields numbers other are none spelled =
       first = λ a b e. not_before_letter letter fields a b (fields_left numbers) other are none (sym is ∙ e);
     }
 
-form_cut : (text : List ℕ) (line : LineForm) (numbers : List Field) → IsForm line → EndsAtZero line → text ≡ form_text line ++ spaced (with_zero numbers) → IsCutBehindZero text (form_text line) (fields_left numbers)
+form_cut : (text : List ℕ) (line : LineForm) (numbers : List Field) → IsForm line → EndsAtZero line → text ≡ form_text line ++ spaced (with_zero numbers) →
+    IsCutBehindZero text (form_text line) (fields_left numbers)
 form_cut text (LearntForm fields) numbers is none spelled = cut_at text 108 fields numbers (λ e. omega arith) is.0 none spelled
 form_cut text (RefutedForm fields) numbers is none spelled = cut_at text 114 fields numbers (λ e. omega arith) is none spelled
 form_cut text (FormulaForm fields) numbers is none spelled = absurd none
@@ -79,7 +84,8 @@ has_cut text form h = form_cut text form.line form.numbers h.is_form h.first h.s
 pub no_cut_no_form : (text : List ℕ) → LacksZero text → HasHintTextFault text Form
 no_cut_no_form text none = λ form h. let cut = has_cut text form h in none cut.before (fields_left form.numbers) cut.spelled
 
-parts_of : (text front rest : List ℕ) (form : HintForm) → IsCutBehindZero text front rest → IsOfHintForm text form → SameCuts front (form_text form.line) rest (fields_left form.numbers)
+parts_of : (text front rest : List ℕ) (form : HintForm) → IsCutBehindZero text front rest → IsOfHintForm text form →
+    SameCuts front (form_text form.line) rest (fields_left form.numbers)
 parts_of text front rest form cut h = cut_once text front (form_text form.line) rest (fields_left form.numbers) cut (has_cut text form h)
 
 -- ---- a cut, and the forms of its parts
@@ -88,11 +94,14 @@ cut_spelled : (text front rest : List ℕ) → IsCutBehindZero text front rest �
 cut_spelled text front rest cut =
     cut.spelled ∙ sym (append_assoc cut.before (32 ∷ 48 ∷ []) (32 ∷ rest)) ∙ ap (λ (t : List ℕ). t ++ 32 ∷ rest) (sym cut.front_is)
 
-front_none : (text front rest : List ℕ) (letter : ℕ) (fields : List Field) → IsCutBehindZero text front rest → front ≡ letter ∷ spaced (with_zero fields) → NoneIsZero fields
+front_none : (text front rest : List ℕ) (letter : ℕ) (fields : List Field) → IsCutBehindZero text front rest → front ≡ letter ∷ spaced (with_zero fields) →
+    NoneIsZero fields
 front_none text front rest letter fields cut e =
-    let before : cut.before ≡ letter ∷ spaced fields = append_cancel_right cut.before (letter ∷ spaced fields) (32 ∷ 48 ∷ []) (sym cut.front_is ∙ e ∙ lettered letter fields) in
+    let before : cut.before ≡ letter ∷ spaced fields = append_cancel_right cut.before (letter ∷ spaced fields) (32 ∷ 48 ∷ [])
+    (sym cut.front_is ∙ e ∙ lettered letter fields) in
     none_is_zero (letter ∷ []) fields rest
-    (subst (λ (t : List ℕ). NoZeroBefore (t ++ 32 ∷ 48 ∷ 32 ∷ rest) (length t)) before (subst (λ (t : List ℕ). NoZeroBefore t (length cut.before)) cut.spelled cut.first))
+    (subst (λ (t : List ℕ). NoZeroBefore (t ++ 32 ∷ 48 ∷ 32 ∷ rest) (length t)) before
+    (subst (λ (t : List ℕ). NoZeroBefore t (length cut.before)) cut.spelled cut.first))
 
 pub other_letter : (letter : ℕ) (front rest : List ℕ) → BeginsHinted front → letter ≢ 108 → letter ≢ 114 → front ≡ letter ∷ rest → ⊥
 other_letter letter front rest begins l r e =
@@ -106,12 +115,16 @@ other_letter letter front rest begins l r e =
 line_ends : (text front rest : List ℕ) (line : LineForm) → IsCutBehindZero text front rest → BeginsHinted front → IsOfForm front line → EndsAtZero line
 line_ends text front rest (LearntForm fields) cut begins h = front_none text front rest 108 fields cut h.spelled
 line_ends text front rest (RefutedForm fields) cut begins h = front_none text front rest 114 fields cut h.spelled
-line_ends text front rest (FormulaForm fields) cut begins h = other_letter 102 front (spaced (with_zero fields)) begins (λ e. omega arith) (λ e. omega arith) h.spelled
-line_ends text front rest (BoundForm criterion k x) cut begins h = other_letter 98 front (spaced (criterion_word criterion ∷ k ∷ x ∷ [])) begins (λ e. omega arith) (λ e. omega arith) h.spelled
-line_ends text front rest (QueryForm fields) cut begins h = other_letter 113 front (spaced (with_zero fields)) begins (λ e. omega arith) (λ e. omega arith) h.spelled
+line_ends text front rest (FormulaForm fields) cut begins h = other_letter 102 front (spaced (with_zero fields)) begins (λ e. omega arith) (λ e. omega arith)
+    h.spelled
+line_ends text front rest (BoundForm criterion k x) cut begins h = other_letter 98 front (spaced (criterion_word criterion ∷ k ∷ x ∷ [])) begins
+    (λ e. omega arith) (λ e. omega arith) h.spelled
+line_ends text front rest (QueryForm fields) cut begins h = other_letter 113 front (spaced (with_zero fields)) begins (λ e. omega arith) (λ e. omega arith)
+    h.spelled
 line_ends text front rest ModelForm cut begins h = other_letter 109 front [] begins (λ e. omega arith) (λ e. omega arith) h.spelled
 
-pub whole_form : (text front rest : List ℕ) (line : LineForm) (fields : List Field) → IsCutBehindZero text front rest → BeginsHinted front → IsOfForm front line → HasNumberFields rest fields → IsOfHintForm text (record { line = line; numbers = fields })
+pub whole_form : (text front rest : List ℕ) (line : LineForm) (fields : List Field) → IsCutBehindZero text front rest → BeginsHinted front →
+    IsOfForm front line → HasNumberFields rest fields → IsOfHintForm text (record { line = line; numbers = fields })
 whole_form text front rest line fields cut begins h n = record {
   is_form = h.is_form;
   first = line_ends text front rest line cut begins h;
@@ -123,12 +136,14 @@ whole_form text front rest line fields cut begins h n = record {
 }
 
 -- the line of the whole
-spells_hint : (text front rest : List ℕ) (h : HintLine) → IsCutBehindZero text front rest → SpellsLine front (line_of h) → HasHintNumbers rest (hints_of h) → SpellsHint text h
+spells_hint : (text front rest : List ℕ) (h : HintLine) → IsCutBehindZero text front rest → SpellsLine front (line_of h) → HasHintNumbers rest (hints_of h) →
+    SpellsHint text h
 spells_hint text front rest h cut s n = record {
   formed = record { formed = s.formed; some = n.some; numbers = n.each };
   spelled =
       ap (λ (t : List ℕ). t ++ spaced (number_fields (hints_of h))) s.spelled
-      ∙ ap (λ (t : List ℕ). front ++ t) (behind_space (map decimal (hints_of h)) ∙ ap (λ (t : List ℕ). 32 ∷ t) (sym n.spelled)) ∙ sym (cut_spelled text front rest cut);
+      ∙ ap (λ (t : List ℕ). front ++ t) (behind_space (map decimal (hints_of h)) ∙ ap (λ (t : List ℕ). 32 ∷ t) (sym n.spelled))
+      ∙ sym (cut_spelled text front rest cut);
 }
 
 -- a line of another kind begins otherwise
@@ -142,7 +157,8 @@ IsOther Model = ⊤
 
 unhinted : (front : List ℕ) (read : LogLine) → IsOther read → BeginsHinted front → SpellsLine front read → ⊥
 unhinted front (Formula c) other begins s = other_letter 102 front (spaced (clause_fields c)) begins (λ e. omega arith) (λ e. omega arith) (sym s.spelled)
-unhinted front (Bound d k x) other begins s = other_letter 98 front (spaced (line_fields (Bound d k x))) begins (λ e. omega arith) (λ e. omega arith) (sym s.spelled)
+unhinted front (Bound d k x) other begins s = other_letter 98 front (spaced (line_fields (Bound d k x))) begins (λ e. omega arith) (λ e. omega arith)
+    (sym s.spelled)
 unhinted front (Query c) other begins s = other_letter 113 front (spaced (clause_fields c)) begins (λ e. omega arith) (λ e. omega arith) (sym s.spelled)
 unhinted front Model other begins s = other_letter 109 front [] begins (λ e. omega arith) (λ e. omega arith) (sym s.spelled)
 unhinted front (Learnt c) other begins s = other
@@ -180,18 +196,24 @@ numbers_form text front rest cut lacks = λ form h.
     lacks form.numbers (record { some = h.some; has = record { numbers = h.numbers; spelled = p.rest_is } })
 
 line_form : (text front rest : List ℕ) → IsCutBehindZero text front rest → HasLineFault front logs.Form → HasHintTextFault text Form
-line_form text front rest cut fault = λ form h. let p = parts_of text front rest form cut h in fault form.line (record { is_form = h.is_form; spelled = p.front_is })
+line_form text front rest cut fault = λ form h. let p = parts_of text front rest form cut h in fault form.line (record {
+  is_form = h.is_form;
+  spelled = p.front_is;
+})
 
-line_number : (text front rest : List ℕ) (fields : List Field) → IsCutBehindZero text front rest → BeginsHinted front → HasLineFault front logs.Number → HasNumberFields rest fields → HasHintTextFault text Number
+line_number : (text front rest : List ℕ) (fields : List Field) → IsCutBehindZero text front rest → BeginsHinted front → HasLineFault front logs.Number →
+    HasNumberFields rest fields → HasHintTextFault text Number
 line_number text front rest fields cut begins fault n =
     (record { line = fault.0; numbers = fields }, whole_form text front rest fault.0 fields cut begins fault.1 n, λ right. fault.2 right.literals)
 
-wrong_number : (text front rest : List ℕ) (read : LogLine) → IsCutBehindZero text front rest → BeginsHinted front → SpellsLine front read → HasWrongNumbers rest → HasHintTextFault text Number
+wrong_number : (text front rest : List ℕ) (read : LogLine) → IsCutBehindZero text front rest → BeginsHinted front → SpellsLine front read →
+    HasWrongNumbers rest → HasHintTextFault text Number
 wrong_number text front rest read cut begins s w =
     let form = (right_form front).1 (read, s) in
     (record { line = form.0; numbers = w.fields }, whole_form text front rest form.0 w.fields cut begins form.1 w.has, λ right. w.wrong right.hints)
 
-line_twice : (text front rest ns : List ℕ) (read : LogLine) → IsCutBehindZero text front rest → BeginsHinted front → SpellsLine front read → (NamesOnce read → ⊥) → HasHintNumbers rest ns → HasHintTextFault text Twice
+line_twice : (text front rest ns : List ℕ) (read : LogLine) → IsCutBehindZero text front rest → BeginsHinted front → SpellsLine front read →
+    (NamesOnce read → ⊥) → HasHintNumbers rest ns → HasHintTextFault text Twice
 line_twice text front rest ns (Learnt c) cut begins s not n = let h : HintLine = hints.Learnt c ns in (h, spells_hint text front rest h cut s n, not)
 line_twice text front rest ns (Refuted c) cut begins s not n = let h : HintLine = hints.Refuted c ns in (h, spells_hint text front rest h cut s n, not)
 line_twice text front rest ns (Formula c) cut begins s not n = absurd (unhinted front (Formula c) tt begins s)
@@ -199,12 +221,14 @@ line_twice text front rest ns (Bound d k x) cut begins s not n = absurd (unhinte
 line_twice text front rest ns (Query c) cut begins s not n = absurd (unhinted front (Query c) tt begins s)
 line_twice text front rest ns Model cut begins s not n = absurd (unhinted front Model tt begins s)
 
-pub part_fault : (text front rest : List ℕ) (found : Option (List ℕ)) (right : Bool) (what : LogWhat) → right ≡ is_some found → IsCutBehindZero text front rest → BeginsHinted front → MatchOption found (HasWrongNumbers rest) (HasHintNumbers rest) → HasLineFault front what →
+pub part_fault : (text front rest : List ℕ) (found : Option (List ℕ)) (right : Bool) (what : LogWhat) → right ≡ is_some found →
+    IsCutBehindZero text front rest → BeginsHinted front → MatchOption found (HasWrongNumbers rest) (HasHintNumbers rest) → HasLineFault front what →
     HasHintTextFault text (fault_of what right)
 part_fault text front rest found right logs.Header is cut begins m fault = fault
 part_fault text front rest found right logs.Form is cut begins m fault = line_form text front rest cut fault
 part_fault text front rest None right logs.Number is cut begins m fault = line_number text front rest m.fields cut begins fault m.has
-part_fault text front rest (Some ns) right logs.Number is cut begins m fault = line_number text front rest (map decimal ns) cut begins fault (number_fields_of rest ns m)
+part_fault text front rest (Some ns) right logs.Number is cut begins m fault = line_number text front rest (map decimal ns) cut begins fault
+    (number_fields_of rest ns m)
 part_fault text front rest None true logs.Twice is cut begins m fault = absurd (true≢false is)
 part_fault text front rest None false logs.Twice is cut begins m fault = wrong_number text front rest fault.0 cut begins fault.1 m
 part_fault text front rest (Some ns) true logs.Twice is cut begins m fault = line_twice text front rest ns fault.0 cut begins fault.1 fault.2 m
@@ -212,20 +236,23 @@ part_fault text front rest (Some ns) false logs.Twice is cut begins m fault = ab
 
 -- ---- both parts, joined
 
-pub joined : (text front rest : List ℕ) (h : HintLine) (read : LogLine) (found : Option (List ℕ)) → line_of h ≡ read → found ≡ Some (hints_of h) → IsCutBehindZero text front rest → IsTextOf front read → MatchOption found (HasWrongNumbers rest) (HasHintNumbers rest) → IsHintOf text h
+pub joined : (text front rest : List ℕ) (h : HintLine) (read : LogLine) (found : Option (List ℕ)) → line_of h ≡ read → found ≡ Some (hints_of h) →
+    IsCutBehindZero text front rest → IsTextOf front read → MatchOption found (HasWrongNumbers rest) (HasHintNumbers rest) → IsHintOf text h
 joined text front rest h read found line hints cut t m =
     let numbers : HasHintNumbers rest (hints_of h) = subst (λ (o : Option (List ℕ)). MatchOption o (HasWrongNumbers rest) (HasHintNumbers rest)) hints m in
     let is : IsTextOf front (line_of h) = subst (IsTextOf front) (sym line) t in
     record { spells = spells_hint text front rest h cut is.spells numbers; once = is.once }
 
-pub unjoined : (text front rest : List ℕ) (read : LogLine) (found : Option (List ℕ)) (what : HintsWhat) → IsCutBehindZero text front rest → BeginsHinted front → IsTextOf front read → MatchOption found (HasWrongNumbers rest) (HasHintNumbers rest) → IsUnjoined read found what → HasHintTextFault text what
+pub unjoined : (text front rest : List ℕ) (read : LogLine) (found : Option (List ℕ)) (what : HintsWhat) → IsCutBehindZero text front rest → BeginsHinted front →
+    IsTextOf front read → MatchOption found (HasWrongNumbers rest) (HasHintNumbers rest) → IsUnjoined read found what → HasHintTextFault text what
 unjoined text front rest (Learnt c) found Form cut begins t m not = absurd (not (hints.Learnt c []) refl)
 unjoined text front rest (Refuted c) found Form cut begins t m not = absurd (not (hints.Refuted c []) refl)
 unjoined text front rest (Formula c) found Form cut begins t m not = absurd (unhinted front (Formula c) tt begins t.spells)
 unjoined text front rest (Bound d k x) found Form cut begins t m not = absurd (unhinted front (Bound d k x) tt begins t.spells)
 unjoined text front rest (Query c) found Form cut begins t m not = absurd (unhinted front (Query c) tt begins t.spells)
 unjoined text front rest Model found Form cut begins t m not = absurd (unhinted front Model tt begins t.spells)
-unjoined text front rest read found Number cut begins t m none = wrong_number text front rest read cut begins t.spells (subst (λ (o : Option (List ℕ)). MatchOption o (HasWrongNumbers rest) (HasHintNumbers rest)) none m)
+unjoined text front rest read found Number cut begins t m none = wrong_number text front rest read cut begins t.spells
+    (subst (λ (o : Option (List ℕ)). MatchOption o (HasWrongNumbers rest) (HasHintNumbers rest)) none m)
 unjoined text front rest read found Header cut begins t m h = h
 unjoined text front rest read found Twice cut begins t m h = absurd h
 unjoined text front rest read found Range cut begins t m h = h
@@ -236,7 +263,8 @@ unjoined text front rest read found Range cut begins t m h = h
 abbrev IsCutFault : List ℕ → List ℕ → HintsWhat → Type 0
 IsCutFault front rest what = (text : List ℕ) → IsCutBehindZero text front rest → HasHintTextFault text what
 
-pub numbers_fault : (front rest : List ℕ) (line : ℕ) (fault : HintTextFault) → IsHintWhere (IsFormFor (LacksNumbers rest)) line fault → IsHintWhere (IsCutFault front rest) line fault
+pub numbers_fault : (front rest : List ℕ) (line : ℕ) (fault : HintTextFault) → IsHintWhere (IsFormFor (LacksNumbers rest)) line fault →
+    IsHintWhere (IsCutFault front rest) line fault
 numbers_fault front rest line (Hints Form n) h = (h.0, λ text cut. numbers_form text front rest cut h.1)
 numbers_fault front rest line (Hints Header n) h = absurd h.1
 numbers_fault front rest line (Hints Number n) h = absurd h.1
@@ -244,11 +272,13 @@ numbers_fault front rest line (Hints Twice n) h = absurd h.1
 numbers_fault front rest line (Hints Range n) h = absurd h.1
 numbers_fault front rest line Memory h = tt
 
-pub unjoined_fault : (front rest : List ℕ) (read : LogLine) (found : Option (List ℕ)) (line : ℕ) (fault : HintTextFault) → BeginsHinted front → IsTextOf front read → MatchOption found (HasWrongNumbers rest) (HasHintNumbers rest) →
+pub unjoined_fault : (front rest : List ℕ) (read : LogLine) (found : Option (List ℕ)) (line : ℕ) (fault : HintTextFault) → BeginsHinted front →
+    IsTextOf front read → MatchOption found (HasWrongNumbers rest) (HasHintNumbers rest) →
     IsHintWhere (IsUnjoined read found) line fault → IsHintWhere (IsCutFault front rest) line fault
 unjoined_fault front rest read found line (Hints what n) begins t m h = (h.0, λ text cut. unjoined text front rest read found what cut begins t m h.1)
 unjoined_fault front rest read found line Memory begins t m h = tt
 
-pub log_fault : (front : List ℕ) (line : ℕ) (e : LineTextFault) (what : LogWhat) (n : ℕ) → e ≡ Log what n → (e ≡ NoMemory) ⊎ IsLineFault front line e → HasLineFault front what
+pub log_fault : (front : List ℕ) (line : ℕ) (e : LineTextFault) (what : LogWhat) (n : ℕ) → e ≡ Log what n → (e ≡ NoMemory) ⊎ IsLineFault front line e →
+    HasLineFault front what
 log_fault front line e what n is (inl none) = absurd (let z = sym is ∙ none in cc)
 log_fault front line e what n is (inr h) = (subst (IsLineFault front line) is h).1

@@ -9,6 +9,12 @@ use Rattle.hint_log.specs.Checked.{clauses_learnt}
 use Rattle.hint_log.specs.HintedLines.{HintLines, AreGood}
 
 -- one more line
-pub good_more : (clauses : Clauses) (lines : HintLines) (line : HintLine) → AreGood clauses lines → IsGood (clauses ++ flat_map clauses_learnt lines) line → AreGood clauses (lines ++ line ∷ [])
+pub good_more : (clauses : Clauses) (lines : HintLines) (line : HintLine) → AreGood clauses lines → IsGood (clauses ++ flat_map clauses_learnt lines) line →
+    AreGood clauses (lines ++ line ∷ [])
 good_more clauses [] line h g = (subst (λ (cs : Clauses). IsGood cs line) (append-nil clauses) g, tt)
-good_more clauses (k ∷ lines) line h g = (h.0, good_more (clauses ++ clauses_learnt k) lines line h.1 (subst (λ (cs : Clauses). IsGood cs line) (ap (λ (cs : Clauses). clauses ++ cs) (flat_map-cons clauses_learnt k lines) ∙ sym (append_assoc clauses (clauses_learnt k) (flat_map clauses_learnt lines))) g))
+good_more clauses (k ∷ lines) line h g = (
+  h.0,
+  good_more (clauses ++ clauses_learnt k) lines line h.1
+      (subst (λ (cs : Clauses). IsGood cs line) (ap (λ (cs : Clauses). clauses ++ cs) (flat_map-cons clauses_learnt k lines)
+      ∙ sym (append_assoc clauses (clauses_learnt k) (flat_map clauses_learnt lines))) g),
+)

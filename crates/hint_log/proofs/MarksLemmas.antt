@@ -1,5 +1,6 @@
 -- Marks in a table, and beyond it in a set.
-use Rattle.std.proofs.Common.{◌≡◌, ◌≢◌, ℕ, ◌<◌, ◌≤◌, Bool, true, false, List, [], ◌∷◌, ◌++◌, length, set, replicate, refl, sym, ◌∙◌, ap, subst, arith, inl, inr, length-set}
+use Rattle.std.proofs.Common.{◌≡◌, ◌≢◌, ℕ, ◌<◌, ◌≤◌, Bool, true, false, List, [], ◌∷◌, ◌++◌, length, set, replicate, refl, sym, ◌∙◌, ap, subst, arith, inl}
+use Rattle.std.proofs.Common.{inr, length-set}
 use Rattle.std.specs.Ordering.{nat_cmp}
 use Rattle.std.specs.BTreeSet.{BTreeSet, contains, Updates, IsEmpty}
 use Rattle.std.proofs.lemmas.Bool.{cases_lt, both_ways, false_from_ne_true}
@@ -20,7 +21,8 @@ has_same : (lits : List Literal) (k l : Literal) → k ≡ l → has (lits ++ l 
 has_same lits k l e = ap (has (lits ++ l ∷ [])) e ∙ has_last lits l
 
 -- one more mark in the table
-pub marked_inside : (table : List Bool) (beyond : BTreeSet ℕ) (lits : List Literal) (l : Literal) → AreMarkedBy table beyond lits → word_of l < length table → AreMarkedBy (set table (word_of l) true) beyond (lits ++ l ∷ [])
+pub marked_inside : (table : List Bool) (beyond : BTreeSet ℕ) (lits : List Literal) (l : Literal) → AreMarkedBy table beyond lits → word_of l < length table →
+    AreMarkedBy (set table (word_of l) true) beyond (lits ++ l ∷ [])
 marked_inside table beyond lits l m within = record {
   inside = λ k below. elim (same_literal_or k l) [
     | inl e ↦ marked_same table l k true within e ∙ sym (has_same lits k l e)
@@ -32,7 +34,8 @@ marked_inside table beyond lits l m within = record {
 }
 
 -- one more beyond it
-pub marked_outside : (table : List Bool) (old new : BTreeSet ℕ) (lits : List Literal) (l : Literal) (word : ℕ) → word ≡ word_of l → AreMarkedBy table old lits → length table ≤ word_of l → Updates nat_cmp old new word true → AreMarkedBy table new (lits ++ l ∷ [])
+pub marked_outside : (table : List Bool) (old new : BTreeSet ℕ) (lits : List Literal) (l : Literal) (word : ℕ) → word ≡ word_of l → AreMarkedBy table old lits →
+    length table ≤ word_of l → Updates nat_cmp old new word true → AreMarkedBy table new (lits ++ l ∷ [])
 marked_outside table old new lits l word w m past up = record {
   inside = λ k below. m.inside k below ∙ sym (has_front lits l k (apart (length table) k l below past));
   outside = λ k from. elim (same_literal_or k l) [
@@ -44,13 +47,15 @@ marked_outside table old new lits l word w m past up = record {
 }
 
 -- one mark less
-pub unmarked_one : (table : List Bool) (lits : List Literal) (l : Literal) → Includes (has (lits ++ l ∷ [])) (marked table) → word_of l < length table → Includes (has lits) (marked (set table (word_of l) false))
+pub unmarked_one : (table : List Bool) (lits : List Literal) (l : Literal) → Includes (has (lits ++ l ∷ [])) (marked table) → word_of l < length table →
+    Includes (has lits) (marked (set table (word_of l) false))
 unmarked_one table lits l m within = λ k h. elim (same_literal_or k l) [
   | inl e ↦ absurd (both_ways (marked (set table (word_of l) false) k) (marked_same table l k false within e) h)
   | inr ne ↦ sym (has_front lits l k ne) ∙ m k (sym (marked_other table l k false ne) ∙ h)
 ]
 
-pub unmarked_none : (table : List Bool) (lits : List Literal) (l : Literal) → Includes (has (lits ++ l ∷ [])) (marked table) → length table ≤ word_of l → Includes (has lits) (marked table)
+pub unmarked_none : (table : List Bool) (lits : List Literal) (l : Literal) → Includes (has (lits ++ l ∷ [])) (marked table) → length table ≤ word_of l →
+    Includes (has lits) (marked table)
 unmarked_none table lits l m past = λ k h. elim (same_literal_or k l) [
   | inl e ↦ absurd (both_ways (marked table k) (get_or_past table (word_of k) false (subst (λ (x : Literal). length table ≤ word_of x) (sym e) past)) h)
   | inr ne ↦ sym (has_front lits l k ne) ∙ m k h

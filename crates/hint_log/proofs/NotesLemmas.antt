@@ -39,9 +39,11 @@ note_is clauses set n l one =
     record { names = one.number; same = one.one ∙ sym (left_alone set l left.open_) }
 
 -- a literal joins, with its note
-pub notes_more : (clauses : Clauses) (marks : List Literal) (notes : List Note) (n : ℕ) (l : Literal) → All (IsNoteOf clauses (has marks)) notes → LeavesOne clauses (has marks) n l → All (IsNoteOf clauses (has (marks ++ l ∷ []))) (notes ++ note_of n l ∷ [])
+pub notes_more : (clauses : Clauses) (marks : List Literal) (notes : List Note) (n : ℕ) (l : Literal) → All (IsNoteOf clauses (has marks)) notes →
+    LeavesOne clauses (has marks) n l → All (IsNoteOf clauses (has (marks ++ l ∷ []))) (notes ++ note_of n l ∷ [])
 notes_more clauses marks notes n l each one =
     let more = push_keeps marks l in
     All-push (IsNoteOf clauses (has (marks ++ l ∷ []))) notes (note_of n l)
-    (All-weaker (IsNoteOf clauses (has marks)) (IsNoteOf clauses (has (marks ++ l ∷ []))) (λ note h. note_stays clauses (has marks) (has (marks ++ l ∷ [])) note more h) notes each)
+    (All-weaker (IsNoteOf clauses (has marks)) (IsNoteOf clauses (has (marks ++ l ∷ [])))
+    (λ note h. note_stays clauses (has marks) (has (marks ++ l ∷ [])) note more h) notes each)
     (note_stays clauses (has marks) (has (marks ++ l ∷ [])) (note_of n l) more (note_is clauses (has marks) n l one))

@@ -15,14 +15,17 @@ map_more : (ns : List ℕ) (n : ℕ) → map decimal (ns ++ n ∷ []) ≡ map de
 map_more [] n = refl
 map_more (m ∷ ns) n = ap (λ (t : List Field). decimal m ∷ t) (map_more ns n)
 
-read_right : (right : Bool) (fields : List Field) (ns new : List ℕ) (field : Field) → AreNumbersRead right fields ns → AddsNumber ns new field → AreNumbersRead right (fields ++ field ∷ []) new
+read_right : (right : Bool) (fields : List Field) (ns new : List ℕ) (field : Field) → AreNumbersRead right fields ns → AddsNumber ns new field →
+    AreNumbersRead right (fields ++ field ∷ []) new
 read_right true fields ns new field h a = (
-  ap (λ (t : List Field). t ++ field ∷ []) h.0 ∙ ap (λ (t : Field). map decimal ns ++ t ∷ []) a.is.written ∙ sym (map_more ns a.number) ∙ ap (λ (t : List ℕ). map decimal t) (sym a.added),
+  ap (λ (t : List Field). t ++ field ∷ []) h.0 ∙ ap (λ (t : Field). map decimal ns ++ t ∷ []) a.is.written ∙ sym (map_more ns a.number)
+      ∙ ap (λ (t : List ℕ). map decimal t) (sym a.added),
   subst (AllByRecursion IsClauseNumber) (sym a.added) (each_pushed IsClauseNumber ns a.number h.1 (record { from = a.is.from; to = a.is.to })),
 )
 read_right false fields ns new field h a = λ all. h (each_front (IsNumberField 1 LAST_VAR) fields (field ∷ []) all)
 
-pub read_more : (text rest field after : List ℕ) (right : Bool) (ns new : List ℕ) → AreHintsReadTo text rest right ns → IsCutAt 32 rest field after → IsNumber field → AddsNumber ns new field → AreHintsReadTo text after right new
+pub read_more : (text rest field after : List ℕ) (right : Bool) (ns new : List ℕ) → AreHintsReadTo text rest right ns → IsCutAt 32 rest field after →
+    IsNumber field → AddsNumber ns new field → AreHintsReadTo text after right new
 read_more text rest field after right ns new h cut number a = record {
   fields = h.fields ++ field ∷ [];
   numbers = each_pushed IsNumber h.fields field h.numbers number;
@@ -30,7 +33,8 @@ read_more text rest field after right ns new h cut number a = record {
   read = read_right right h.fields ns new field h.read a;
 }
 
-pub read_wrong : (text rest field after : List ℕ) (right : Bool) (ns new : List ℕ) → AreHintsReadTo text rest right ns → IsCutAt 32 rest field after → IsNumber field → (IsNumberField 1 LAST_VAR field → ⊥) → AreHintsReadTo text after false new
+pub read_wrong : (text rest field after : List ℕ) (right : Bool) (ns new : List ℕ) → AreHintsReadTo text rest right ns → IsCutAt 32 rest field after →
+    IsNumber field → (IsNumberField 1 LAST_VAR field → ⊥) → AreHintsReadTo text after false new
 read_wrong text rest field after right ns new h cut number not = record {
   fields = h.fields ++ field ∷ [];
   numbers = each_pushed IsNumber h.fields field h.numbers number;
@@ -40,7 +44,8 @@ read_wrong text rest field after right ns new h cut number not = record {
 
 -- ---- what is left
 
-pub lacks_at_end : (text rest : List ℕ) (right : Bool) (ns : List ℕ) → AreHintsReadTo text rest right ns → LacksByte 32 rest → (rest ≡ 48 ∷ [] → ⊥) → LacksNumbers text
+pub lacks_at_end : (text rest : List ℕ) (right : Bool) (ns : List ℕ) → AreHintsReadTo text rest right ns → LacksByte 32 rest → (rest ≡ 48 ∷ [] → ⊥) →
+    LacksNumbers text
 lacks_at_end text rest right ns h one not = λ fields k.
     let a = ahead h.fields fields rest h.numbers k.has.numbers (sym h.spelled ∙ k.has.spelled) in
     end a.more a.left
@@ -49,7 +54,8 @@ lacks_at_end text rest right ns h one not = λ fields k.
     end [] e = not e
     end (f ∷ more) e = no_cut rest f (fields_left more) one (e ∙ regroup f (trailed more) (48 ∷ []))
 
-pub lacks_at_field : (text rest field after : List ℕ) (right : Bool) (ns : List ℕ) → AreHintsReadTo text rest right ns → IsCutAt 32 rest field after → (IsNumber field → ⊥) → LacksNumbers text
+pub lacks_at_field : (text rest field after : List ℕ) (right : Bool) (ns : List ℕ) → AreHintsReadTo text rest right ns → IsCutAt 32 rest field after →
+    (IsNumber field → ⊥) → LacksNumbers text
 lacks_at_field text rest field after right ns h cut not = λ fields k.
     let a = ahead h.fields fields rest h.numbers k.has.numbers (sym h.spelled ∙ k.has.spelled) in
     at a.more a.numbers a.left
@@ -66,7 +72,8 @@ fields_of : (fields : List Field) (ns : List ℕ) → fields ≡ map decimal ns 
 fields_of fields [] e h = let z = ap length e in omega arith
 fields_of fields (n ∷ ns) e h = omega arith
 
-pub no_numbers : (text rest : List ℕ) (right : Bool) (ns : List ℕ) → AreHintsReadTo text rest right ns → rest ≡ 48 ∷ [] → right ≡ true → length ns ≡ 0 → LacksNumbers text
+pub no_numbers : (text rest : List ℕ) (right : Bool) (ns : List ℕ) → AreHintsReadTo text rest right ns → rest ≡ 48 ∷ [] → right ≡ true → length ns ≡ 0 →
+    LacksNumbers text
 no_numbers text rest right ns h e fine none = λ fields k.
     let r : AreNumbersRead true h.fields ns = subst (λ (b : Bool). AreNumbersRead b h.fields ns) fine h.read in
     let a = ahead h.fields fields rest h.numbers k.has.numbers (sym h.spelled ∙ k.has.spelled) in

@@ -1,5 +1,6 @@
 -- A text has one form, is that of one hinted line, and has one fault, or none where it is a line's.
-use Rattle.std.proofs.Common.{◌≡◌, ℕ, ◌<◌, ◌≤◌, ◌^◌, ◌⊎◌, inl, inr, Bool, true, false, List, [], ◌∷◌, ◌++◌, get_or, map, decimal, Result, Ok, Err, refl, sym, ◌∙◌, ap, subst, arith}
+use Rattle.std.proofs.Common.{◌≡◌, ℕ, ◌<◌, ◌≤◌, ◌^◌, ◌⊎◌, inl, inr, Bool, true, false, List, [], ◌∷◌, ◌++◌, get_or, map, decimal, Result, Ok, Err, refl, sym}
+use Rattle.std.proofs.Common.{◌∙◌, ap, subst, arith}
 use Rattle.std.specs.Prelude.{IfOk, IfErr}
 use Rattle.std.specs.List.{AllByRecursion}
 use Rattle.std.proofs.lemmas.Fmt.{first_decimal}
@@ -39,7 +40,10 @@ form_with line numbers = record { line = line; numbers = numbers }
 pub form_once : (text : List ℕ) (a b : HintForm) → IsOfHintForm text a → IsOfHintForm text b → a ≡ b
 form_once text a b h k =
     let same = cut_once text (form_text a.line) (form_text b.line) (fields_left a.numbers) (fields_left b.numbers) (has_cut text a h) (has_cut text b k) in
-    let line = line_form_once (form_text a.line) a.line b.line (record { is_form = h.is_form; spelled = refl }) (record { is_form = k.is_form; spelled = same.front_is }) in
+    let line = line_form_once (form_text a.line) a.line b.line (record {
+      is_form = h.is_form;
+      spelled = refl;
+    }) (record { is_form = k.is_form; spelled = same.front_is }) in
     let numbers = fields_once a.numbers b.numbers h.numbers k.numbers same.rest_is in
     ap (λ (l : LineForm). form_with l a.numbers) line ∙ ap (λ (ns : List Field). form_with b.line ns) numbers
 
@@ -65,7 +69,8 @@ right_ends : (front : List ℕ) (form : LineForm) → BeginsHinted front → IsO
 right_ends front (LearntForm fields) begins h right = none_zero fields right
 right_ends front (RefutedForm fields) begins h right = none_zero fields right
 right_ends front (FormulaForm fields) begins h right = other_letter 102 front (spaced (with_zero fields)) begins (λ e. omega arith) (λ e. omega arith) h.spelled
-right_ends front (BoundForm criterion k x) begins h right = other_letter 98 front (spaced (criterion_word criterion ∷ k ∷ x ∷ [])) begins (λ e. omega arith) (λ e. omega arith) h.spelled
+right_ends front (BoundForm criterion k x) begins h right = other_letter 98 front (spaced (criterion_word criterion ∷ k ∷ x ∷ [])) begins (λ e. omega arith)
+    (λ e. omega arith) h.spelled
 right_ends front (QueryForm fields) begins h right = other_letter 113 front (spaced (with_zero fields)) begins (λ e. omega arith) (λ e. omega arith) h.spelled
 right_ends front ModelForm begins h right = other_letter 109 front [] begins (λ e. omega arith) (λ e. omega arith) h.spelled
 
@@ -119,11 +124,15 @@ unfolding right_form_of
 hint_once text a b h k =
     let fa = right_form_of text a h in
     let fb = right_form_of text b k in
-    let same = cut_once text (form_text fa.form.line) (form_text fb.form.line) (fields_left fa.form.numbers) (fields_left fb.form.numbers) (has_cut text fa.form fa.has) (has_cut text fb.form fb.has) in
+    let same = cut_once text (form_text fa.form.line) (form_text fb.form.line) (fields_left fa.form.numbers) (fields_left fb.form.numbers)
+    (has_cut text fa.form fa.has) (has_cut text fb.form fb.has) in
     let ra = (right_form (log_line_text (line_of a))).1 (line_of a, record { formed = h.formed.formed; spelled = refl }) in
     let rb = (right_form (log_line_text (line_of b))).1 (line_of b, record { formed = k.formed.formed; spelled = refl }) in
     let front : log_line_text (line_of a) ≡ log_line_text (line_of b) = ra.1.spelled ∙ same.front_is ∙ sym rb.1.spelled in
-    let line = line_once (log_line_text (line_of b)) (line_of a) (line_of b) (record { formed = h.formed.formed; spelled = front }) (record { formed = k.formed.formed; spelled = refl }) in
+    let line = line_once (log_line_text (line_of b)) (line_of a) (line_of b) (record {
+      formed = h.formed.formed;
+      spelled = front;
+    }) (record { formed = k.formed.formed; spelled = refl }) in
     let texts = fields_once (map decimal (hints_of a)) (map decimal (hints_of b)) fa.has.numbers fb.has.numbers same.rest_is in
     line_joined a b line (decimals_once (hints_of a) (hints_of b) h.formed.numbers k.formed.numbers texts)
 
@@ -174,12 +183,14 @@ not_line_and_fault : (text : List ℕ) (number : ℕ) (line : HintLine) (f : Hin
 not_line_and_fault text number line (Hints what n) t h = hint_no_fault text line what t h.1
 not_line_and_fault text number line Memory t h = h
 
-want_or_fault : (text : List ℕ) (number : ℕ) (r : Result HintLine HintTextFault) → IfErr r (IsHintWhere (HasHintTextFault text) number) → IfErr r (λ e. (e ≡ Memory) ⊎ IsHintTextFault text number e)
+want_or_fault : (text : List ℕ) (number : ℕ) (r : Result HintLine HintTextFault) → IfErr r (IsHintWhere (HasHintTextFault text) number) →
+    IfErr r (λ e. (e ≡ Memory) ⊎ IsHintTextFault text number e)
 want_or_fault text number (Ok line) h = tt
 want_or_fault text number (Err (Hints what n)) h = inr h
 want_or_fault text number (Err Memory) h = inl refl
 
-pub read_exactly : (text : List ℕ) (number : ℕ) (r : Result HintLine HintTextFault) → IfOk r (IsHintOf text) → IfErr r (IsHintWhere (HasHintTextFault text) number) → AnswersExactly r Memory (IsHintOf text) (IsHintTextFault text number)
+pub read_exactly : (text : List ℕ) (number : ℕ) (r : Result HintLine HintTextFault) → IfOk r (IsHintOf text) →
+    IfErr r (IsHintWhere (HasHintTextFault text) number) → AnswersExactly r Memory (IsHintOf text) (IsHintTextFault text number)
 read_exactly text number r line fault = answers_exactly r Memory (IsHintOf text) (IsHintTextFault text number) line (want_or_fault text number r fault)
     (λ a b h k. hint_once text a b h.spells k.spells) (fault_at_once text number) (not_line_and_fault text number)
 
@@ -190,4 +201,5 @@ numbers_lack [] h = ((λ e. omega arith), ((λ e. omega arith), tt))
 numbers_lack (n ∷ ns) h = ((λ e. omega arith), lacks_both (decimal n) (spaced (number_fields ns)) (decimal_lacks n h.0.to) (numbers_lack ns h.1))
 
 pub hint_lacks : (line : HintLine) → MayBeWritten line → LacksByte 10 (hint_text line)
-hint_lacks line h = lacks_both (log_line_text (line_of line)) (spaced (number_fields (hints_of line))) (line_lacks (line_of line) h.formed.formed) (numbers_lack (hints_of line) h.formed.numbers)
+hint_lacks line h = lacks_both (log_line_text (line_of line)) (spaced (number_fields (hints_of line))) (line_lacks (line_of line) h.formed.formed)
+    (numbers_lack (hints_of line) h.formed.numbers)

@@ -8,7 +8,8 @@ use Rattle.plan_core.specs.Lawful.{Instance, NodeOnGrid, LineOnGrid, Ordered, Jo
 use Rattle.lawful_check.specs.declared.law_break.LawBreak.{LawBreak}
 use Rattle.lawful_check.specs.Breaks.{law_rank, first_of, second_of, IsBefore, break_of, IsLeastBroken, IsLeastBreak}
 
-pub lawful_breaks_none : (g : Graph) (above : ℕ → ℕ → Bool) (grid : GridSize) (d : Drawing) (b : LawBreak) → Lawful g above grid d → IsLeastBreak g above grid d b → ⊥
+pub lawful_breaks_none : (g : Graph) (above : ℕ → ℕ → Bool) (grid : GridSize) (d : Drawing) (b : LawBreak) → Lawful g above grid d →
+    IsLeastBreak g above grid d b → ⊥
 lawful_breaks_none g above grid d b lawful broken = broken.least.broken (lawful.laws broken.instance broken.least.is)
 
 same_instance : (i j : Instance) → law_rank i ≡ law_rank j → first_of i ≡ first_of j → second_of i ≡ second_of j → i ≡ j
@@ -27,7 +28,8 @@ pub data Compared (i j : Instance) : Type 0 where
   Second : IsBefore j i → Compared i j
   Same : i ≡ j → Compared i j
 
-by_second : (i j : Instance) → law_rank i ≡ law_rank j → first_of i ≡ first_of j → (second_of i ≡ second_of j) ⊎ ((second_of i < second_of j) ⊎ (second_of j < second_of i)) → Compared i j
+by_second : (i j : Instance) → law_rank i ≡ law_rank j → first_of i ≡ first_of j →
+    (second_of i ≡ second_of j) ⊎ ((second_of i < second_of j) ⊎ (second_of j < second_of i)) → Compared i j
 by_second i j r f (inl s) = Same (same_instance i j r f s)
 by_second i j r f (inr (inl less)) = First (inr (r, inr (f, less)))
 by_second i j r f (inr (inr less)) = Second (inr (sym r, inr (sym f, less)))
@@ -42,12 +44,14 @@ by_rank i j (inr (inl less)) = First (inl less)
 by_rank i j (inr (inr less)) = Second (inl less)
 by_rank i j (inl r) = by_first i j r (cases_order (first_of i) (first_of j))
 
-one_instance : (g : Graph) (above : ℕ → ℕ → Bool) (grid : GridSize) (d : Drawing) (i j : Instance) → IsLeastBroken g above grid d i → IsLeastBroken g above grid d j → Compared i j → i ≡ j
+one_instance : (g : Graph) (above : ℕ → ℕ → Bool) (grid : GridSize) (d : Drawing) (i j : Instance) → IsLeastBroken g above grid d i →
+    IsLeastBroken g above grid d j → Compared i j → i ≡ j
 one_instance g above grid d i j h k (First before) = absurd (h.broken (k.least i h.is before))
 one_instance g above grid d i j h k (Second before) = absurd (k.broken (h.least j k.is before))
 one_instance g above grid d i j h k (Same same) = same
 
-pub one_least : (g : Graph) (above : ℕ → ℕ → Bool) (grid : GridSize) (d : Drawing) (b c : LawBreak) → IsLeastBreak g above grid d b → IsLeastBreak g above grid d c → b ≡ c
+pub one_least : (g : Graph) (above : ℕ → ℕ → Bool) (grid : GridSize) (d : Drawing) (b c : LawBreak) → IsLeastBreak g above grid d b →
+    IsLeastBreak g above grid d c → b ≡ c
 one_least g above grid d b c h k =
     let i = h.instance in
     let j = k.instance in

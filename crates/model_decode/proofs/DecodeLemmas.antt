@@ -1,5 +1,6 @@
 -- What is read: each node's point, each edge's line, and then the whole drawing.
-use Rattle.std.proofs.Common.{◌≡◌, ℕ, suc, ◌+◌, ◌-◌, ◌≤◌, ◌<◌, List, [], ◌∷◌, ◌++◌, length, length-append, get_or, take, inl, inr, refl, sym, ◌∙◌, ap, subst, arith}
+use Rattle.std.proofs.Common.{◌≡◌, ℕ, suc, ◌+◌, ◌-◌, ◌≤◌, ◌<◌, List, [], ◌∷◌, ◌++◌, length, length-append, get_or, take, inl, inr, refl, sym, ◌∙◌, ap, subst}
+use Rattle.std.proofs.Common.{arith}
 use Rattle.std.proofs.Math.Seq.{take-suc}
 use Rattle.std.proofs.lemmas.List.{take_all, get_or_append_left, get_or_push}
 use Rattle.std.proofs.lemmas.Bool.Decides.{eqb_tells}
@@ -38,11 +39,19 @@ use Rattle.model_decode.proofs.TracedLemmas.{AreHeights}
 pub int_in : (vars : ℕ) (i j : IntVars) → i ≡ j → IntIsThere vars j → IntIsIn vars i
 int_in vars i j e there some = let to : i.first + (i.high - i.low) ≤ vars + 1 = (subst (λ (k : IntVars). IntIsThere vars k) (sym e) there).to in to
 
-pub node_x_in : (g : Graph) (grid : GridSize) (n vars : ℕ) (i : IntVars) → n < length g.nodes → laws_first g grid ≤ vars + 1 → i ≡ ((drawing_vars g grid).node n).x → IntIsIn vars i
-node_x_in g grid n vars i lt le is = let s = node_spot g grid n lt in int_in vars i ((drawing_vars g grid).node n).x is (record { from = omega arith; to = omega arith })
+pub node_x_in : (g : Graph) (grid : GridSize) (n vars : ℕ) (i : IntVars) → n < length g.nodes → laws_first g grid ≤ vars + 1 →
+    i ≡ ((drawing_vars g grid).node n).x → IntIsIn vars i
+node_x_in g grid n vars i lt le is = let s = node_spot g grid n lt in int_in vars i ((drawing_vars g grid).node n).x is (record {
+  from = omega arith;
+  to = omega arith;
+})
 
-pub node_y_in : (g : Graph) (grid : GridSize) (n vars : ℕ) (i : IntVars) → n < length g.nodes → laws_first g grid ≤ vars + 1 → i ≡ ((drawing_vars g grid).node n).y → IntIsIn vars i
-node_y_in g grid n vars i lt le is = let s = node_spot g grid n lt in int_in vars i ((drawing_vars g grid).node n).y is (record { from = omega arith; to = omega arith })
+pub node_y_in : (g : Graph) (grid : GridSize) (n vars : ℕ) (i : IntVars) → n < length g.nodes → laws_first g grid ≤ vars + 1 →
+    i ≡ ((drawing_vars g grid).node n).y → IntIsIn vars i
+node_y_in g grid n vars i lt le is = let s = node_spot g grid n lt in int_in vars i ((drawing_vars g grid).node n).y is (record {
+  from = omega arith;
+  to = omega arith;
+})
 
 pub int_model : (v : Assignment) (i j : IntVars) (n : ℕ) → i ≡ j → Reads v j n → SatisfiesAll v (int_clauses i)
 int_model v i j n e r = subst (λ (k : IntVars). SatisfiesAll v (int_clauses k)) (sym e) (int_holds v j n r)
@@ -53,14 +62,17 @@ small_x g grid n i size is = let top = size.width_limit in let same : i.high ≡
 pub small_y : (g : Graph) (grid : GridSize) (n : ℕ) (i : IntVars) → IsGrid grid → i ≡ ((drawing_vars g grid).node n).y → i.high ≤ 65535
 small_y g grid n i size is = let top = size.height_limit in let same : i.high ≡ grid.height = ap (λ (k : IntVars). k.high) is in omega arith
 
-pub place_read : (g : Graph) (grid : GridSize) (v : Assignment) (n : ℕ) (i j : IntVars) (p : Point) (d : Drawing) → n < length g.nodes → i ≡ ((drawing_vars g grid).node n).x → j ≡ ((drawing_vars g grid).node n).y → Reads v i p.x → Reads v j p.y → IsReadAs g grid v d → p ≡ place d n
+pub place_read : (g : Graph) (grid : GridSize) (v : Assignment) (n : ℕ) (i j : IntVars) (p : Point) (d : Drawing) → n < length g.nodes →
+    i ≡ ((drawing_vars g grid).node n).x → j ≡ ((drawing_vars g grid).node n).y → Reads v i p.x → Reads v j p.y → IsReadAs g grid v d → p ≡ place d n
 place_read g grid v n i j p d lt ei ej rx ry is =
     let r = is.reads.points n lt in
     point_is (λ c. p.y) p.x (place d n) (reads_once v ((drawing_vars g grid).node n).x p.x (place d n).x (subst (λ (k : IntVars). Reads v k p.x) ei rx) r.x)
     (reads_once v ((drawing_vars g grid).node n).y p.y (place d n).y (subst (λ (k : IntVars). Reads v k p.y) ej ry) r.y)
 
 -- LINES
-pub heights_are : (g : Graph) (grid : GridSize) (v : Assignment) (k w z : ℕ) (s : EdgeSpot) (y : ℕ → ℕ) (d : Drawing) → k < length g.edges → s ≡ edge_spot (edge_first g grid k) grid.height grid.width → IsReadAs g grid v d → w ≡ (place d (edge g k).west).x → z ≡ (place d (edge g k).east).x → ((c : ℕ) → c ≤ grid.width → Reads v ((lits_of s).height c) (y c)) → AreHeights y grid.width (line d k) w z
+pub heights_are : (g : Graph) (grid : GridSize) (v : Assignment) (k w z : ℕ) (s : EdgeSpot) (y : ℕ → ℕ) (d : Drawing) → k < length g.edges →
+    s ≡ edge_spot (edge_first g grid k) grid.height grid.width → IsReadAs g grid v d → w ≡ (place d (edge g k).west).x → z ≡ (place d (edge g k).east).x →
+    ((c : ℕ) → c ≤ grid.width → Reads v ((lits_of s).height c) (y c)) → AreHeights y grid.width (line d k) w z
 heights_are g grid v k w z s y d lt es is ew ez read =
     let j = is.loose.joins k lt in
     let a : (west_end (line d k)).x ≡ (place d (edge g k).west).x = ap (λ (p : Point). p.x) j.begins in
@@ -72,12 +84,15 @@ heights_are g grid v k w z s y d lt es is ew ez read =
       east = omega arith;
       within = omega arith;
       same = λ c le.
-          reads_once v (((drawing_vars g grid).edge k).height c) (y c) (height (line d k) c) (subst (λ (t : EdgeSpot). Reads v ((lits_of t).height c) (y c)) es (read c le)) ((is.reads.lines k lt).height c le);
+          reads_once v (((drawing_vars g grid).edge k).height c) (y c) (height (line d k) c)
+          (subst (λ (t : EdgeSpot). Reads v ((lits_of t).height c) (y c)) es (read c le)) ((is.reads.lines k lt).height c le);
     }
 
-pub height_model : (g : Graph) (grid : GridSize) (v : Assignment) (k c : ℕ) (s : EdgeSpot) (d : Drawing) → k < length g.edges → c ≤ grid.width → s ≡ edge_spot (edge_first g grid k) grid.height grid.width → IsReadAs g grid v d → SatisfiesAll v (int_clauses ((lits_of s).height c))
+pub height_model : (g : Graph) (grid : GridSize) (v : Assignment) (k c : ℕ) (s : EdgeSpot) (d : Drawing) → k < length g.edges → c ≤ grid.width →
+    s ≡ edge_spot (edge_first g grid k) grid.height grid.width → IsReadAs g grid v d → SatisfiesAll v (int_clauses ((lits_of s).height c))
 height_model g grid v k c s d lt le es is =
-    subst (λ (t : EdgeSpot). SatisfiesAll v (int_clauses ((lits_of t).height c))) (sym es) (int_holds v (((drawing_vars g grid).edge k).height c) (height (line d k) c) ((is.reads.lines k lt).height c le))
+    subst (λ (t : EdgeSpot). SatisfiesAll v (int_clauses ((lits_of t).height c))) (sym es)
+    (int_holds v (((drawing_vars g grid).edge k).height c) (height (line d k) c) ((is.reads.lines k lt).height c le))
 
 pub spot_width : (g : Graph) (grid : GridSize) (k : ℕ) (s : EdgeSpot) → s ≡ edge_spot (edge_first g grid k) grid.height grid.width → s.width ≡ grid.width
 spot_width g grid k s is = ap (λ (t : EdgeSpot). t.width) is
@@ -85,7 +100,8 @@ spot_width g grid k s is = ap (λ (t : EdgeSpot). t.width) is
 pub spot_high : (g : Graph) (grid : GridSize) (k : ℕ) (s : EdgeSpot) → s ≡ edge_spot (edge_first g grid k) grid.height grid.width → s.high ≡ grid.height
 spot_high g grid k s is = ap (λ (t : EdgeSpot). t.high) is
 
-pub height_in : (g : Graph) (grid : GridSize) (k c vars : ℕ) (s : EdgeSpot) → IsGrid grid → laws_first g grid ≤ VARS + 1 → k < length g.edges → c ≤ grid.width → laws_first g grid ≤ vars + 1 → s ≡ edge_spot (edge_first g grid k) grid.height grid.width → IntIsIn vars ((lits_of s).height c)
+pub height_in : (g : Graph) (grid : GridSize) (k c vars : ℕ) (s : EdgeSpot) → IsGrid grid → laws_first g grid ≤ VARS + 1 → k < length g.edges → c ≤ grid.width →
+    laws_first g grid ≤ vars + 1 → s ≡ edge_spot (edge_first g grid k) grid.height grid.width → IntIsIn vars ((lits_of s).height c)
 height_in g grid k c vars s size few lt le to es =
     int_in vars ((lits_of s).height c) (((drawing_vars g grid).edge k).height c) (ap (λ (t : EdgeSpot). (lits_of t).height c) es)
     (((vars_more (base_last g grid) vars g (drawing_vars g grid) grid.width (omega arith) (base_vars g grid size few)).edge k lt).height c le)
@@ -98,7 +114,8 @@ pub record HeightsTo (v : Assignment) (at : ℕ → IntVars) (heights : List ℕ
 pub no_heights : (v : Assignment) (at : ℕ → IntVars) → HeightsTo v at [] 0
 no_heights v at = record { count = refl; each = λ k lt. absurd (omega arith) }
 
-pub one_height : (v : Assignment) (at : ℕ → IntVars) (heights more : List ℕ) (h c : ℕ) → HeightsTo v at heights c → more ≡ heights ++ h ∷ [] → Reads v (at c) h → HeightsTo v at more (c + 1)
+pub one_height : (v : Assignment) (at : ℕ → IntVars) (heights more : List ℕ) (h c : ℕ) → HeightsTo v at heights c → more ≡ heights ++ h ∷ [] →
+    Reads v (at c) h → HeightsTo v at more (c + 1)
 one_height v at heights more h c so_far is here =
     let n = so_far.count in
     let size : length more ≡ length heights + 1 = ap (λ (l : List ℕ). length l) is ∙ length-append heights (h ∷ []) in
@@ -110,7 +127,8 @@ one_height v at heights more h c so_far is here =
             subst (λ j. Reads v (at j) (listed_height more k)) (sym same.1) (subst (λ j. Reads v (at c) j) (sym value) here)
         | inr other ↦
             let ne = other.1 in
-            let value : listed_height more k ≡ listed_height heights k = ap (λ (l : List ℕ). get_or l k 0) is ∙ get_or_append_left heights (h ∷ []) 0 k (omega arith) in
+            let value : listed_height more k ≡ listed_height heights k = ap (λ (l : List ℕ). get_or l k 0) is
+            ∙ get_or_append_left heights (h ∷ []) 0 k (omega arith) in
             subst (λ j. Reads v (at k) j) (sym value) (so_far.each k (omega arith))
       ];
     }
@@ -131,13 +149,15 @@ base_holds e v w h =
     satisfies_left v (base_clauses e.graph x e.grid) laws
     (satisfies_left v (drawing_clauses e) (bounds_clauses e.graph x e.grid e.bounds) (subst (λ (cs : Clauses). SatisfiesAll v cs) w.clauses h))
 
-pub model_read : (g : Graph) (grid : GridSize) (v : Assignment) → IsTrackGraph g → IsGrid grid → laws_first g grid ≤ VARS + 1 → SatisfiesAll v (base_clauses g (drawing_vars g grid) grid) → IsRead g grid v
+pub model_read : (g : Graph) (grid : GridSize) (v : Assignment) → IsTrackGraph g → IsGrid grid → laws_first g grid ≤ VARS + 1 →
+    SatisfiesAll v (base_clauses g (drawing_vars g grid) grid) → IsRead g grid v
 model_read g grid v is size few h =
     let r = base_means v g grid is size h in
     record { graph = is; size = size; few = few; drawing = r.drawing; is = record { reads = r.reads; loose = r.loose } }
 
 -- LISTS THAT GROW
-pub one_taken : {X : Type 0} (xs ys zs : List X) (i : ℕ) (x d : X) → i < length xs → ys ≡ take i xs → zs ≡ ys ++ x ∷ [] → x ≡ get_or xs i d → zs ≡ take (i + 1) xs
+pub one_taken : {X : Type 0} (xs ys zs : List X) (i : ℕ) (x d : X) → i < length xs → ys ≡ take i xs → zs ≡ ys ++ x ∷ [] → x ≡ get_or xs i d →
+    zs ≡ take (i + 1) xs
 one_taken xs ys zs i x d lt front grown is =
     let next : suc i ≡ i + 1 = omega arith in
     grown ∙ ap (λ (l : List _). l ++ x ∷ []) front ∙ ap (λ k. take i xs ++ k ∷ []) is ∙ sym (take-suc xs i d lt) ∙ ap (λ n. take n xs) next
@@ -156,7 +176,8 @@ pub record LooseDecoded (g : Graph) (grid : GridSize) (v : Assignment) (b : Draw
   pub stands : StandsFor v g (drawing_vars g grid) b
   pub alone : (other : Drawing) → IsJoinedOnGrid g grid other → StandsFor v g (drawing_vars g grid) other → other ≡ b
 
-pub loose_decoded : (g : Graph) (grid : GridSize) (v : Assignment) → IsTrackGraph g → IsGrid grid → SatisfiesAll v (base_clauses g (drawing_vars g grid) grid) → (b : Drawing) → ((d : Drawing) → IsReadAs g grid v d → b ≡ d) → LooseDecoded g grid v b
+pub loose_decoded : (g : Graph) (grid : GridSize) (v : Assignment) → IsTrackGraph g → IsGrid grid → SatisfiesAll v (base_clauses g (drawing_vars g grid) grid) →
+    (b : Drawing) → ((d : Drawing) → IsReadAs g grid v d → b ≡ d) → LooseDecoded g grid v b
 loose_decoded g grid v is size h b same =
     let r = base_means v g grid is size h in
     let stands = reads_stand v g (drawing_vars g grid) grid r.drawing r.reads r.loose in
@@ -174,7 +195,8 @@ pub record Decoded (e : Encoding) (v : Assignment) (b : Drawing) : Type 0 where
   pub tells : Tells v (values_of b) e.bounds
   pub alone : (other : Drawing) → Lawful e.graph (is_above e.order) e.grid other → StandsFor v e.graph (encoded_vars e) other → other ≡ b
 
-pub decoded : (e : Encoding) (v : Assignment) → IsTrackGraph e.graph → IsGrid e.grid → IsWhole e → SatisfiesAll v e.formula.clauses → (b : Drawing) → ((other : Drawing) → IsJoinedOnGrid e.graph e.grid other → StandsFor v e.graph (encoded_vars e) other → other ≡ b) → Decoded e v b
+pub decoded : (e : Encoding) (v : Assignment) → IsTrackGraph e.graph → IsGrid e.grid → IsWhole e → SatisfiesAll v e.formula.clauses → (b : Drawing) →
+    ((other : Drawing) → IsJoinedOnGrid e.graph e.grid other → StandsFor v e.graph (encoded_vars e) other → other ≡ b) → Decoded e v b
 decoded e v is size w h b same =
     let r = whole_reads e is size w v h in
     let stands = reads_stand v e.graph (encoded_vars e) e.grid r.drawing r.read.reads r.read.loose in
@@ -186,16 +208,20 @@ decoded e v is size w h b same =
     })
 
 -- the graph and the grid of a formula, as they are lent
-pub lent_alone : (e : Encoding) (v : Assignment) (g : Graph) (grid : GridSize) (b : Drawing) → g ≡ e.graph → grid ≡ e.grid → ((other : Drawing) → IsJoinedOnGrid g grid other → StandsFor v g (drawing_vars g grid) other → other ≡ b) → (other : Drawing) → IsJoinedOnGrid e.graph e.grid other → StandsFor v e.graph (encoded_vars e) other → other ≡ b
+pub lent_alone : (e : Encoding) (v : Assignment) (g : Graph) (grid : GridSize) (b : Drawing) → g ≡ e.graph → grid ≡ e.grid →
+    ((other : Drawing) → IsJoinedOnGrid g grid other → StandsFor v g (drawing_vars g grid) other → other ≡ b) → (other : Drawing) →
+    IsJoinedOnGrid e.graph e.grid other → StandsFor v e.graph (encoded_vars e) other → other ≡ b
 lent_alone e v g grid b eg ed h =
     subst (λ (d : GridSize). (other : Drawing) → IsJoinedOnGrid e.graph d other → StandsFor v e.graph (drawing_vars e.graph d) other → other ≡ b) ed
     (subst (λ (k : Graph). (other : Drawing) → IsJoinedOnGrid k grid other → StandsFor v k (drawing_vars k grid) other → other ≡ b) eg h)
 
-pub lent_holds : (e : Encoding) (v : Assignment) (g : Graph) (grid : GridSize) → g ≡ e.graph → grid ≡ e.grid → IsWhole e → SatisfiesAll v e.formula.clauses → SatisfiesAll v (base_clauses g (drawing_vars g grid) grid)
+pub lent_holds : (e : Encoding) (v : Assignment) (g : Graph) (grid : GridSize) → g ≡ e.graph → grid ≡ e.grid → IsWhole e → SatisfiesAll v e.formula.clauses →
+    SatisfiesAll v (base_clauses g (drawing_vars g grid) grid)
 lent_holds e v g grid eg ed w h =
     subst (λ (k : Graph). SatisfiesAll v (base_clauses k (drawing_vars k grid) grid)) (sym eg)
     (subst (λ (d : GridSize). SatisfiesAll v (base_clauses e.graph (drawing_vars e.graph d) d)) (sym ed) (base_holds e v w h))
 
-pub lent_within : (e : Encoding) (g : Graph) (grid : GridSize) (vars : ℕ) → g ≡ e.graph → grid ≡ e.grid → laws_first e.graph e.grid ≤ vars → laws_first g grid ≤ vars
+pub lent_within : (e : Encoding) (g : Graph) (grid : GridSize) (vars : ℕ) → g ≡ e.graph → grid ≡ e.grid → laws_first e.graph e.grid ≤ vars →
+    laws_first g grid ≤ vars
 lent_within e g grid vars eg ed h =
     subst (λ (k : Graph). laws_first k grid ≤ vars) (sym eg) (subst (λ (d : GridSize). laws_first e.graph d ≤ vars) (sym ed) h)

@@ -37,7 +37,8 @@ past_false v first (suc n) h e (suc k) within =
 
 leading_to : (v : Assignment) (first n : ℕ) → leading v first n ≤ n
 leading_to v first zero = omega arith
-leading_to v first (suc n) = elim (v first) as (λ b. cond b (1 + leading v (first + 1) n) 0 ≤ suc n) [ true ↦ omega (arith, leading_to v (first + 1) n) | false ↦ omega arith ]
+leading_to v first (suc n) = elim (v first) as (λ b. cond b (1 + leading v (first + 1) n) 0 ≤ suc n)
+    [ true ↦ omega (arith, leading_to v (first + 1) n) | false ↦ omega arith ]
 
 -- from the clauses to the steps
 true_first : (v : Assignment) (first n m : ℕ) → v first ≡ true → Steps v (first + 1) n m → Steps v first (suc n) (1 + m)
@@ -159,7 +160,8 @@ first_false v first n m (suc k) h within before e =
     let s : nat_lt k m ≡ true = sym (h k (omega arith)) ∙ before k (omega arith) in
     grind (arith, nat_tests, s, t)
 
-pub value_read : (v : Assignment) (i : IntVars) (k : ℕ) → IsInt i → SatisfiesAll v (int_clauses i) → k < size i → ((j : ℕ) → j < k → v (i.first + j) ≡ true) → v (i.first + k) ≡ false → Reads v i (i.low + k)
+pub value_read : (v : Assignment) (i : IntVars) (k : ℕ) → IsInt i → SatisfiesAll v (int_clauses i) → k < size i → ((j : ℕ) → j < k → v (i.first + j) ≡ true) →
+    v (i.first + k) ≡ false → Reads v i (i.low + k)
 value_read v i k is h within before e =
     let r = int_means v i is.order h in
     let n = first_false v i.first (size i) (number v i - i.low) k (steps_from_reads v i (number v i) r) within before e in
@@ -172,8 +174,10 @@ chain-links first zero h = absurd (h refl)
 chain-links first (suc n) h = let z : n ≡ suc n - 1 = omega arith in ap (λ m. each link first m) z
 
 -- a setting of its variables for each number, and its clauses hold there
-pub int_extends_model : (v : Assignment) (i : IntVars) (n : ℕ) → i.low ≤ n → n ≤ i.high → Extends i.first (size i) v (λ w. Reads w i n × SatisfiesAll w (int_clauses i))
-int_extends_model v i n low high = extends_weaker i.first (size i) v (λ w. Reads w i n) (λ w. Reads w i n × SatisfiesAll w (int_clauses i)) (λ w same r. (r, int_holds w i n r)) (int_extends v i n low high)
+pub int_extends_model : (v : Assignment) (i : IntVars) (n : ℕ) → i.low ≤ n → n ≤ i.high →
+    Extends i.first (size i) v (λ w. Reads w i n × SatisfiesAll w (int_clauses i))
+int_extends_model v i n low high = extends_weaker i.first (size i) v (λ w. Reads w i n) (λ w. Reads w i n × SatisfiesAll w (int_clauses i))
+    (λ w same r. (r, int_holds w i n r)) (int_extends v i n low high)
 
 -- a number is one setting of the variables
 pub one_setting_for_each : (v w : Assignment) (i : IntVars) (n : ℕ) → Reads v i n → Reads w i n → (x : ℕ) → i.first ≤ x → x < i.first + size i → v x ≡ w x

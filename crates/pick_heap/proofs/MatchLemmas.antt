@@ -1,10 +1,12 @@
 -- Matches: what the writes of a tree leave, and what its root is.
-use Rattle.std.proofs.Common.{◌≡◌, ◌≢◌, ℕ, ◌+◌, ◌-◌, ◌*◌, ◌/◌, ◌<◌, ◌≤◌, ◌⊎◌, Bool, true, false, cond, zero, suc, List, [], ◌∷◌, ◌++◌, replicate, length, get_or, set, refl, sym, ◌∙◌, ap, subst, inl, inr, arith, length-set, length-append}
+use Rattle.std.proofs.Common.{◌≡◌, ◌≢◌, ℕ, ◌+◌, ◌-◌, ◌*◌, ◌/◌, ◌<◌, ◌≤◌, ◌⊎◌, Bool, true, false, cond, zero, suc, List, [], ◌∷◌, ◌++◌, replicate, length}
+use Rattle.std.proofs.Common.{get_or, set, refl, sym, ◌∙◌, ap, subst, inl, inr, arith, length-set, length-append}
 use Rattle.std.specs.Prelude.{slice_index_or}
 use Rattle.std.proofs.lemmas.Bool.{cases_lt, cases_eq}
 use Rattle.std.proofs.lemmas.Bool.Decides.{eqb_tells}
 use Rattle.std.proofs.lemmas.List.{get_or-set_other, get_or-set_same, get_or_past, get_or-replicate}
-use Rattle.pick_heap.specs.Tree.{entry_at, rank_of, IsWinner, HaveActivities, IsWonAt, IsWon, IsWonBut, leaf_word, KeepsLeaves, KeepsOthers, AreActivities, IsHeap}
+use Rattle.pick_heap.specs.Tree.{entry_at, rank_of, IsWinner, HaveActivities, IsWonAt, IsWon, IsWonBut, leaf_word, KeepsLeaves, KeepsOthers, AreActivities}
+use Rattle.pick_heap.specs.Tree.{IsHeap}
 use Rattle.pick_heap.specs.declared.heap.TheConstants.{HALVED_AT}
 use Rattle.pick_heap.specs.Heap.{ranked_of, IsGreatest, NoneHeld}
 
@@ -38,7 +40,8 @@ module _ (acts tree : List ℕ) (leaves p w : ℕ) (within : p < length tree) wh
       (subst (λ x. IsWinner acts (entry_at tree (2 * p)) (entry_at tree (2 * p + 1)) x) (sym (get_or-set_same tree p w 0 within)) won))
 
   -- by its own match: only the match above may be wrong
-  pub won_up : 1 ≤ p → IsWinner acts (entry_at tree (2 * p)) (entry_at tree (2 * p + 1)) w → IsWonBut acts tree leaves p → IsWonBut acts (set tree p w) leaves (p / 2)
+  pub won_up : 1 ≤ p → IsWinner acts (entry_at tree (2 * p)) (entry_at tree (2 * p + 1)) w → IsWonBut acts tree leaves p →
+  IsWonBut acts (set tree p w) leaves (p / 2)
   won_up from here but = record {
     won = λ k from2 to ne. elim (cases_eq k p) [
       | inl e ↦ subst (λ n. IsWonAt acts (set tree p w) n) (sym e) (won_here from here)
@@ -51,14 +54,16 @@ module _ (acts tree : List ℕ) (leaves p w : ℕ) (within : p < length tree) wh
   won_leaf leaf all = record { won = λ k from to ne. won_other k (omega arith) (omega arith) (omega arith) (all.won k from to) }
 
   -- from the last to the first
-  pub won_down : 1 ≤ p → IsWinner acts (entry_at tree (2 * p)) (entry_at tree (2 * p + 1)) w → ((k : ℕ) → p < k → k < leaves → IsWonAt acts tree k) → (k : ℕ) → p ≤ k → k < leaves → IsWonAt acts (set tree p w) k
+  pub won_down : 1 ≤ p → IsWinner acts (entry_at tree (2 * p)) (entry_at tree (2 * p + 1)) w → ((k : ℕ) → p < k → k < leaves → IsWonAt acts tree k) → (k : ℕ) →
+  p ≤ k → k < leaves → IsWonAt acts (set tree p w) k
   won_down from here above k from2 to = elim (cases_eq k p) [
     | inl e ↦ subst (λ n. IsWonAt acts (set tree p w) n) (sym e) (won_here from here)
     | inr other ↦ won_other k other (omega arith) (omega arith) (above k (omega arith) to)
   ]
 
 -- all matches but that of the node are right, and that one too
-pub won_same : (acts tree : List ℕ) (leaves p w : ℕ) → IsWinner acts (entry_at tree (2 * p)) (entry_at tree (2 * p + 1)) w → w ≡ entry_at tree p → IsWonBut acts tree leaves p → IsWon acts tree leaves
+pub won_same : (acts tree : List ℕ) (leaves p w : ℕ) → IsWinner acts (entry_at tree (2 * p)) (entry_at tree (2 * p + 1)) w → w ≡ entry_at tree p →
+    IsWonBut acts tree leaves p → IsWon acts tree leaves
 won_same acts tree leaves p w here e but = record {
   won = λ k from to. elim (cases_eq k p) [
     | inl is ↦ subst (λ n. IsWonAt acts tree n) (sym is) (subst (λ x. IsWinner acts (entry_at tree (2 * p)) (entry_at tree (2 * p + 1)) x) e here)
@@ -76,8 +81,10 @@ module _ (acts tree : List ℕ) (leaves : ℕ) (all : IsWon acts tree leaves) wh
         let above = most_by fuel (k / 2) (omega arith) (omega arith) (omega arith) in
         let won = all.won (k / 2) (omega arith) (omega arith) in
         elim (cases_lt (2 * (k / 2)) k) [
-          | inl odd ↦ let e : rank_of acts (entry_at tree k) ≡ rank_of acts (entry_at tree (2 * (k / 2) + 1)) = ap (λ n. rank_of acts (entry_at tree n)) (omega arith) in let x = won.second in omega arith
-          | inr even ↦ let e : rank_of acts (entry_at tree k) ≡ rank_of acts (entry_at tree (2 * (k / 2))) = ap (λ n. rank_of acts (entry_at tree n)) (omega arith) in let x = won.first in omega arith
+          | inl odd ↦ let e : rank_of acts (entry_at tree k) ≡ rank_of acts (entry_at tree (2 * (k / 2) + 1)) = ap (λ n. rank_of acts (entry_at tree n))
+          (omega arith) in let x = won.second in omega arith
+          | inr even ↦ let e : rank_of acts (entry_at tree k) ≡ rank_of acts (entry_at tree (2 * (k / 2))) = ap (λ n. rank_of acts (entry_at tree n))
+          (omega arith) in let x = won.first in omega arith
         ]
   ]
 
@@ -157,7 +164,8 @@ module _ (vars leaves : ℕ) (held : List Bool) (acts tree : List ℕ) (k : IsHe
             let high = c.1 in
             let all = k.fits in
             let most = root_most acts tree leaves k.won (leaves + (w - 1)) (omega arith) (omega arith) in
-            let mine : rank_of acts (entry_at tree (leaves + (w - 1))) ≡ entry_at acts w + 1 = ap (rank_of acts) (leaf_of w hw) ∙ rank_some acts w (omega arith) in
+            let mine : rank_of acts (entry_at tree (leaves + (w - 1))) ≡ entry_at acts w + 1 = ap (rank_of acts) (leaf_of w hw)
+            ∙ rank_some acts w (omega arith) in
             let root : rank_of acts (entry_at tree 1) ≡ entry_at acts v + 1 = ap (rank_of acts) is ∙ rank_some acts v some in
             omega arith;
       }
@@ -174,7 +182,8 @@ module _ (vars leaves : ℕ) (held : List Bool) (acts tree : List ℕ) (k : IsHe
       omega arith
 
   -- the leaf of one variable has changed
-  pub heap_set : (v : ℕ) (b : Bool) (new : List ℕ) → 1 ≤ v → v ≤ vars → length new ≡ length tree → HaveActivities acts new → IsWon acts new leaves → entry_at new (leaves + v - 1) ≡ leaf_word (set held v b) v → KeepsOthers leaves tree new (leaves + v - 1) →
+  pub heap_set : (v : ℕ) (b : Bool) (new : List ℕ) → 1 ≤ v → v ≤ vars → length new ≡ length tree → HaveActivities acts new → IsWon acts new leaves →
+  entry_at new (leaves + v - 1) ≡ leaf_word (set held v b) v → KeepsOthers leaves tree new (leaves + v - 1) →
       IsHeap vars leaves (set held v b) acts new
   heap_set v b new from to size named won leaf others = record {
     limit = k.limit;
@@ -195,7 +204,8 @@ module _ (vars leaves : ℕ) (held : List Bool) (acts tree : List ℕ) (k : IsHe
   }
 
   -- the activity of a variable that no node has
-  pub won_raised : (v n : ℕ) (mid : List ℕ) → v ≢ 0 → IsWon acts mid leaves → ((j : ℕ) → 1 ≤ j → j < 2 * leaves → entry_at mid j ≢ v) → IsWon (set acts v n) mid leaves
+  pub won_raised : (v n : ℕ) (mid : List ℕ) → v ≢ 0 → IsWon acts mid leaves → ((j : ℕ) → 1 ≤ j → j < 2 * leaves → entry_at mid j ≢ v) →
+  IsWon (set acts v n) mid leaves
   won_raised v n mid some won gone = record {
     won = λ j from to.
         let x = won.won j from to in
@@ -214,7 +224,8 @@ module _ (vars leaves : ℕ) (held : List Bool) (acts tree : List ℕ) (k : IsHe
       ]
 
   -- which it is once its leaf is empty
-  pub gone_from : (v : ℕ) (mid : List ℕ) → 1 ≤ v → v ≤ vars → IsWon acts mid leaves → entry_at mid (leaves + v - 1) ≡ 0 → KeepsOthers leaves tree mid (leaves + v - 1) → (j : ℕ) → 1 ≤ j → j < 2 * leaves → entry_at mid j ≢ v
+  pub gone_from : (v : ℕ) (mid : List ℕ) → 1 ≤ v → v ≤ vars → IsWon acts mid leaves → entry_at mid (leaves + v - 1) ≡ 0 →
+  KeepsOthers leaves tree mid (leaves + v - 1) → (j : ℕ) → 1 ≤ j → j < 2 * leaves → entry_at mid j ≢ v
   gone_from v mid from to won empty others = λ j one below is.
       let x = from_leaf acts mid leaves won j one below in
       let lt = x.1 in
@@ -228,8 +239,10 @@ module _ (vars leaves : ℕ) (held : List Bool) (acts tree : List ℕ) (k : IsHe
             ]
       ]
 
-  pub heap_raised : (v n : ℕ) (mid new : List ℕ) → 1 ≤ v → v ≤ vars → n ≤ HALVED_AT → length mid ≡ length tree → length new ≡ length mid → KeepsOthers leaves tree mid (leaves + v - 1) →
-      HaveActivities (set acts v n) new → IsWon (set acts v n) new leaves → entry_at new (leaves + v - 1) ≡ leaf_word held v → KeepsOthers leaves mid new (leaves + v - 1) → IsHeap vars leaves held (set acts v n) new
+  pub heap_raised : (v n : ℕ) (mid new : List ℕ) → 1 ≤ v → v ≤ vars → n ≤ HALVED_AT → length mid ≡ length tree → length new ≡ length mid →
+  KeepsOthers leaves tree mid (leaves + v - 1) →
+      HaveActivities (set acts v n) new → IsWon (set acts v n) new leaves → entry_at new (leaves + v - 1) ≡ leaf_word held v →
+      KeepsOthers leaves mid new (leaves + v - 1) → IsHeap vars leaves held (set acts v n) new
   heap_raised v n mid new from to most size size2 others named won leaf others2 = record {
     limit = k.limit;
     some = k.some;
@@ -238,7 +251,8 @@ module _ (vars leaves : ℕ) (held : List Bool) (acts tree : List ℕ) (k : IsHe
     held_size = k.held_size;
     activities_size = length-set acts v n ∙ k.activities_size;
     within = λ j. elim (cases_eq j v) [
-      | inl e ↦ let same : entry_at (set acts v n) j ≡ n = ap (entry_at (set acts v n)) e ∙ get_or-set_same acts v n 0 (let large = k.activities_size in omega arith) in omega arith
+      | inl e ↦ let same : entry_at (set acts v n) j ≡ n = ap (entry_at (set acts v n)) e
+      ∙ get_or-set_same acts v n 0 (let large = k.activities_size in omega arith) in omega arith
       | inr ne ↦ let same : entry_at (set acts v n) j ≡ entry_at acts j = get_or-set_other acts v j n 0 ne in let old = k.within j in omega arith
     ];
     none = k.none;
@@ -252,7 +266,8 @@ module _ (vars leaves : ℕ) (held : List Bool) (acts tree : List ℕ) (k : IsHe
   }
 
   -- all activities are halved, and all matches played
-  pub heap_halved : (less : List ℕ) (new : List ℕ) → length less ≡ length acts → AreActivities less → length new ≡ length tree → HaveActivities less new → IsWon less new leaves → KeepsLeaves leaves tree new → IsHeap vars leaves held less new
+  pub heap_halved : (less : List ℕ) (new : List ℕ) → length less ≡ length acts → AreActivities less → length new ≡ length tree → HaveActivities less new →
+  IsWon less new leaves → KeepsLeaves leaves tree new → IsHeap vars leaves held less new
   heap_halved less new same within size named won kept = record {
     limit = k.limit;
     some = k.some;
@@ -269,10 +284,12 @@ module _ (vars leaves : ℕ) (held : List Bool) (acts tree : List ℕ) (k : IsHe
   }
 
 pub winner_named : (acts tree : List ℕ) (a b w : ℕ) → HaveActivities acts tree → IsWinner acts (entry_at tree a) (entry_at tree b) w → w < length acts
-winner_named acts tree a b w named x = elim x.one [ inl e ↦ subst (λ n. n < length acts) (sym e) (named a) | inr e ↦ subst (λ n. n < length acts) (sym e) (named b) ]
+winner_named acts tree a b w named x = elim x.one [ inl e ↦ subst (λ n. n < length acts) (sym e) (named a) | inr e ↦ subst (λ n. n < length acts) (sym e)
+    (named b) ]
 
 pub zero_named : (acts tree : List ℕ) → 1 ≤ length acts → ((k : ℕ) → k < length tree → entry_at tree k ≡ 0) → HaveActivities acts tree
-zero_named acts tree some zeros = λ k. elim (cases_lt k (length tree)) [ inl lt ↦ let z = zeros k lt in omega arith | inr ge ↦ let z = get_or_past tree k 0 ge in omega arith ]
+zero_named acts tree some zeros = λ k. elim (cases_lt k (length tree)) [ inl lt ↦ let z = zeros k lt in omega arith | inr ge ↦ let z = get_or_past tree k 0
+    ge in omega arith ]
 
 pub zero_all : (tree : List ℕ) (k : ℕ) → ((k : ℕ) → k < length tree → entry_at tree k ≡ 0) → entry_at tree k ≡ 0
 zero_all tree k zeros = elim (cases_lt k (length tree)) [ inl lt ↦ zeros k lt | inr ge ↦ get_or_past tree k 0 ge ]

@@ -7,11 +7,13 @@ use Rattle.plan_core.specs.declared.criterion.Values.{Values}
 use Rattle.plan_core.specs.Values.{value_of, Better}
 use Rattle.plan_core.specs.Readings.{IsLessAt}
 
-equal_before : (c : Criterion) (rest : List Criterion) (a b : Values) (i : ℕ) → value_of a c ≡ value_of b c → IsLessAt rest a b i → (j : ℕ) → j < suc i → value_of a (slice_index_or (c ∷ rest) j Height) ≡ value_of b (slice_index_or (c ∷ rest) j Height)
+equal_before : (c : Criterion) (rest : List Criterion) (a b : Values) (i : ℕ) → value_of a c ≡ value_of b c → IsLessAt rest a b i → (j : ℕ) → j < suc i →
+    value_of a (slice_index_or (c ∷ rest) j Height) ≡ value_of b (slice_index_or (c ∷ rest) j Height)
 equal_before c rest a b i same h zero before = same
 equal_before c rest a b i same h (suc j) before = h.equal j (omega arith)
 
-less_later : (c : Criterion) (rest : List Criterion) (a b : Values) (i : ℕ) → value_of a c ≡ value_of b c → IsLessAt rest a b i → IsLessAt (c ∷ rest) a b (suc i)
+less_later : (c : Criterion) (rest : List Criterion) (a b : Values) (i : ℕ) → value_of a c ≡ value_of b c → IsLessAt rest a b i →
+    IsLessAt (c ∷ rest) a b (suc i)
 less_later c rest a b i same h = let within = h.within in record { within = omega (arith, within); less = h.less; equal = equal_before c rest a b i same h }
 
 pub less_somewhere : (order : List Criterion) (a b : Values) → Better order a b → (i : ℕ) × IsLessAt order a b i
@@ -24,7 +26,14 @@ better_from [] a b i h = let within = h.within in absurd (omega (arith, within))
 better_from (c ∷ rest) a b zero h = inl h.less
 better_from (c ∷ rest) a b (suc i) h =
     let within = h.within in
-    inr (h.equal 0 (omega arith), better_from rest a b i (record { within = omega (arith, within); less = h.less; equal = λ j before. h.equal (suc j) (omega (arith, before)) }))
+    inr (
+      h.equal 0 (omega arith),
+      better_from rest a b i (record {
+        within = omega (arith, within);
+        less = h.less;
+        equal = λ j before. h.equal (suc j) (omega (arith, before));
+      }),
+    )
 
 pub better_is_less_somewhere : (order : List Criterion) (a b : Values) → Better order a b ↔ (i : ℕ) × IsLessAt order a b i
 better_is_less_somewhere order a b = (less_somewhere order a b, λ h. better_from order a b h.0 h.1)

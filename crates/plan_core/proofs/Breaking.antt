@@ -5,16 +5,24 @@ use Rattle.plan_core.specs.Grid.{GridSize}
 use Rattle.plan_core.specs.Graph.{Graph}
 use Rattle.plan_core.specs.Drawing.{Drawing}
 use Rattle.plan_core.specs.Lawful.{Instance, NodeOnGrid, LineOnGrid, Ordered, Joined, Aligned, Apart, Over, Parted}
-use Rattle.plan_core.specs.Examples.{usual_grid, roomy_grid, one_graph, none_above, loop_graph, loop_above, loop_drawing, two_graph, cross_graph, cross_above, scissors_graph, scissors_above}
-use Rattle.plan_core.specs.Breaches.{BreaksJust, meeting_graph, parted_graph, joined_graph, too_wide, too_high, uneven, swapped, short, exchanged, crowded, too_steep, bent_rising_path, bent_falling_path, bent_main, sloping, kinked, one_point, touching, begins_above, ends_below, touched_drawing, crossed_drawing}
+use Rattle.plan_core.specs.Examples.{usual_grid, roomy_grid, one_graph, none_above, loop_graph, loop_above, loop_drawing, two_graph, cross_graph, cross_above}
+use Rattle.plan_core.specs.Examples.{scissors_graph, scissors_above}
+use Rattle.plan_core.specs.Breaches.{BreaksJust, meeting_graph, parted_graph, joined_graph, too_wide, too_high, uneven, swapped, short, exchanged, crowded}
+use Rattle.plan_core.specs.Breaches.{too_steep, bent_rising_path, bent_falling_path, bent_main, sloping, kinked, one_point, touching, begins_above, ends_below}
+use Rattle.plan_core.specs.Breaches.{touched_drawing, crossed_drawing}
 use Rattle.plan_core.proofs.Deciding.{shown}
 use Rattle.plan_core.proofs.LawfulTest.{fits, is_lawful, unlawful_by_test, broken, broken-has, broken-only}
 
-breaks_just : (g : Graph) (above : ℕ → ℕ → Bool) (grid : GridSize) (d : Drawing) (instances : List Instance) → (fits g d).passes ≡ true → (is_lawful g above grid d).passes ≡ false → broken g above grid d ≡ instances → BreaksJust g above grid d instances
+breaks_just : (g : Graph) (above : ℕ → ℕ → Bool) (grid : GridSize) (d : Drawing) (instances : List Instance) → (fits g d).passes ≡ true →
+    (is_lawful g above grid d).passes ≡ false → broken g above grid d ≡ instances → BreaksJust g above grid d instances
 breaks_just g above grid d instances d_fits fails is = record {
   fits = shown (fits g d) d_fits;
   unlawful = unlawful_by_test g above grid d fails;
-  broken = λ i. (λ h. broken-only g above grid d i (subst (λ l. Contains l i) (sym is) h), λ h. subst (λ l. Contains l i) is (broken-has g above grid d i h.0 h.1));
+  broken = λ i. (
+    λ h. broken-only g above grid d i (subst (λ l. Contains l i) (sym is) h),
+    λ h. subst (λ l. Contains l i) is
+        (broken-has g above grid d i h.0 h.1),
+  );
 }
 
 pub too_wide_breaks : BreaksJust one_graph none_above usual_grid too_wide (NodeOnGrid 1 ∷ LineOnGrid 0 ∷ [])

@@ -30,7 +30,8 @@ told c h = ap (λ b. b && (nat_lt c 127 || nat_lt 160 c)) (lt-ltb 32 c h.0) ∙ 
 
 pub characters_told : (cs : List ℕ) → list_all is_id_character cs ≡ true → All IsIdCharacter cs
 characters_told [] h = All-nil IsIdCharacter
-characters_told (c ∷ cs) h = let parts = and_parts (is_id_character c) (list_all is_id_character cs) h in All-cons IsIdCharacter c cs (tells c parts.0) (characters_told cs parts.1)
+characters_told (c ∷ cs) h = let parts = and_parts (is_id_character c) (list_all is_id_character cs) h in All-cons IsIdCharacter c cs (tells c parts.0)
+    (characters_told cs parts.1)
 
 by_recursion : (cs : List ℕ) → AllByRecursion IsIdCharacter cs → list_all is_id_character cs ≡ true
 by_recursion [] h = refl

@@ -1,10 +1,12 @@
 -- Tests together with the facts that they decide, and tests of a whole made from tests of its parts.
-use Rattle.std.proofs.Common.{◌≡◌, ℕ, zero, suc, ◌<◌, ◌≤◌, ◌⊎◌, Bool, true, false, not, ◌&&◌, ◌||◌, ◌==◌, nat_lt, List, refl, arith, ℤ, ◌<ℤ◌, int_eq, leb-true, le-leb}
+use Rattle.std.proofs.Common.{◌≡◌, ℕ, zero, suc, ◌<◌, ◌≤◌, ◌⊎◌, Bool, true, false, not, ◌&&◌, ◌||◌, ◌==◌, nat_lt, List, refl, arith, ℤ, ◌<ℤ◌, int_eq, leb-true}
+use Rattle.std.proofs.Common.{le-leb}
 use Rattle.std.specs.Prelude.{nat_le, int_lt, All}
 use Rattle.std.specs.List.{list_all}
 use Rattle.std.specs.Bool.{Decides}
 use Rattle.std.proofs.lemmas.Bool.{false≢true}
-use Rattle.std.proofs.lemmas.Bool.Decides.{Decides-eqb, Decides-int_eq, Decides-ltb, Decides-and, Decides-or, Decides-not, Decides-like, Decides-below_and, Decides-by_and, not_from_Decides}
+use Rattle.std.proofs.lemmas.Bool.Decides.{Decides-eqb, Decides-int_eq, Decides-ltb, Decides-and, Decides-or, Decides-not, Decides-like, Decides-below_and}
+use Rattle.std.proofs.lemmas.Bool.Decides.{Decides-by_and, not_from_Decides}
 use Rattle.std.proofs.lemmas.Int.{ints}
 
 -- a test that passes exactly where the fact holds

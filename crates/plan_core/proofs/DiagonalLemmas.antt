@@ -19,7 +19,8 @@ range-append from zero n =
 range-append from (suc m) n =
     let one_less : suc m + n ≡ suc (m + n) = omega arith in
     let same : from + 1 + m ≡ from + suc m = omega arith in
-    ap (range_with_len from) one_less ∙ ap (λ xs. from ∷ xs) (range-append (from + 1) m n) ∙ ap (λ k. (from ∷ range_with_len (from + 1) m) ++ range_with_len k n) same
+    ap (range_with_len from) one_less ∙ ap (λ xs. from ∷ xs) (range-append (from + 1) m n)
+    ∙ ap (λ k. (from ∷ range_with_len (from + 1) m) ++ range_with_len k n) same
 
 -- the function differs at the number and at the next one
 abbrev pub turns : (ℕ → ℕ) → ℕ → Bool
@@ -83,7 +84,8 @@ rise_of Level n y z h = omega arith
 rise_of Up n y z h = omega arith
 
 -- along what is left of a line
-diagonal_from : (a : Point) (rest : List Point) → ArePieces a rest → sum_by absolute_rise (pieces_from a rest) ≡ turns_in (height_from a rest) a.x ((last_from a rest).x - a.x)
+diagonal_from : (a : Point) (rest : List Point) → ArePieces a rest →
+    sum_by absolute_rise (pieces_from a rest) ≡ turns_in (height_from a rest) a.x ((last_from a rest).x - a.x)
 diagonal_from a [] h = let none : a.x - a.x ≡ 0 = omega arith in sym (ap (turns_in (height_from a []) a.x) none)
 diagonal_from a (b ∷ rest) h =
     let p = piece a b in
@@ -100,10 +102,12 @@ diagonal_from a (b ∷ rest) h =
     let left = turns_in-same H (height_from b rest) b.x n (λ x past. height_from-past a b rest x h past) in
     let more = diagonal_from b rest h.1 in
     let rise : absolute_rise p ≡ share (slope p) m = rise_of (slope p) (run p) a.y b.y h.0.reaches in
-    let sum : sum_by absolute_rise (pieces_from a (b ∷ rest)) ≡ absolute_rise p + sum_by absolute_rise (pieces_from b rest) = sum_by-cons absolute_rise p (pieces_from b rest) in
+    let sum : sum_by absolute_rise (pieces_from a (b ∷ rest)) ≡ absolute_rise p + sum_by absolute_rise (pieces_from b rest) = sum_by-cons absolute_rise p
+    (pieces_from b rest) in
     omega (arith, whole, first, left, more, rise, sum)
 
 -- the diagonal is the number of columns, but for the last, whose height isn't the next one's
-pub diagonal_by_columns : (line : List Point) → is_line line ≡ true → diagonal line ≡ turns_in (height line) (west_end line).x ((east_end line).x - (west_end line).x)
+pub diagonal_by_columns : (line : List Point) → is_line line ≡ true →
+    diagonal line ≡ turns_in (height line) (west_end line).x ((east_end line).x - (west_end line).x)
 diagonal_by_columns [] h = absurd (false≢true h)
 diagonal_by_columns (a ∷ rest) h = diagonal_from a rest (pieces_of a rest h)

@@ -4,7 +4,9 @@ use Rattle.std.proofs.Common.{◌≡◌, ◌⊎◌, inl, inr, Result, Ok, Err}
 use Rattle.std.specs.Result.{IfOk, IfErr}
 use Rattle.plan_core.specs.Exactly.{AnswersExactly}
 
-pub answers_exactly : {T E : Type 0} (result : Result T E) (memory : E) (IsValue : T → Type 0) (IsFault : E → Type 0) → IfOk result IsValue → IfErr result (λ e. (e ≡ memory) ⊎ IsFault e) → ((v w : T) → IsValue v → IsValue w → v ≡ w) → ((e f : E) → IsFault e → IsFault f → e ≡ f) → ((v : T) (f : E) → IsValue v → IsFault f → ⊥) → AnswersExactly result memory IsValue IsFault
+pub answers_exactly : {T E : Type 0} (result : Result T E) (memory : E) (IsValue : T → Type 0) (IsFault : E → Type 0) → IfOk result IsValue →
+    IfErr result (λ e. (e ≡ memory) ⊎ IsFault e) → ((v w : T) → IsValue v → IsValue w → v ≡ w) → ((e f : E) → IsFault e → IsFault f → e ≡ f) →
+    ((v : T) (f : E) → IsValue v → IsFault f → ⊥) → AnswersExactly result memory IsValue IsFault
 answers_exactly (Ok r) memory IsValue IsFault value fault one_value one_fault not_both = record {
   value = value;
   fault = fault;

@@ -17,7 +17,8 @@ fitting_line g d e fits within =
     let same = fits.size.lines in
     All-get_or (λ l. is_line l ≡ true) d.lines e [] (omega (arith, same, within)) fits.are_lines
 
-pub joins_where_ends_meet : (g : Graph) (width height : ℕ) (d : Drawing) (e : ℕ) → Fits g d → e < length g.edges → MeetsItsNodes g d e → LineJoinsItsNodes g (grid_size width height) d e
+pub joins_where_ends_meet : (g : Graph) (width height : ℕ) (d : Drawing) (e : ℕ) → Fits g d → e < length g.edges → MeetsItsNodes g d e →
+    LineJoinsItsNodes g (grid_size width height) d e
 joins_where_ends_meet g width height d e fits within meets =
     let rises : (west_end (line d e)).x < (east_end (line d e)).x = ends_rise (line d e) (fitting_line g d e fits within) in
     let from_west : (place d (edge g e).west).x < (east_end (line d e)).x = subst (λ (p : Point). p.x < (east_end (line d e)).x) meets.begins rises in

@@ -15,9 +15,11 @@ use Rattle.plan_core.specs.Grid.{GridSize}
 use Rattle.plan_core.specs.Graph.{Graph, Ports, End, Joint, Switch, Crossing, node, edge, mileage, IsEndOf}
 use Rattle.plan_core.specs.Line.{west_end, east_end, HasColumn, height}
 use Rattle.plan_core.specs.Drawing.{Drawing, place, line}
-use Rattle.plan_core.specs.Laws.{InOrder, IsOnGrid, LineJoinsItsNodes, slope_at, steepness, Diverges, SwitchIsAligned, CrossingIsAligned, PortsAreAligned, AreCompared, EdgeIsOver}
+use Rattle.plan_core.specs.Laws.{InOrder, IsOnGrid, LineJoinsItsNodes, slope_at, steepness, Diverges, SwitchIsAligned, CrossingIsAligned, PortsAreAligned}
+use Rattle.plan_core.specs.Laws.{AreCompared, EdgeIsOver}
 use Rattle.plan_core.specs.Lawful.{Instance, NodeOnGrid, LineOnGrid, Ordered, Joined, Aligned, Apart, Over, Parted, Meets}
-use Rattle.plan_core.proofs.Deciding.{Test, are_equal, is_below, is_at_most, are_same_integer, is_smaller_integer, restated, both, either, opposite_of, implied, each_below, each_of}
+use Rattle.plan_core.proofs.Deciding.{Test, are_equal, is_below, is_at_most, are_same_integer, is_smaller_integer, restated, both, either, opposite_of}
+use Rattle.plan_core.proofs.Deciding.{implied, each_below, each_of}
 
 point : ℕ → ℕ → Point
 point x y = record { x = x; y = y }
@@ -86,12 +88,14 @@ diverges East Lower s t = is_one_more t s
 diverges West Upper s t = is_one_more t s
 diverges West Lower s t = is_one_more s t
 
-abbrev pub switch_is_aligned : (at_node : ℕ → Slope) (legs : Compass) (branch : Side) (trunk straight diverging : ℕ) → Test (SwitchIsAligned at_node legs branch trunk straight diverging)
+abbrev pub switch_is_aligned : (at_node : ℕ → Slope) (legs : Compass) (branch : Side) (trunk straight diverging : ℕ) →
+    Test (SwitchIsAligned at_node legs branch trunk straight diverging)
 switch_is_aligned at_node legs branch trunk straight diverging =
     restated (λ h. record { goes_straight = h.0; turns_off = h.1 }) (λ h. (h.goes_straight, h.turns_off))
     (both (is_same_slope (at_node straight) (at_node trunk)) (diverges legs branch (at_node trunk) (at_node diverging)))
 
-abbrev pub crossing_is_aligned : (at_node : ℕ → Slope) (west_upper west_lower east_upper east_lower : ℕ) → Test (CrossingIsAligned at_node west_upper west_lower east_upper east_lower)
+abbrev pub crossing_is_aligned : (at_node : ℕ → Slope) (west_upper west_lower east_upper east_lower : ℕ) →
+    Test (CrossingIsAligned at_node west_upper west_lower east_upper east_lower)
 crossing_is_aligned at_node west_upper west_lower east_upper east_lower =
     restated (λ h. record { rising_path = h.0; falling_path = h.1.0; rising_is_greater = h.1.1 }) (λ h. (h.rising_path, (h.falling_path, h.rising_is_greater)))
     (both (is_same_slope (at_node west_lower) (at_node east_upper))
@@ -134,7 +138,11 @@ ends_together g d e f x = either (ends_there g d f x (edge g e).west) (ends_ther
 
 abbrev pub are_compared : (g : Graph) (d : Drawing) (e f x : ℕ) → Test (AreCompared g d e f x)
 are_compared g d e f x =
-    restated (λ h. record { first = h.0; second = h.1.0; no_shared_end = never_shared g d e f x h.1.1 }) (λ h. (h.first, (h.second, never_together g d e f x h.no_shared_end)))
+    restated (λ h. record {
+      first = h.0;
+      second = h.1.0;
+      no_shared_end = never_shared g d e f x h.1.1;
+    }) (λ h. (h.first, (h.second, never_together g d e f x h.no_shared_end)))
     (both (has_column (line d e) x) (both (has_column (line d f) x) (opposite_of (ends_together g d e f x))))
 
 abbrev is_over_at : (g : Graph) (d : Drawing) (e f x : ℕ) → Test (AreCompared g d e f x → height (line d f) x < height (line d e) x)

@@ -11,13 +11,17 @@ use Rattle.std.proofs.lemmas.List.{get_or_default}
 use Rattle.plan_core.specs.declared.sides.Compass.{Compass}
 use Rattle.plan_core.specs.declared.sides.Compass.TheVariants.{East, West}
 use Rattle.plan_core.specs.Grid.{GridSize}
-use Rattle.plan_core.specs.Graph.{Graph, Ports, End, Joint, Switch, Crossing, node, edge, mileage, Overlap, AreAt, LiesOn, opposite, edges_of, IsPortOf, ArePortsOf, IsTrackGraph}
+use Rattle.plan_core.specs.Graph.{Graph, Ports, End, Joint, Switch, Crossing, node, edge, mileage, Overlap, AreAt, LiesOn, opposite, edges_of, IsPortOf}
+use Rattle.plan_core.specs.Graph.{ArePortsOf, IsTrackGraph}
 use Rattle.plan_core.specs.Line.{is_line}
 use Rattle.plan_core.specs.Drawing.{Drawing}
-use Rattle.plan_core.specs.Lawful.{Instance, NodeOnGrid, LineOnGrid, Ordered, Joined, Aligned, Apart, Over, Parted, IsPair, IsAbovePair, IsOtherPair, IsInstance, Meets, Fits, Lawful}
-use Rattle.plan_core.proofs.Deciding.{Test, shown, refuted, are_equal, is_below, is_smaller_integer, is_bool, restated, both, opposite_of, implied, each_below, each_of}
+use Rattle.plan_core.specs.Lawful.{Instance, NodeOnGrid, LineOnGrid, Ordered, Joined, Aligned, Apart, Over, Parted, IsPair, IsAbovePair, IsOtherPair}
+use Rattle.plan_core.specs.Lawful.{IsInstance, Meets, Fits, Lawful}
+use Rattle.plan_core.proofs.Deciding.{Test, shown, refuted, are_equal, is_below, is_smaller_integer, is_bool, restated, both, opposite_of, implied, each_below}
+use Rattle.plan_core.proofs.Deciding.{each_of}
 use Rattle.plan_core.proofs.LawTests.{meets}
-use Rattle.plan_core.proofs.Listing.{for_each, for_pairs, for_any_two, Contains-for_each, Contains-for_pairs, Contains-for_any_two, Contains-filter, Contains-flat_map}
+use Rattle.plan_core.proofs.Listing.{for_each, for_pairs, for_any_two, Contains-for_each, Contains-for_pairs, Contains-for_any_two, Contains-filter}
+use Rattle.plan_core.proofs.Listing.{Contains-flat_map}
 
 -- which parties a law speaks of
 
@@ -78,23 +82,33 @@ of_part : (g : Graph) (k : ℕ) (part : List Instance) (i : Instance) → k < 8 
 of_part g k part i within is h = Contains-flat_map (λ l. l) (parties g) part i (k, within, is) h
 
 pub Contains-candidates : (g : Graph) (above : ℕ → ℕ → Bool) (i : Instance) → IsInstance g above i → Contains (candidates g) i
-Contains-candidates g above (NodeOnGrid n) h = of_part g 0 (for_each (length g.nodes) NodeOnGrid) (NodeOnGrid n) (omega arith) refl (Contains-for_each (length g.nodes) NodeOnGrid n h)
-Contains-candidates g above (LineOnGrid e) h = of_part g 1 (for_each (length g.edges) LineOnGrid) (LineOnGrid e) (omega arith) refl (Contains-for_each (length g.edges) LineOnGrid e h)
-Contains-candidates g above (Ordered u v) h = of_part g 2 (for_pairs (length g.nodes) Ordered) (Ordered u v) (omega arith) refl (Contains-for_pairs (length g.nodes) Ordered u v h.rising h.within)
-Contains-candidates g above (Joined e) h = of_part g 3 (for_each (length g.edges) Joined) (Joined e) (omega arith) refl (Contains-for_each (length g.edges) Joined e h)
-Contains-candidates g above (Aligned n) h = of_part g 4 (for_each (length g.nodes) Aligned) (Aligned n) (omega arith) refl (Contains-for_each (length g.nodes) Aligned n h)
-Contains-candidates g above (Apart u v) h = of_part g 5 (for_pairs (length g.nodes) Apart) (Apart u v) (omega arith) refl (Contains-for_pairs (length g.nodes) Apart u v h.rising h.within)
-Contains-candidates g above (Over e f) h = of_part g 6 (for_any_two (length g.edges) Over) (Over e f) (omega arith) refl (Contains-for_any_two (length g.edges) Over e f h.first h.second)
-Contains-candidates g above (Parted e f) h = of_part g 7 (for_pairs (length g.edges) Parted) (Parted e f) (omega arith) refl (Contains-for_pairs (length g.edges) Parted e f h.pair.rising h.pair.within)
+Contains-candidates g above (NodeOnGrid n) h = of_part g 0 (for_each (length g.nodes) NodeOnGrid) (NodeOnGrid n) (omega arith) refl
+    (Contains-for_each (length g.nodes) NodeOnGrid n h)
+Contains-candidates g above (LineOnGrid e) h = of_part g 1 (for_each (length g.edges) LineOnGrid) (LineOnGrid e) (omega arith) refl
+    (Contains-for_each (length g.edges) LineOnGrid e h)
+Contains-candidates g above (Ordered u v) h = of_part g 2 (for_pairs (length g.nodes) Ordered) (Ordered u v) (omega arith) refl
+    (Contains-for_pairs (length g.nodes) Ordered u v h.rising h.within)
+Contains-candidates g above (Joined e) h = of_part g 3 (for_each (length g.edges) Joined) (Joined e) (omega arith) refl
+    (Contains-for_each (length g.edges) Joined e h)
+Contains-candidates g above (Aligned n) h = of_part g 4 (for_each (length g.nodes) Aligned) (Aligned n) (omega arith) refl
+    (Contains-for_each (length g.nodes) Aligned n h)
+Contains-candidates g above (Apart u v) h = of_part g 5 (for_pairs (length g.nodes) Apart) (Apart u v) (omega arith) refl
+    (Contains-for_pairs (length g.nodes) Apart u v h.rising h.within)
+Contains-candidates g above (Over e f) h = of_part g 6 (for_any_two (length g.edges) Over) (Over e f) (omega arith) refl
+    (Contains-for_any_two (length g.edges) Over e f h.first h.second)
+Contains-candidates g above (Parted e f) h = of_part g 7 (for_pairs (length g.edges) Parted) (Parted e f) (omega arith) refl
+    (Contains-for_pairs (length g.edges) Parted e f h.pair.rising h.pair.within)
 
 -- the whole drawing
 
 abbrev pub fits : (g : Graph) (d : Drawing) → Test (Fits g d)
 fits g d =
     restated (λ h. record { size = record { places = h.0; lines = h.1.0 }; are_lines = h.1.1 }) (λ h. (h.size.places, (h.size.lines, h.are_lines)))
-    (both (are_equal (length d.places) (length g.nodes)) (both (are_equal (length d.lines) (length g.edges)) (each_of (λ l. is_line l ≡ true) (λ l. is_bool (is_line l)) d.lines)))
+    (both (are_equal (length d.places) (length g.nodes)) (both (are_equal (length d.lines) (length g.edges))
+    (each_of (λ l. is_line l ≡ true) (λ l. is_bool (is_line l)) d.lines)))
 
-pub lawful_from_all : (g : Graph) (above : ℕ → ℕ → Bool) (grid : GridSize) (d : Drawing) → Fits g d × All (λ i. IsInstance g above i → Meets g grid d i) (candidates g) → Lawful g above grid d
+pub lawful_from_all : (g : Graph) (above : ℕ → ℕ → Bool) (grid : GridSize) (d : Drawing) →
+    Fits g d × All (λ i. IsInstance g above i → Meets g grid d i) (candidates g) → Lawful g above grid d
 lawful_from_all g above grid d h = record {
   fits = h.0;
   laws = λ i speaks. All-contains (λ i. IsInstance g above i → Meets g grid d i) (candidates g) i h.1 (Contains-candidates g above i speaks) speaks;
@@ -108,7 +122,8 @@ is_lawful g above grid d =
 pub lawful_by_test : (g : Graph) (above : ℕ → ℕ → Bool) (grid : GridSize) (d : Drawing) → (is_lawful g above grid d).passes ≡ true → Lawful g above grid d
 lawful_by_test g above grid d = shown (is_lawful g above grid d)
 
-pub unlawful_by_test : (g : Graph) (above : ℕ → ℕ → Bool) (grid : GridSize) (d : Drawing) → (is_lawful g above grid d).passes ≡ false → Lawful g above grid d → ⊥
+pub unlawful_by_test : (g : Graph) (above : ℕ → ℕ → Bool) (grid : GridSize) (d : Drawing) → (is_lawful g above grid d).passes ≡ false → Lawful g above grid d →
+    ⊥
 unlawful_by_test g above grid d = refuted (is_lawful g above grid d)
 
 -- the broken instances, in the order in which they are named
@@ -130,14 +145,16 @@ implication_fails true true h k = absurd (false≢true (sym k))
 implication_fails true false h k = refl
 implication_fails false q h k = absurd (false≢true h)
 
-breaks : (g : Graph) (above : ℕ → ℕ → Bool) (grid : GridSize) (d : Drawing) (i : Instance) → not (holds g above grid d i).passes ≡ true → IsInstance g above i × (Meets g grid d i → ⊥)
+breaks : (g : Graph) (above : ℕ → ℕ → Bool) (grid : GridSize) (d : Drawing) (i : Instance) → not (holds g above grid d i).passes ≡ true →
+    IsInstance g above i × (Meets g grid d i → ⊥)
 breaks g above grid d i fails =
     let speaks = is_instance g above i in
     let met = meets g grid d i in
     (shown speaks (premise_holds speaks.passes met.passes fails), refuted met (conclusion_fails speaks.passes met.passes fails))
 
 -- each broken instance is in the list
-pub broken-has : (g : Graph) (above : ℕ → ℕ → Bool) (grid : GridSize) (d : Drawing) (i : Instance) → IsInstance g above i → (Meets g grid d i → ⊥) → Contains (broken g above grid d) i
+pub broken-has : (g : Graph) (above : ℕ → ℕ → Bool) (grid : GridSize) (d : Drawing) (i : Instance) → IsInstance g above i → (Meets g grid d i → ⊥) →
+    Contains (broken g above grid d) i
 broken-has g above grid d i speaks fails =
     let test = is_instance g above i in
     let met = meets g grid d i in
@@ -145,7 +162,8 @@ broken-has g above grid d i speaks fails =
     (implication_fails test.passes met.passes (test.decides.1 speaks) (false_from_ne_true met.passes (λ e. fails (shown met e))))
 
 -- and what is in the list is a broken instance
-pub broken-only : (g : Graph) (above : ℕ → ℕ → Bool) (grid : GridSize) (d : Drawing) (i : Instance) → Contains (broken g above grid d) i → IsInstance g above i × (Meets g grid d i → ⊥)
+pub broken-only : (g : Graph) (above : ℕ → ℕ → Bool) (grid : GridSize) (d : Drawing) (i : Instance) → Contains (broken g above grid d) i →
+    IsInstance g above i × (Meets g grid d i → ⊥)
 broken-only g above grid d i h =
     let fails : Instance → Bool = λ i. not (holds g above grid d i).passes in
     breaks g above grid d i (All-contains (λ i. fails i ≡ true) (broken g above grid d) i (filter_passes fails (candidates g)) h)
@@ -166,7 +184,8 @@ all_four p q r s = restated (λ h. (h.0, h.1.0, h.1.1.0, h.1.1.1)) (λ h. (h.0, 
 abbrev pub are_at : (g : Graph) (n : ℕ) (ports : Ports) → Test (AreAt g n ports)
 are_at g n (End e side) = lies_on side g n e
 are_at g n (Joint west east) = both (lies_on West g n west) (lies_on East g n east)
-are_at g n (Switch legs branch trunk straight diverging) = all_three (lies_on (opposite legs) g n trunk) (lies_on legs g n straight) (lies_on legs g n diverging)
+are_at g n (Switch legs branch trunk straight diverging) = all_three (lies_on (opposite legs) g n trunk) (lies_on legs g n straight)
+    (lies_on legs g n diverging)
 are_at g n (Crossing west_upper west_lower east_upper east_lower) =
     all_four (lies_on West g n west_upper) (lies_on West g n west_lower) (lies_on East g n east_upper) (lies_on East g n east_lower)
 
@@ -216,9 +235,15 @@ is_edge_of g e =
 abbrev pub is_track_graph : (g : Graph) → Test (IsTrackGraph g)
 is_track_graph g =
     restated
-    (λ h. record { nodes = λ e within. ((h.0 e within).0, (h.0 e within).1); forward = λ e within. (h.0 e within).2; met = λ e within. ((h.0 e within).3, (h.0 e within).4); ports = h.1 })
+    (λ h. record {
+      nodes = λ e within. ((h.0 e within).0, (h.0 e within).1);
+      forward = λ e within. (h.0 e within).2;
+      met = λ e within. ((h.0 e within).3, (h.0 e within).4);
+      ports = h.1;
+    })
     (λ h. (λ e within. ((h.nodes e within).0, (h.nodes e within).1, h.forward e within, (h.met e within).0, (h.met e within).1), h.ports))
-    (both (each_below (length g.edges) (IsEdgeOf g) (is_edge_of g)) (each_below (length g.nodes) (λ n. ArePortsOf g n (node g n).ports) (λ n. are_ports_of g n (node g n).ports)))
+    (both (each_below (length g.edges) (IsEdgeOf g) (is_edge_of g)) (each_below (length g.nodes) (λ n. ArePortsOf g n (node g n).ports)
+    (λ n. are_ports_of g n (node g n).ports)))
 
 pub track_graph_by_test : (g : Graph) → (is_track_graph g).passes ≡ true → IsTrackGraph g
 track_graph_by_test g = shown (is_track_graph g)

@@ -66,9 +66,11 @@ diagonal-le-width grid (a ∷ rest) h on =
     let far = (last_has (IsOnGrid grid) a rest on).in_width in
     omega (arith, span, far)
 
-pub value-le-limit : (g : Graph) (above : ℕ → ℕ → Bool) (grid : GridSize) (d : Drawing) → Lawful g above grid d → (c : Criterion) → value_of (values_of d) c ≤ limit_of g grid c
+pub value-le-limit : (g : Graph) (above : ℕ → ℕ → Bool) (grid : GridSize) (d : Drawing) → Lawful g above grid d → (c : Criterion) →
+    value_of (values_of d) c ≤ limit_of g grid c
 value-le-limit g above grid d lawful Height =
-    coordinate-le (λ p. p.y) grid.height (all_points d) (All-weaker (IsOnGrid grid) (λ p. p.y ≤ grid.height) (λ p on. on.in_height) (all_points d) (points_on_grid g above grid d lawful))
+    coordinate-le (λ p. p.y) grid.height (all_points d) (All-weaker (IsOnGrid grid) (λ p. p.y ≤ grid.height) (λ p on. on.in_height) (all_points d)
+    (points_on_grid g above grid d lawful))
 value-le-limit g above grid d lawful Bends =
     let edges = lawful.fits.size.lines in
     let most = sum_by-le bends 2 d.lines (All-weaker (λ l. is_line l ≡ true) (λ l. bends l ≤ 2) bends-le d.lines lawful.fits.are_lines) in
@@ -78,7 +80,9 @@ value-le-limit g above grid d lawful Diagonal =
     let edges = lawful.fits.size.lines in
     let each : All (λ l. diagonal l ≤ grid.width) d.lines =
     All-from_get_or (λ l. diagonal l ≤ grid.width) d.lines [] (λ e within.
-    diagonal-le-width grid (line d e) (All-get_or (λ l. is_line l ≡ true) d.lines e [] within lawful.fits.are_lines) (keeps.lines_on_grid e (omega (arith, edges, within)))) in
+    diagonal-le-width grid (line d e) (All-get_or (λ l. is_line l ≡ true) d.lines e [] within lawful.fits.are_lines)
+    (keeps.lines_on_grid e (omega (arith, edges, within)))) in
     subst (λ n. sum_by diagonal d.lines ≤ n * grid.width) edges (sum_by-le diagonal grid.width d.lines each)
 value-le-limit g above grid d lawful Width =
-    coordinate-le (λ p. p.x) grid.width (all_points d) (All-weaker (IsOnGrid grid) (λ p. p.x ≤ grid.width) (λ p on. on.in_width) (all_points d) (points_on_grid g above grid d lawful))
+    coordinate-le (λ p. p.x) grid.width (all_points d) (All-weaker (IsOnGrid grid) (λ p. p.x ≤ grid.width) (λ p on. on.in_width) (all_points d)
+    (points_on_grid g above grid d lawful))

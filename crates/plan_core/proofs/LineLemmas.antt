@@ -5,7 +5,8 @@ use Rattle.std.proofs.lemmas.Bool.{and_parts, false≢true}
 use Rattle.std.proofs.lemmas.List.{length-map}
 use Rattle.plan_core.specs.declared.point.Point.{Point}
 use Rattle.plan_core.specs.declared.point.Slope.{Slope}
-use Rattle.plan_core.specs.Line.{pieces_from, pieces, is_piece, slope, is_shape, is_line, height_from, height, last_from, west_end, east_end, slope_west, slope_east}
+use Rattle.plan_core.specs.Line.{pieces_from, pieces, is_piece, slope, is_shape, is_line, height_from, height, last_from, west_end, east_end, slope_west}
+use Rattle.plan_core.specs.Line.{slope_east}
 use Rattle.plan_core.proofs.PieceLemmas.{Reaches, piece, ArePieces, pieces_by_test, height_from-west, height_from-past, height_from-step, past_first}
 
 few_slopes : (slopes : List Slope) → is_shape slopes ≡ true → length slopes ≤ 3
@@ -63,7 +64,8 @@ height-east_end (a ∷ rest) h = height_from-last a rest (pieces_of a rest h)
 
 -- the slope at an end is the step between two columns
 
-pub step_from_west : (line : List Point) → is_line line ≡ true → Reaches (slope_west line) 1 (height line (west_end line).x) (height line ((west_end line).x + 1))
+pub step_from_west : (line : List Point) → is_line line ≡ true → Reaches (slope_west line) 1 (height line (west_end line).x)
+    (height line ((west_end line).x + 1))
 step_from_west [] h = absurd (false≢true h)
 step_from_west (a ∷ []) h = absurd (false≢true h)
 step_from_west (a ∷ b ∷ rest) h =
@@ -71,7 +73,8 @@ step_from_west (a ∷ b ∷ rest) h =
     let rising = all.0.rising in
     height_from-step a b rest a.x all (omega arith) (omega (arith, rising))
 
-pub step_to_east : (line : List Point) (x : ℕ) → is_line line ≡ true → x + 1 ≡ (east_end line).x → Reaches (slope_east line) 1 (height line x) (height line (x + 1))
+pub step_to_east : (line : List Point) (x : ℕ) → is_line line ≡ true → x + 1 ≡ (east_end line).x →
+    Reaches (slope_east line) 1 (height line x) (height line (x + 1))
 step_to_east [] x h last = absurd (false≢true h)
 step_to_east (a ∷ []) x h last = absurd (false≢true h)
 step_to_east (a ∷ b ∷ []) x h last =

@@ -12,7 +12,8 @@ some_at {A} None P Q x e h = cc
 some_at {A} (Some y) P Q x e h = let same : x ≡ y = cc in subst Q same h
 
 -- an option that is a result's value: there is none at an error, and at some value that is the result's
-pub from_err : {A E : Type 0} (r : Result A E) (o : Option A) (P : A → Type 0) (Q : E → Type 0) (R : Type 0) → MatchResult r P Q → o ≡ result_ok r → o ≡ None → ((e : E) → Q e → R) → R
+pub from_err : {A E : Type 0} (r : Result A E) (o : Option A) (P : A → Type 0) (Q : E → Type 0) (R : Type 0) → MatchResult r P Q → o ≡ result_ok r → o ≡ None →
+    ((e : E) → Q e → R) → R
 from_err (Ok x) o P Q R m e n f = cc
 from_err (Err x) o P Q R m e n f = f x m
 

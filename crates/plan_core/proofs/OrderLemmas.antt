@@ -1,5 +1,6 @@
 -- Criteria that stand once each.
-use Rattle.std.proofs.Common.{◌≡◌, ◌≢◌, ℕ, zero, suc, ◌+◌, ◌<◌, ◌≤◌, true, false, ◌||◌, List, [], ◌∷◌, ◌++◌, length, take, map, get_or, refl, sym, ◌∙◌, ap, subst, arith}
+use Rattle.std.proofs.Common.{◌≡◌, ◌≢◌, ℕ, zero, suc, ◌+◌, ◌<◌, ◌≤◌, true, false, ◌||◌, List, [], ◌∷◌, ◌++◌, length, take, map, get_or, refl, sym, ◌∙◌, ap}
+use Rattle.std.proofs.Common.{subst, arith}
 use Rattle.std.proofs.Math.Dec.{eqb}
 use Rattle.std.specs.Prelude.{AllPairs, Contains}
 use Rattle.std.specs.List.{list_any}
@@ -57,13 +58,15 @@ few_criteria list apart =
     let in_i : i < length list = omega arith in
     let ei : get_or (map rank list) i d ≡ rank (get_or list i Height) = get_or-map rank list i Height d in_i in
     let ej : get_or (map rank list) j d ≡ rank (get_or list j Height) = get_or-map rank list j Height d jn in
-    ne_eqb (get_or (map rank list) i d) (get_or (map rank list) j d) (λ e. apart i j Height less jn (rank_injective (get_or list i Height) (get_or list j Height) (sym ei ∙ e ∙ ej)))
+    ne_eqb (get_or (map rank list) i d) (get_or (map rank list) j d) (λ e. apart i j Height less jn
+    (rank_injective (get_or list i Height) (get_or list j Height) (sym ei ∙ e ∙ ej)))
     in
     let most = length-le_from_distinct_below (map rank list) 4 (IsDistinct-from_apart eqb (map rank list) distinct) (ranks_are_small list) in
     omega (arith, n, most)
 
 -- one more criterion, that isn't among those before it
-pub once_more : (list : List Criterion) (i : ℕ) (c : Criterion) → i < length list → get_or list i c ≡ c → (Contains (take i list) c → ⊥) → AllPairs (λ c d. c ≢ d) (take i list) → AllPairs (λ c d. c ≢ d) (take (i + 1) list)
+pub once_more : (list : List Criterion) (i : ℕ) (c : Criterion) → i < length list → get_or list i c ≡ c → (Contains (take i list) c → ⊥) →
+    AllPairs (λ c d. c ≢ d) (take i list) → AllPairs (λ c d. c ≢ d) (take (i + 1) list)
 once_more list i c within is_c absent apart =
     let P : List Criterion → Type 0 = λ xs. AllPairs (λ c d. c ≢ d) xs in
     let e : take (i + 1) list ≡ take i list ++ c ∷ [] = take_more list i c within ∙ ap (λ x. take i list ++ x ∷ []) is_c in

@@ -1,5 +1,6 @@
 -- A line as facts: where each piece's slope takes it, and so the height over each column.
-use Rattle.std.proofs.Common.{◌≡◌, ℕ, ◌+◌, ◌-◌, ◌<◌, ◌≤◌, ◌⊎◌, inl, inr, Bool, true, false, ◌||◌, ◌==◌, nat_lt, List, [], ◌∷◌, refl, sym, ◌∙◌, ap, subst, arith, ◌*◌}
+use Rattle.std.proofs.Common.{◌≡◌, ℕ, ◌+◌, ◌-◌, ◌<◌, ◌≤◌, ◌⊎◌, inl, inr, Bool, true, false, ◌||◌, ◌==◌, nat_lt, List, [], ◌∷◌, refl, sym, ◌∙◌, ap, subst}
+use Rattle.std.proofs.Common.{arith, ◌*◌}
 use Rattle.std.specs.Prelude.{nat_le, if◌then◌else◌, ⊤}
 use Rattle.std.specs.List.{list_all}
 use Rattle.std.proofs.lemmas.Bool.{and_parts, or_cases, ltb-true, ltb-false, leb-true, le-leb, eqb-true}
@@ -44,7 +45,8 @@ rises y z n h = elim (or_cases (z == y || z == y + n) (y == z + n) h) [
   | inr down ↦ inr (inr (eqb-true y (z + n) down))
 ]
 
-reaches_by : (up down : Bool) (y z n : ℕ) → nat_lt y z ≡ up → nat_lt z y ≡ down → (z ≡ y) ⊎ ((z ≡ y + n) ⊎ (y ≡ z + n)) → Reaches (if up then Up else (if down then Down else Level)) n y z
+reaches_by : (up down : Bool) (y z n : ℕ) → nat_lt y z ≡ up → nat_lt z y ≡ down → (z ≡ y) ⊎ ((z ≡ y + n) ⊎ (y ≡ z + n)) →
+    Reaches (if up then Up else (if down then Down else Level)) n y z
 reaches_by true down y z n goes_up goes_down h =
     let less : y < z = ltb-true y z goes_up in
     elim h [ inl level ↦ absurd (omega (arith, less, level)) | inr (inl up) ↦ up | inr (inr falls) ↦ absurd (omega (arith, less, falls)) ]
@@ -128,14 +130,17 @@ height_from-past a b rest x h past =
     ] refl
 
 -- one column further over the first piece
-pub height_from-step : (a b : Point) (rest : List Point) (x : ℕ) → ArePieces a (b ∷ rest) → a.x ≤ x → x < b.x → Reaches (slope (piece a b)) 1 (height_from a (b ∷ rest) x) (height_from a (b ∷ rest) (x + 1))
+pub height_from-step : (a b : Point) (rest : List Point) (x : ℕ) → ArePieces a (b ∷ rest) → a.x ≤ x → x < b.x →
+    Reaches (slope (piece a b)) 1 (height_from a (b ∷ rest) x) (height_from a (b ∷ rest) (x + 1))
 height_from-step a b rest x h from to =
     let s = slope (piece a b) in
     subst (λ y. Reaches s 1 y (height_from a (b ∷ rest) (x + 1))) (sym (height_from-first a b rest x (omega (arith, to))))
-    (subst (λ y. Reaches s 1 (height_on (piece a b) x) y) (sym (height_from-first a b rest (x + 1) (omega (arith, to)))) (height_on-step (piece a b) x h.0 from to))
+    (subst (λ y. Reaches s 1 (height_on (piece a b) x) y) (sym (height_from-first a b rest (x + 1) (omega (arith, to))))
+    (height_on-step (piece a b) x h.0 from to))
 
 -- past the first piece a step is one of what is left
-pub past_first : (a b : Point) (rest : List Point) (s : Slope) (x : ℕ) → ArePieces a (b ∷ rest) → b.x ≤ x → Reaches s 1 (height_from b rest x) (height_from b rest (x + 1)) → Reaches s 1 (height_from a (b ∷ rest) x) (height_from a (b ∷ rest) (x + 1))
+pub past_first : (a b : Point) (rest : List Point) (s : Slope) (x : ℕ) → ArePieces a (b ∷ rest) → b.x ≤ x →
+    Reaches s 1 (height_from b rest x) (height_from b rest (x + 1)) → Reaches s 1 (height_from a (b ∷ rest) x) (height_from a (b ∷ rest) (x + 1))
 past_first a b rest s x h past step =
     subst (λ y. Reaches s 1 y (height_from a (b ∷ rest) (x + 1))) (sym (height_from-past a b rest x h past))
     (subst (λ y. Reaches s 1 (height_from b rest x) y) (sym (height_from-past a b rest (x + 1) h (omega (arith, past)))) step)

@@ -7,7 +7,8 @@ use Rattle.plan_core.specs.Graph.{Graph, End, Joint}
 use Rattle.plan_core.specs.Drawing.{Drawing, drawing}
 use Rattle.plan_core.specs.Lawful.{Instance, NodeOnGrid, LineOnGrid, Ordered, Joined, Aligned, Apart, Over, Parted}
 use Rattle.plan_core.specs.Values.{values_of}
-use Rattle.plan_core.specs.Examples.{point_at, node_at_metres, joining, track_graph, measured, usual_grid, one_graph, none_above, loop_graph, loop_above, back_graph, cross_graph, cross_above, two_graph, scissors_graph, scissors_above, station_graph, station_above}
+use Rattle.plan_core.specs.Examples.{point_at, node_at_metres, joining, track_graph, measured, usual_grid, one_graph, none_above, loop_graph, loop_above}
+use Rattle.plan_core.specs.Examples.{back_graph, cross_graph, cross_above, two_graph, scissors_graph, scissors_above, station_graph, station_above}
 use Rattle.plan_core.specs.Breaches.{meeting_graph, parted_graph, joined_graph}
 use Rattle.plan_core.proofs.LawfulTest.{broken}
 
@@ -421,7 +422,8 @@ cross_7 = record { laws = refl; values = refl }
 -- scissors
 
 scissors_1 : IsJudged scissors_graph scissors_above
-    (drawing (point_at 35 0 ∷ point_at 39 0 ∷ point_at 36 0 ∷ point_at 38 0 ∷ point_at 35 2 ∷ point_at 39 2 ∷ point_at 36 2 ∷ point_at 38 2 ∷ point_at 37 1 ∷ [])
+    (drawing (point_at 35 0 ∷ point_at 39 0 ∷ point_at 36 0 ∷ point_at 38 0 ∷ point_at 35 2 ∷ point_at 39 2 ∷ point_at 36 2 ∷ point_at 38 2 ∷ point_at 37 1
+    ∷ [])
     ((point_at 35 0 ∷ point_at 36 0 ∷ []) ∷ (point_at 36 0 ∷ point_at 38 0 ∷ []) ∷ (point_at 38 0 ∷ point_at 39 0 ∷ [])
     ∷ (point_at 35 2 ∷ point_at 36 2 ∷ []) ∷ (point_at 36 2 ∷ point_at 38 2 ∷ []) ∷ (point_at 38 2 ∷ point_at 39 2 ∷ [])
     ∷ (point_at 36 0 ∷ point_at 37 1 ∷ []) ∷ (point_at 37 1 ∷ point_at 38 2 ∷ []) ∷ (point_at 37 1 ∷ point_at 38 0 ∷ [])
@@ -440,7 +442,8 @@ scissors_2 : IsJudged scissors_graph scissors_above
 scissors_2 = record { laws = refl; values = refl }
 
 scissors_3 : IsJudged scissors_graph scissors_above
-    (drawing (point_at 37 1 ∷ point_at 41 1 ∷ point_at 38 1 ∷ point_at 40 1 ∷ point_at 37 3 ∷ point_at 41 3 ∷ point_at 38 3 ∷ point_at 40 3 ∷ point_at 39 2 ∷ [])
+    (drawing (point_at 37 1 ∷ point_at 41 1 ∷ point_at 38 1 ∷ point_at 40 1 ∷ point_at 37 3 ∷ point_at 41 3 ∷ point_at 38 3 ∷ point_at 40 3 ∷ point_at 39 2
+    ∷ [])
     ((point_at 37 1 ∷ point_at 38 1 ∷ []) ∷ (point_at 38 1 ∷ point_at 40 1 ∷ []) ∷ (point_at 40 1 ∷ point_at 41 1 ∷ [])
     ∷ (point_at 37 3 ∷ point_at 38 3 ∷ []) ∷ (point_at 38 3 ∷ point_at 40 3 ∷ []) ∷ (point_at 40 3 ∷ point_at 41 3 ∷ [])
     ∷ (point_at 38 1 ∷ point_at 39 2 ∷ []) ∷ (point_at 39 2 ∷ point_at 40 3 ∷ []) ∷ (point_at 39 2 ∷ point_at 40 1 ∷ [])

@@ -5,10 +5,13 @@ use Rattle.plan_core.specs.Grid.{GridSize}
 use Rattle.plan_core.specs.Graph.{Graph}
 use Rattle.plan_core.specs.Drawing.{Drawing}
 use Rattle.plan_core.specs.Values.{values_of}
-use Rattle.plan_core.specs.Examples.{measured, usual_grid, roomy_grid, roomy_drawing, IsWorked, one_graph, none_above, one_drawing, loop_graph, loop_above, loop_drawing, back_graph, back_drawing, cross_graph, cross_above, cross_drawing, two_graph, two_drawing, scissors_graph, scissors_above, scissors_drawing, station_graph, station_above, station_drawing, farthest_drawing}
+use Rattle.plan_core.specs.Examples.{measured, usual_grid, roomy_grid, roomy_drawing, IsWorked, one_graph, none_above, one_drawing, loop_graph, loop_above}
+use Rattle.plan_core.specs.Examples.{loop_drawing, back_graph, back_drawing, cross_graph, cross_above, cross_drawing, two_graph, two_drawing, scissors_graph}
+use Rattle.plan_core.specs.Examples.{scissors_above, scissors_drawing, station_graph, station_above, station_drawing, farthest_drawing}
 use Rattle.plan_core.proofs.LawfulTest.{is_lawful, is_track_graph, lawful_by_test, track_graph_by_test}
 
-worked : (g : Graph) (above : ℕ → ℕ → Bool) (grid : GridSize) (d : Drawing) (v : Values) → (is_track_graph g).passes ≡ true → (is_lawful g above grid d).passes ≡ true → values_of d ≡ v → IsWorked g above grid d v
+worked : (g : Graph) (above : ℕ → ℕ → Bool) (grid : GridSize) (d : Drawing) (v : Values) → (is_track_graph g).passes ≡ true →
+    (is_lawful g above grid d).passes ≡ true → values_of d ≡ v → IsWorked g above grid d v
 worked g above grid d v g_passes d_passes e = record {
   graph = track_graph_by_test g g_passes;
   lawful = lawful_by_test g above grid d d_passes;

@@ -14,7 +14,8 @@ left order i c within is_c =
     at_drop_more (λ xs. xs) order i c within ∙ ap (λ x. x ∷ drop (i + 1) order) (get_or_from_slice_get order i c c is_c)
 
 -- where the two values are equal the rest decides
-pub equal_values : (order : List Criterion) (i : ℕ) (c : Criterion) (a b : Values) → i < length order → slice_get order i ≡ Some c → value_of a c ≡ value_of b c → Better (drop i order) a b ↔ Better order a b → Better (drop (i + 1) order) a b ↔ Better order a b
+pub equal_values : (order : List Criterion) (i : ℕ) (c : Criterion) (a b : Values) → i < length order → slice_get order i ≡ Some c →
+    value_of a c ≡ value_of b c → Better (drop i order) a b ↔ Better order a b → Better (drop (i + 1) order) a b ↔ Better order a b
 equal_values order i c a b within is_c same so_far =
     let P : List Criterion → Type 0 = λ xs. Better xs a b in
     let e = left order i c within is_c in (
@@ -23,7 +24,9 @@ equal_values order i c a b within is_c same so_far =
     )
 
 -- where they differ, these two decide
-pub different_values : (order : List Criterion) (i : ℕ) (c : Criterion) (a b : Values) (first second : ℕ) → i < length order → slice_get order i ≡ Some c → first ≡ value_of a c → second ≡ value_of b c → first ≢ second → Better (drop i order) a b ↔ Better order a b → (nat_lt first second ≡ true) ↔ Better order a b
+pub different_values : (order : List Criterion) (i : ℕ) (c : Criterion) (a b : Values) (first second : ℕ) → i < length order → slice_get order i ≡ Some c →
+    first ≡ value_of a c → second ≡ value_of b c → first ≢ second → Better (drop i order) a b ↔ Better order a b →
+    (nat_lt first second ≡ true) ↔ Better order a b
 different_values order i c a b first second within is_c first_is second_is apart so_far =
     let P : List Criterion → Type 0 = λ xs. Better xs a b in
     let e = left order i c within is_c in

@@ -17,7 +17,8 @@ abbrev pub greatest_of : (Point → ℕ) → List (List Point) → ℕ
 greatest_of coordinate lines = maximum (map coordinate (flat_map (λ line. line) lines))
 
 -- one list more
-pub greatest_step : (coordinate : Point → ℕ) (lines : List (List Point)) (i : ℕ) (d : List Point) → i < length lines → greatest_of coordinate (drop i lines) ≡ max (maximum (map coordinate (get_or lines i d))) (greatest_of coordinate (drop (i + 1) lines))
+pub greatest_step : (coordinate : Point → ℕ) (lines : List (List Point)) (i : ℕ) (d : List Point) → i < length lines →
+    greatest_of coordinate (drop i lines) ≡ max (maximum (map coordinate (get_or lines i d))) (greatest_of coordinate (drop (i + 1) lines))
 greatest_step coordinate lines i d within =
     let rest = flat_map (λ (line : List Point). line) (drop (i + 1) lines) in
     at_drop_more (greatest_of coordinate) lines i d within

@@ -1,5 +1,6 @@
 -- Mileages rise or fall along a track throughout, so a signal between the nodes at its track's ends is on its edge.
-use Rattle.std.proofs.Common.{◌≡◌, ◌⊎◌, ℕ, zero, suc, ◌<◌, ◌≤◌, ◌+◌, Bool, true, false, not, cond, ℤ, List, [], ◌∷◌, ◌++◌, map, length, Option, Some, None, slice_get, get_or, refl, sym, ◌∙◌, ap, subst, inl, inr, arith}
+use Rattle.std.proofs.Common.{◌≡◌, ◌⊎◌, ℕ, zero, suc, ◌<◌, ◌≤◌, ◌+◌, Bool, true, false, not, cond, ℤ, List, [], ◌∷◌, ◌++◌, map, length, Option, Some, None}
+use Rattle.std.proofs.Common.{slice_get, get_or, refl, sym, ◌∙◌, ap, subst, inl, inr, arith}
 use Rattle.std.specs.Prelude.{◌<ℤ◌, ◌≤ℤ◌, int_lt, int_le, nat_eq, count_by}
 use Rattle.std.specs.Option.{option_map_or}
 use Rattle.std.proofs.lemmas.Int.{ints}
@@ -56,13 +57,19 @@ crossing_apart hand a b c d East East West East ports e = absurd (none-some port
 crossing_apart hand a b c d East East East West ports e = absurd (none-some ports e)
 crossing_apart hand a b c d East East East East ports e = absurd (none-some ports e)
 
-opposite : (t : Topology) (side : ℕ → Compass) (before after : ℕ) (what : InnerKind) (ports : Ports) → ports_of side (inner_meeting t before after what) ≡ Some ports → side before ≡ side after → ⊥
-opposite t side before after (Switch true hand true conn) ports e same = (switch_apart hand before (edge_beyond t conn) after (side before) (side (edge_beyond t conn)) (side after) ports e).1 same
-opposite t side before after (Switch true hand false conn) ports e same = (switch_apart hand before after (edge_beyond t conn) (side before) (side after) (side (edge_beyond t conn)) ports e).0 same
-opposite t side before after (Switch false hand true conn) ports e same = (switch_apart hand after (edge_beyond t conn) before (side after) (side (edge_beyond t conn)) (side before) ports e).1 (sym same)
-opposite t side before after (Switch false hand false conn) ports e same = (switch_apart hand after before (edge_beyond t conn) (side after) (side before) (side (edge_beyond t conn)) ports e).0 (sym same)
+opposite : (t : Topology) (side : ℕ → Compass) (before after : ℕ) (what : InnerKind) (ports : Ports) →
+    ports_of side (inner_meeting t before after what) ≡ Some ports → side before ≡ side after → ⊥
+opposite t side before after (Switch true hand true conn) ports e same = (switch_apart hand before (edge_beyond t conn) after (side before)
+    (side (edge_beyond t conn)) (side after) ports e).1 same
+opposite t side before after (Switch true hand false conn) ports e same = (switch_apart hand before after (edge_beyond t conn) (side before) (side after)
+    (side (edge_beyond t conn)) ports e).0 same
+opposite t side before after (Switch false hand true conn) ports e same = (switch_apart hand after (edge_beyond t conn) before (side after)
+    (side (edge_beyond t conn)) (side before) ports e).1 (sym same)
+opposite t side before after (Switch false hand false conn) ports e same = (switch_apart hand after before (edge_beyond t conn) (side after) (side before)
+    (side (edge_beyond t conn)) ports e).0 (sym same)
 opposite t side before after (Crossing hand incoming outgoing) ports e same =
-    crossing_apart hand before after (edge_beyond t incoming) (edge_beyond t outgoing) (side before) (side after) (side (edge_beyond t incoming)) (side (edge_beyond t outgoing)) ports e same
+    crossing_apart hand before after (edge_beyond t incoming) (edge_beyond t outgoing) (side before) (side after) (side (edge_beyond t incoming))
+    (side (edge_beyond t outgoing)) ports e same
 
 -- ---- rising and falling
 
@@ -109,20 +116,23 @@ unpassed_next false z x y n e = grind (arith, ints)
 abbrev Steps : Bool → List Inner → Type 0
 Steps up xs = (i : ℕ) (x y : Inner) → slice_get xs i ≡ Some x → slice_get xs (suc i) ≡ Some y → Next up x.mile.0 y.mile.0
 
-count_cons : (up : Bool) (z : ℤ) (x : Inner) (xs : List Inner) (b : Bool) → is_passed up z x ≡ b → count_by (is_passed up z) (x ∷ xs) ≡ cond b 1 0 + count_by (is_passed up z) xs
+count_cons : (up : Bool) (z : ℤ) (x : Inner) (xs : List Inner) (b : Bool) → is_passed up z x ≡ b →
+    count_by (is_passed up z) (x ∷ xs) ≡ cond b 1 0 + count_by (is_passed up z) xs
 count_cons up z x xs b e = sum_by-cons (λ y. cond (is_passed up z y) 1 0) x xs ∙ ap (λ (c : Bool). cond c 1 0 + count_by (is_passed up z) xs) e
 
 nothing : (m n : ℕ) → m ≡ 0 + n → n ≡ 0 → m ≡ 0
 nothing m n e f = omega (arith, e, f)
 
-none_behind : (up : Bool) (z : ℤ) (x : Inner) (xs : List Inner) → Steps up (x ∷ xs) → is_passed up z x ≡ false → (count_by (is_passed up z) xs ≡ 0) × ((i : ℕ) (y : Inner) → slice_get xs i ≡ Some y → is_passed up z y ≡ false)
+none_behind : (up : Bool) (z : ℤ) (x : Inner) (xs : List Inner) → Steps up (x ∷ xs) → is_passed up z x ≡ false →
+    (count_by (is_passed up z) xs ≡ 0) × ((i : ℕ) (y : Inner) → slice_get xs i ≡ Some y → is_passed up z y ≡ false)
 none_behind up z x [] steps not_yet = (refl, λ i y e. absurd (none-some y e))
 none_behind up z x (w ∷ ws) steps not_yet =
     let here = unpassed_next up z x w (steps 0 x w refl refl) not_yet in
     let rest = none_behind up z w ws (λ i a b e f. steps (suc i) a b e f) here in
     (nothing (count_by (is_passed up z) (w ∷ ws)) (count_by (is_passed up z) ws) (count_cons up z w ws false here) rest.0, behind here rest.1)
   where
-    behind : is_passed up z w ≡ false → ((i : ℕ) (y : Inner) → slice_get ws i ≡ Some y → is_passed up z y ≡ false) → (i : ℕ) (y : Inner) → slice_get (w ∷ ws) i ≡ Some y → is_passed up z y ≡ false
+    behind : is_passed up z w ≡ false → ((i : ℕ) (y : Inner) → slice_get ws i ≡ Some y → is_passed up z y ≡ false) → (i : ℕ) (y : Inner) →
+    slice_get (w ∷ ws) i ≡ Some y → is_passed up z y ≡ false
     behind here rest zero y e = subst (λ (v : Inner). is_passed up z v ≡ false) (same_Some w y e) here
     behind here rest (suc i) y e = rest i y e
 
@@ -144,7 +154,8 @@ splits up z (w ∷ ws) steps zero x e = elim (true_or_false (is_passed up z w)) 
         behind = λ few. absurd (omega (arith, n, few));
       }
   | inr fails ↦
-      let n = nothing (count_by (is_passed up z) (w ∷ ws)) (count_by (is_passed up z) ws) (count_cons up z w ws false fails) (none_behind up z w ws steps fails).0 in
+      let n = nothing (count_by (is_passed up z) (w ∷ ws)) (count_by (is_passed up z) ws) (count_cons up z w ws false fails)
+      (none_behind up z w ws steps fails).0 in
       record {
         before = λ less. absurd (omega (arith, n, less));
         behind = λ few. unpassed_so up z x (subst (λ (v : Inner). is_passed up z v ≡ false) (same_Some w x e) fails);
@@ -193,7 +204,8 @@ last_or_before i n low = elim (cases_lt i n) [
 
 -- ---- along a track: its spots are numbered from 0 at the begin, and piece i lies between spots i and i + 1
 
-module _ (t : Topology) (g : Graph) (k : ℕ) (track : Track) (on : slice_get t.tracks k ≡ Some track) (resolved : IsResolved t) (graph : IsStationGraphOf t g) where
+module _ (t : Topology) (g : Graph) (k : ℕ) (track : Track) (on : slice_get t.tracks k ≡ Some track) (resolved : IsResolved t)
+    (graph : IsStationGraphOf t g) where
   abbrev mile : ℕ → ℤ
   mile i = (get_or (spots_along t track) i (leads_to t track.begin)).mile.0
 
@@ -209,19 +221,26 @@ module _ (t : Topology) (g : Graph) (k : ℕ) (track : Track) (on : slice_get t.
       let w = get_within (spots_along t track) i (omega (arith, low, top)) in
       w.1 ∙ sym (ap Some (get_or_from_slice_get (spots_along t track) i w.0 (leads_to t track.begin) w.1))
 
-  run : (i : ℕ) → i ≤ length track.inner → IsRun t (number i) (record { track = track.id; from = get_or (spots_along t track) i (leads_to t track.begin); to = get_or (spots_along t track) (suc i) (leads_to t track.begin) })
-  run i low = inl (piece_at t k i track (get_or (spots_along t track) i (leads_to t track.begin)) (get_or (spots_along t track) (suc i) (leads_to t track.begin)) on (there i (omega (arith, low))) (there (suc i) (omega (arith, low))))
+  run : (i : ℕ) → i ≤ length track.inner → IsRun t (number i) (record {
+  track = track.id; from = get_or (spots_along t track) i (leads_to t track.begin); to = get_or (spots_along t track) (suc i) (leads_to t track.begin)
+  })
+  run i low = inl (piece_at t k i track (get_or (spots_along t track) i (leads_to t track.begin))
+  (get_or (spots_along t track) (suc i) (leads_to t track.begin)) on (there i (omega (arith, low))) (there (suc i) (omega (arith, low))))
 
   from_mile : (i : ℕ) → i ≤ length track.inner → mileage g (node_number t (place i)) ≡ mile i
   from_mile i low =
-      let w = run_site_from t resolved (number i) (record { track = track.id; from = get_or (spots_along t track) i (leads_to t track.begin); to = get_or (spots_along t track) (suc i) (leads_to t track.begin) }) (run i low) in
+      let w = run_site_from t resolved (number i) (record {
+      track = track.id; from = get_or (spots_along t track) i (leads_to t track.begin); to = get_or (spots_along t track) (suc i) (leads_to t track.begin)
+      }) (run i low) in
       let at = w.at in
       let is = (graph.graph.each w.site (contains_in (sites t) w.site w.there)).mileage in
       cc
 
   to_mile : (i : ℕ) → i ≤ length track.inner → mileage g (node_number t (place (suc i))) ≡ mile (suc i)
   to_mile i low =
-      let w = run_site_to t resolved (number i) (record { track = track.id; from = get_or (spots_along t track) i (leads_to t track.begin); to = get_or (spots_along t track) (suc i) (leads_to t track.begin) }) (run i low) in
+      let w = run_site_to t resolved (number i) (record {
+      track = track.id; from = get_or (spots_along t track) i (leads_to t track.begin); to = get_or (spots_along t track) (suc i) (leads_to t track.begin)
+      }) (run i low) in
       let at = w.at in
       let is = (graph.graph.each w.site (contains_in (sites t) w.site w.there)).mileage in
       cc
@@ -233,30 +252,44 @@ module _ (t : Topology) (g : Graph) (k : ℕ) (track : Track) (on : slice_get t.
     east : (edge g (number i)).east ≡ node_number t (cond up (place (suc i)) (place i))
 
   forward : (i : ℕ) → i ≤ length track.inner → mileage g (edge g (number i)).west <ℤ mileage g (edge g (number i)).east
-  forward i low = graph.station.track_graph.forward (number i) (edge_within t g.edges (number i) (record { track = track.id; from = get_or (spots_along t track) i (leads_to t track.begin); to = get_or (spots_along t track) (suc i) (leads_to t track.begin) }) graph.graph.edges (run i low))
+  forward i low = graph.station.track_graph.forward (number i) (edge_within t g.edges (number i) (record {
+  track = track.id; from = get_or (spots_along t track) i (leads_to t track.begin); to = get_or (spots_along t track) (suc i) (leads_to t track.begin)
+  }) graph.graph.edges (run i low))
 
-  lower : (i m n : ℕ) → i ≤ length track.inner → (edge g (number i)).west ≡ node_number t m → (edge g (number i)).east ≡ node_number t n → mileage g (node_number t m) <ℤ mileage g (node_number t n)
-  lower i m n low west east = subst (λ (a : ℕ). mileage g a <ℤ mileage g (node_number t n)) west (subst (λ (b : ℕ). mileage g (edge g (number i)).west <ℤ mileage g b) east (forward i low))
+  lower : (i m n : ℕ) → i ≤ length track.inner → (edge g (number i)).west ≡ node_number t m → (edge g (number i)).east ≡ node_number t n →
+  mileage g (node_number t m) <ℤ mileage g (node_number t n)
+  lower i m n low west east = subst (λ (a : ℕ). mileage g a <ℤ mileage g (node_number t n)) west
+  (subst (λ (b : ℕ). mileage g (edge g (number i)).west <ℤ mileage g b) east (forward i low))
 
   next_miles : (a b c d : ℤ) → a <ℤ b → a ≡ c → b ≡ d → c <ℤ d
   next_miles a b c d less e f = subst (λ z. z <ℤ d) e (subst (λ z. a <ℤ z) f less)
 
   goes : (i : ℕ) → i ≤ length track.inner → (up : Bool) × Goes i up
   goes i low =
-      let is = edge_is t g.edges (number i) (record { track = track.id; from = get_or (spots_along t track) i (leads_to t track.begin); to = get_or (spots_along t track) (suc i) (leads_to t track.begin) }) graph.graph.edges (run i low) in
+      let is = edge_is t g.edges (number i) (record {
+      track = track.id; from = get_or (spots_along t track) i (leads_to t track.begin); to = get_or (spots_along t track) (suc i) (leads_to t track.begin)
+      }) graph.graph.edges (run i low) in
       let west = ap (λ (x : Edge). x.west) is in
       let east = ap (λ (x : Edge). x.east) is in
-      elim (west_cases (record { track = track.id; from = get_or (spots_along t track) i (leads_to t track.begin); to = get_or (spots_along t track) (suc i) (leads_to t track.begin) })) [
+      elim (west_cases (record {
+      track = track.id; from = get_or (spots_along t track) i (leads_to t track.begin); to = get_or (spots_along t track) (suc i) (leads_to t track.begin)
+      })) [
         | inl c ↦
             (let a = c.0 in let b = c.1 in
             let from : (edge g (number i)).west ≡ node_number t (place i) = cc in
             let to : (edge g (number i)).east ≡ node_number t (place (suc i)) = cc in
-            (true, record { next = next_miles (mileage g (node_number t (place i))) (mileage g (node_number t (place (suc i)))) (mile i) (mile (suc i)) (lower i (place i) (place (suc i)) low from to) (from_mile i low) (to_mile i low); west = from; east = to }))
+            (true, record {
+            next = next_miles (mileage g (node_number t (place i))) (mileage g (node_number t (place (suc i)))) (mile i) (mile (suc i))
+            (lower i (place i) (place (suc i)) low from to) (from_mile i low) (to_mile i low); west = from; east = to
+            }))
         | inr c ↦
             (let a = c.0 in let b = c.1 in
             let from : (edge g (number i)).west ≡ node_number t (place (suc i)) = cc in
             let to : (edge g (number i)).east ≡ node_number t (place i) = cc in
-            (false, record { next = next_miles (mileage g (node_number t (place (suc i)))) (mileage g (node_number t (place i))) (mile (suc i)) (mile i) (lower i (place (suc i)) (place i) low from to) (to_mile i low) (from_mile i low); west = from; east = to }))
+            (false, record {
+            next = next_miles (mileage g (node_number t (place (suc i)))) (mileage g (node_number t (place i))) (mile (suc i)) (mile i)
+            (lower i (place (suc i)) (place i) low from to) (to_mile i low) (from_mile i low); west = from; east = to
+            }))
       ]
 
   numbers_differ : (i : ℕ) (up : Bool) → i ≤ length track.inner → Next up (mile i) (mile (suc i)) → node_number t (place i) ≡ node_number t (place (suc i)) → ⊥
@@ -268,10 +301,12 @@ module _ (t : Topology) (g : Graph) (k : ℕ) (track : Track) (on : slice_get t.
 
   from_side : (i : ℕ) (up : Bool) → i ≤ length track.inner → Goes i up → side_at g.edges (node_number t (place i)) (number i) ≡ cond up East West
   from_side i true low h = ap (λ (b : Bool). cond b East West) (same_numbers (edge g (number i)).west (node_number t (place i)) h.west)
-  from_side i false low h = ap (λ (b : Bool). cond b East West) (other_numbers (edge g (number i)).west (node_number t (place i)) (λ s. numbers_differ i false low h.next (sym s ∙ h.west)))
+  from_side i false low h = ap (λ (b : Bool). cond b East West) (other_numbers (edge g (number i)).west (node_number t (place i))
+  (λ s. numbers_differ i false low h.next (sym s ∙ h.west)))
 
   to_side : (i : ℕ) (up : Bool) → i ≤ length track.inner → Goes i up → side_at g.edges (node_number t (place (suc i))) (number i) ≡ cond up West East
-  to_side i true low h = ap (λ (b : Bool). cond b East West) (other_numbers (edge g (number i)).west (node_number t (place (suc i))) (λ s. numbers_differ i true low h.next (sym h.west ∙ s)))
+  to_side i true low h = ap (λ (b : Bool). cond b East West) (other_numbers (edge g (number i)).west (node_number t (place (suc i)))
+  (λ s. numbers_differ i true low h.next (sym h.west ∙ s)))
   to_side i false low h = ap (λ (b : Bool). cond b East West) (same_numbers (edge g (number i)).west (node_number t (place (suc i))) h.west)
 
   inner_is : (i : ℕ) (x : Inner) → slice_get track.inner i ≡ Some x → get_or (spots_along t track) (suc i) (leads_to t track.begin) ≡ inner_spot x
@@ -284,7 +319,8 @@ module _ (t : Topology) (g : Graph) (k : ℕ) (track : Track) (on : slice_get t.
   inner_mile i x is = let e = inner_is i x is in cc
 
   end_mile : mile (suc (length track.inner)) ≡ (leads_to t track.end).mile.0
-  end_mile = let e = get_or_from_slice_get (spots_along t track) (suc (length track.inner)) (leads_to t track.end) (leads_to t track.begin) (spot_of_end t track) in cc
+  end_mile = let e = get_or_from_slice_get (spots_along t track) (suc (length track.inner)) (leads_to t track.end) (leads_to t track.begin)
+  (spot_of_end t track) in cc
 
   -- past a switch or crossing the track goes on the same way
   goes_on : (up : Bool) (i : ℕ) (x : Inner) → slice_get track.inner i ≡ Some x → Goes i up → Goes (suc i) up
@@ -296,12 +332,14 @@ module _ (t : Topology) (g : Graph) (k : ℕ) (track : Track) (on : slice_get t.
       let here = ap (node_number t) (inner_place i x is) in
       let apart : side_at g.edges (node_number t (place (suc i))) (number i) ≡ side_at g.edges (node_number t (place (suc i))) (number (suc i)) → ⊥ =
       λ same. opposite t (side_at g.edges here_number) (number i) (number (i + 1)) x.what (node g here_number).ports node_is.ports
-      (ap (λ (n : ℕ). side_at g.edges n (number i)) (sym here) ∙ same ∙ ap (λ (n : ℕ). side_at g.edges n (number (suc i))) here ∙ ap (λ (j : ℕ). side_at g.edges here_number (number j)) next) in
+      (ap (λ (n : ℕ). side_at g.edges n (number i)) (sym here) ∙ same ∙ ap (λ (n : ℕ). side_at g.edges n (number (suc i))) here
+      ∙ ap (λ (j : ℕ). side_at g.edges here_number (number j)) next) in
       let way = goes (suc i) low in
       follows up way.0 way.1 (to_side i up (omega (arith, low)) h) (from_side (suc i) way.0 low way.1) apart
     where
       follows : (up on_up : Bool) → Goes (suc i) on_up →
-          side_at g.edges (node_number t (place (suc i))) (number i) ≡ cond up West East → side_at g.edges (node_number t (place (suc i))) (number (suc i)) ≡ cond on_up East West →
+          side_at g.edges (node_number t (place (suc i))) (number i) ≡ cond up West East →
+          side_at g.edges (node_number t (place (suc i))) (number (suc i)) ≡ cond on_up East West →
           (side_at g.edges (node_number t (place (suc i))) (number i) ≡ side_at g.edges (node_number t (place (suc i))) (number (suc i)) → ⊥) → Goes (suc i) up
       follows true true g s r apart = g
       follows false false g s r apart = g
@@ -314,7 +352,8 @@ module _ (t : Topology) (g : Graph) (k : ℕ) (track : Track) (on : slice_get t.
 
   module _ (up : Bool) (way : (i : ℕ) → i ≤ length track.inner → Goes i up) where
     steps : Steps up track.inner
-    steps i x y is is' = by up (way (suc i) (let lt = slice_get_within track.inner (suc i) y is' in omega (arith, lt))).next (inner_mile i x is) (inner_mile (suc i) y is')
+    steps i x y is is' = by up (way (suc i) (let lt = slice_get_within track.inner (suc i) y is' in omega (arith, lt))).next (inner_mile i x is)
+    (inner_mile (suc i) y is')
       where
         by : (up : Bool) → Next up (mile (suc i)) (mile (suc (suc i))) → mile (suc i) ≡ x.mile.0 → mile (suc (suc i)) ≡ y.mile.0 → Next up x.mile.0 y.mile.0
         by true n e f = next_miles (mile (suc i)) (mile (suc (suc i))) x.mile.0 y.mile.0 n e f
@@ -334,15 +373,18 @@ module _ (t : Topology) (g : Graph) (k : ℕ) (track : Track) (on : slice_get t.
 
     -- so many switches and crossings are passed, whichever way the track goes
     passed_by : (z : ℤ) (xs : List Inner) → track.inner ≡ xs → piece_passed t g k track z ≡ count_by (is_passed up z) track.inner
-    passed_by z [] e = ap (λ (ys : List Inner). count_by (is_passed (goes_east t g k track) z) ys) e ∙ sym (ap (λ (ys : List Inner). count_by (is_passed up z) ys) e)
+    passed_by z [] e = ap (λ (ys : List Inner). count_by (is_passed (goes_east t g k track) z) ys) e
+    ∙ sym (ap (λ (ys : List Inner). count_by (is_passed up z) ys) e)
     passed_by z (x ∷ xs) e =
         let is : slice_get track.inner 0 ≡ Some x = ap (λ (ys : List Inner). slice_get ys 0) e in
-        ap (λ (b : Bool). count_by (is_passed b z) track.inner) (ap (λ (o : Option Inner). option_map_or (λ (y : Inner). nat_eq (edge g (number 0)).east (node_number t y.at)) o true) is ∙ east_so x is)
+        ap (λ (b : Bool). count_by (is_passed b z) track.inner) (ap (λ (o : Option Inner). option_map_or
+        (λ (y : Inner). nat_eq (edge g (number 0)).east (node_number t y.at)) o true) is ∙ east_so x is)
 
     -- the piece that a mileage is on
     module _ (z : ℤ) (along : IsAlong t track z) where
       ends : AtMost up (mile 0) z × AtMost up z (mile (suc (length track.inner)))
-      ends = within up (mile 0) (mile (suc (length track.inner))) z (far (length track.inner) (omega arith)) (subst (λ (y : ℤ). LiesBetween (mile 0) y z) (sym end_mile) along)
+      ends = within up (mile 0) (mile (suc (length track.inner))) z (far (length track.inner) (omega arith))
+      (subst (λ (y : ℤ). LiesBetween (mile 0) y z) (sym end_mile) along)
 
       after_spot : (i : ℕ) → i ≡ count_by (is_passed up z) track.inner → AtMost up (mile i) z
       after_spot zero e = ends.0
@@ -357,7 +399,8 @@ module _ (t : Topology) (g : Graph) (k : ℕ) (track : Track) (on : slice_get t.
           let x = get_within track.inner i low in
           subst (λ (y : ℤ). AtMost up z y) (sym (inner_mile i x.0 x.1)) ((splits up z track.inner steps i x.0 x.1).behind (omega (arith, e)))
 
-      on_run : (up : Bool) (i : ℕ) → i ≤ length track.inner → Goes i up → AtMost up (mile i) z → AtMost up z (mile (suc i)) → (mileage g (edge g (number i)).west ≤ℤ z) × (z ≤ℤ mileage g (edge g (number i)).east)
+      on_run : (up : Bool) (i : ℕ) → i ≤ length track.inner → Goes i up → AtMost up (mile i) z → AtMost up z (mile (suc i)) →
+      (mileage g (edge g (number i)).west ≤ℤ z) × (z ≤ℤ mileage g (edge g (number i)).east)
       on_run true i low h a b = (
         subst (λ y. y ≤ℤ z) (sym (ap (mileage g) h.west ∙ from_mile i low)) a,
         subst (λ y. z ≤ℤ y) (sym (ap (mileage g) h.east ∙ to_mile i low)) b,
@@ -373,13 +416,15 @@ module _ (t : Topology) (g : Graph) (k : ℕ) (track : Track) (on : slice_get t.
           let low : i ≤ length track.inner = omega (arith, few, e) in
           on_run up i low (way i low) (after_spot i e) (before_spot i e (last_or_before i (length track.inner) low))
 
-  on_edge : (z : ℤ) → IsAlong t track z → (mileage g (edge g (number (piece_passed t g k track z))).west ≤ℤ z) × (z ≤ℤ mileage g (edge g (number (piece_passed t g k track z))).east)
+  on_edge : (z : ℤ) → IsAlong t track z → (mileage g (edge g (number (piece_passed t g k track z))).west ≤ℤ z) ×
+  (z ≤ℤ mileage g (edge g (number (piece_passed t g k track z))).east)
   on_edge z along =
       let first = goes 0 (omega arith) in
       let way = all_go first.0 first.1 in
       on_piece first.0 way z along (piece_passed t g k track z) (passed_by first.0 way z track.inner refl)
 
-pub lies_on : (s : Station) (signal : SignalElem) (p : SignalPlace) → IsResolved s.topology → IsStationGraphOf s.topology s.graph → (is : IsPlaceOf s signal p) → IsAlong s.topology is.track p.mile.0 → LiesOnItsEdge s.graph p
+pub lies_on : (s : Station) (signal : SignalElem) (p : SignalPlace) → IsResolved s.topology → IsStationGraphOf s.topology s.graph →
+    (is : IsPlaceOf s signal p) → IsAlong s.topology is.track p.mile.0 → LiesOnItsEdge s.graph p
 lies_on s signal p resolved graph is along =
     let on = on_edge s.topology s.graph signal.track is.track is.on resolved graph p.mile.0 along in
     let same = sym is.edge in

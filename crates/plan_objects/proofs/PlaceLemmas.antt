@@ -1,5 +1,6 @@
 -- Positions, mileages and places: that each signal has one at most.
-use Rattle.std.proofs.Common.{◌≡◌, ◌⊎◌, ℕ, ◌<◌, ◌≤◌, List, [], ◌∷◌, length, Option, Some, None, slice_get, get_or, ℤ, refl, sym, ◌∙◌, ap, subst, inl, inr, arith, true≢false}
+use Rattle.std.proofs.Common.{◌≡◌, ◌⊎◌, ℕ, ◌<◌, ◌≤◌, List, [], ◌∷◌, length, Option, Some, None, slice_get, get_or, ℤ, refl, sym, ◌∙◌, ap, subst, inl, inr}
+use Rattle.std.proofs.Common.{arith, true≢false}
 use Rattle.std.specs.Prelude.{◌<ℤ◌, ◌+ℤ◌, ◌-ℤ◌, MatchOption}
 use Rattle.std.proofs.lemmas.Bool.{cases_lt}
 use Rattle.std.proofs.lemmas.Int.{ints}
@@ -39,7 +40,8 @@ use Rattle.plan_objects.specs.Telling.{IsGiven}
 
 -- ---- ids
 
-pub id_read : (signals : List SignalElem) (k i : ℕ) (x : SignalElem) (id : List ℕ) → BearsId signals k id → k ≡ i → i < length signals → x ≡ get_or signals i x → x.id ≡ Some id
+pub id_read : (signals : List SignalElem) (k i : ℕ) (x : SignalElem) (id : List ℕ) → BearsId signals k id → k ≡ i → i < length signals →
+    x ≡ get_or signals i x → x.id ≡ Some id
 id_read signals k i x id b same within is =
     let at : slice_get signals i ≡ Some x = slice_get_read signals (length signals) i x refl within is in
     let here : slice_get signals i ≡ Some b.signal = subst (λ n. slice_get signals n ≡ Some b.signal) same b.is in
@@ -94,7 +96,8 @@ module _ (rows : List Elem) (formed : AreFormed rows) (track : Track) (signal : 
   pub one_mileage : (z w : ℤ) → HasMileage rows track signal z → HasMileage rows track signal w → z ≡ w
   one_mileage z w = by signal.abs_pos
     where
-      by : (o : Option (List ℕ)) → MatchOption o (IsMeasuredAlong rows track signal z) (λ text. ReadsMetres text z) → MatchOption o (IsMeasuredAlong rows track signal w) (λ text. ReadsMetres text w) → z ≡ w
+      by : (o : Option (List ℕ)) → MatchOption o (IsMeasuredAlong rows track signal z) (λ text. ReadsMetres text z) →
+      MatchOption o (IsMeasuredAlong rows track signal w) (λ text. ReadsMetres text w) → z ≡ w
       by None a b = measured_once z w a b
       by (Some text) a b = one_number text z w a b
 
@@ -104,7 +107,8 @@ module _ (s : Station) (formed : AreFormed s.rows) where
   pub one_place : (signal : SignalElem) (p q : SignalPlace) → IsPlaceOf s signal p → IsPlaceOf s signal q → p ≡ q
   one_place signal p q a b =
       let track : b.track ≡ a.track = same_Some b.track a.track (sym b.on ∙ a.on) in
-      let mile : p.mile.0 ≡ q.mile.0 = one_mileage s.rows formed a.track signal p.mile.0 q.mile.0 a.mile (subst (λ (t : Track). HasMileage s.rows t signal q.mile.0) track b.mile) in
+      let mile : p.mile.0 ≡ q.mile.0 = one_mileage s.rows formed a.track signal p.mile.0 q.mile.0 a.mile
+      (subst (λ (t : Track). HasMileage s.rows t signal q.mile.0) track b.mile) in
       let number : Track → ℤ → ℕ = λ t z. piece_number s.topology signal.track (piece_at s.topology s.graph signal.track t z) in
       let edge : p.edge.0 ≡ q.edge.0 = a.edge ∙ (ap (number a.track) mile ∙ (ap (λ t. number t q.mile.0) (sym track) ∙ sym b.edge)) in
       let made : ℕ → ℤ → SignalPlace = λ e z. record { edge = record { 0 = e }; mile = record { 0 = z } } in
@@ -121,7 +125,8 @@ module _ (s : Station) (formed : AreFormed s.rows) where
 -- ---- outside of a track
 
 module _ (rows : List Elem) (t : Topology) (signal : SignalElem) (track : Track) (here begin end : ℤ) (formed : AreFormed rows)
-    (on : slice_get t.tracks signal.track ≡ Some track) (h : Gives signal.pos here) (b : HasPositionAt rows track.begin.at begin) (e : HasPositionAt rows track.end.at end) where
+    (on : slice_get t.tracks signal.track ≡ Some track) (h : Gives signal.pos here) (b : HasPositionAt rows track.begin.at begin)
+    (e : HasPositionAt rows track.end.at end) where
   pub before_begin : here <ℤ begin → LiesOutside rows t signal
   before_begin less = record { track = track; on = on; outside = inl (record { here = here; signal_at = h; begin = begin; begin_at = b; less = less }) }
 
@@ -134,11 +139,13 @@ module _ (rows : List Elem) (t : Topology) (signal : SignalElem) (track : Track)
       elim o.outside [
         | inl f ↦
             (let x : f.here ≡ here = one_given signal.pos f.here here f.signal_at h in
-            let y : f.begin ≡ begin = one_position_at rows formed track.begin.at f.begin begin (subst (λ (r : Track). HasPositionAt rows r.begin.at f.begin) same f.begin_at) b in
+            let y : f.begin ≡ begin = one_position_at rows formed track.begin.at f.begin begin
+            (subst (λ (r : Track). HasPositionAt rows r.begin.at f.begin) same f.begin_at) b in
             inl (subst (λ z. here <ℤ z) y (subst (λ z. z <ℤ f.begin) x f.less)))
         | inr f ↦
             (let x : f.here ≡ here = one_given signal.pos f.here here f.signal_at h in
-            let y : f.end ≡ end = one_position_at rows formed track.end.at f.end end (subst (λ (r : Track). HasPositionAt rows r.end.at f.end) same f.end_at) e in
+            let y : f.end ≡ end = one_position_at rows formed track.end.at f.end end (subst (λ (r : Track). HasPositionAt rows r.end.at f.end) same f.end_at)
+            e in
             inr (subst (λ z. z <ℤ here) y (subst (λ z. f.end <ℤ z) x f.more)))
       ]
 
@@ -185,15 +192,20 @@ fits_all a b c h k m =
 
 sum_is : (a b c : ℤ) → IsMileage a → IsOfSize (10 ^ 15) b → IsOfSize (10 ^ 15) c → word (word (word a +ℤ word b) -ℤ word c) ≡ (a +ℤ b) -ℤ c
 sum_is a b c h k m =
-    let inner : word (word a +ℤ word b) ≡ a +ℤ b = ap (λ z. word (z +ℤ word b)) (to_z-of_z w64 a (fits_mile a h)) ∙ (ap (λ z. word (a +ℤ z)) (word_is b k) ∙ to_z-of_z w64 (a +ℤ b) (fits_sum a b h k)) in
+    let inner : word (word a +ℤ word b) ≡ a +ℤ b = ap (λ z. word (z +ℤ word b)) (to_z-of_z w64 a (fits_mile a h))
+    ∙ (ap (λ z. word (a +ℤ z)) (word_is b k) ∙ to_z-of_z w64 (a +ℤ b) (fits_sum a b h k)) in
     ap (λ z. word (z -ℤ word c)) inner ∙ (ap (λ z. word ((a +ℤ b) -ℤ z)) (word_is c m) ∙ to_z-of_z w64 ((a +ℤ b) -ℤ c) (fits_all a b c h k m))
 
-pub measured_mileage : (rows : List Elem) (track : Track) (signal : SignalElem) (here from : ℤ) → is_some signal.abs_pos ≡ false → IsMileage track.begin.mile.0 → Gives signal.pos here → HasPositionAt rows track.begin.at from → IsOfSize (10 ^ 15) here → IsOfSize (10 ^ 15) from
+pub measured_mileage : (rows : List Elem) (track : Track) (signal : SignalElem) (here from : ℤ) → is_some signal.abs_pos ≡ false →
+    IsMileage track.begin.mile.0 → Gives signal.pos here → HasPositionAt rows track.begin.at from → IsOfSize (10 ^ 15) here → IsOfSize (10 ^ 15) from
     → HasMileage rows track signal (word (word (word track.begin.mile.0 +ℤ word here) -ℤ word from))
 measured_mileage rows track signal here from none start gives begin near close =
     let z : ℤ = word (word (word track.begin.mile.0 +ℤ word here) -ℤ word from) in
-    let measured : IsMeasuredAlong rows track signal z = record { from = from; begin_at = begin; to = here; signal_at = gives; sum = sum_is track.begin.mile.0 here from start near close } in
-    subst (λ (o : Option (List ℕ)). MatchOption o (IsMeasuredAlong rows track signal z) (λ text. ReadsMetres text z)) (sym (no_text signal.abs_pos none)) measured
+    let measured : IsMeasuredAlong rows track signal z = record {
+    from = from; begin_at = begin; to = here; signal_at = gives; sum = sum_is track.begin.mile.0 here from start near close
+    } in
+    subst (λ (o : Option (List ℕ)). MatchOption o (IsMeasuredAlong rows track signal z) (λ text. ReadsMetres text z)) (sym (no_text signal.abs_pos none))
+    measured
 
 -- ---- an edge with too many signals
 
@@ -214,13 +226,21 @@ module _ (s : Station) (signals : List SignalElem) (places : List SignalPlace) (
         x = there.0;
         is = there.1;
         holds = (id_of there.0, (record { places = places; are = are; full = f.holds }, refl));
-        before = record { none = λ j x below at had. (let p = get_within places j (omega (arith, below, within)) in not_crowded j x (λ full. f.before.none j p.0 below p.1 full) had) };
+        before = record {
+        none = λ j x below at had. (let p = get_within places j (omega (arith, below, within)) in not_crowded j x (λ full. f.before.none j p.0 below p.1 full)
+        had)
+        };
       }
 
-  pub crowded_none : NoneBefore (λ i _. earlier_on_edge places i ≡ SIGNALS_OF_AN_EDGE) places (length places) → NoneBefore (HasKind s signals Crowded) signals (length signals)
-  crowded_none n = record { none = λ j x below at had. (let within : j < length places = omega (arith, as_many, below) in let p = get_within places j within in not_crowded j x (λ full. n.none j p.0 within p.1 full) had) }
+  pub crowded_none : NoneBefore (λ i _. earlier_on_edge places i ≡ SIGNALS_OF_AN_EDGE) places (length places) →
+  NoneBefore (HasKind s signals Crowded) signals (length signals)
+  crowded_none n = record {
+  none = λ j x below at had. (let within : j < length places = omega (arith, as_many, below) in let p = get_within places j within in not_crowded j x
+  (λ full. n.none j p.0 within p.1 full) had)
+  }
 
-pub uncrowded_up_to : (places : List SignalPlace) → NoneBefore (λ i _. earlier_on_edge places i ≡ SIGNALS_OF_AN_EDGE) places (length places) → (e n : ℕ) → n ≤ length places → counted (is_on places e) n ≤ SIGNALS_OF_AN_EDGE
+pub uncrowded_up_to : (places : List SignalPlace) → NoneBefore (λ i _. earlier_on_edge places i ≡ SIGNALS_OF_AN_EDGE) places (length places) → (e n : ℕ) →
+    n ≤ length places → counted (is_on places e) n ≤ SIGNALS_OF_AN_EDGE
 uncrowded_up_to places none e zero within = omega arith
 uncrowded_up_to places none e (suc n) within =
     let so_far = uncrowded_up_to places none e n (omega (arith, within)) in
@@ -228,7 +248,8 @@ uncrowded_up_to places none e (suc n) within =
       | true ↦ λ on.
           (let here : edge_at places n ≡ e = (Decides-eqb (edge_at places n) e).0 on in
           let p = get_within places n (omega (arith, within)) in
-          let not : counted (is_on places e) n ≡ SIGNALS_OF_AN_EDGE → ⊥ = λ full. none.none n p.0 (omega (arith, within)) p.1 (ap (λ f. counted (is_on places f) n) here ∙ full) in
+          let not : counted (is_on places e) n ≡ SIGNALS_OF_AN_EDGE →
+          ⊥ = λ full. none.none n p.0 (omega (arith, within)) p.1 (ap (λ f. counted (is_on places f) n) here ∙ full) in
           let more = counted_more (is_on places e) n in
           let one : cond {A = ℕ} (is_on places e n) 1 0 ≡ 1 = ap (λ b. cond {A = ℕ} b 1 0) on in
           omega (arith, so_far, not, more, one))
@@ -238,5 +259,6 @@ uncrowded_up_to places none e (suc n) within =
           omega (arith, so_far, more, one))
     ] refl
 
-pub uncrowded : (places : List SignalPlace) → NoneBefore (λ i _. earlier_on_edge places i ≡ SIGNALS_OF_AN_EDGE) places (length places) → (e : ℕ) → number_on places e ≤ SIGNALS_OF_AN_EDGE
+pub uncrowded : (places : List SignalPlace) → NoneBefore (λ i _. earlier_on_edge places i ≡ SIGNALS_OF_AN_EDGE) places (length places) → (e : ℕ) →
+    number_on places e ≤ SIGNALS_OF_AN_EDGE
 uncrowded places none e = uncrowded_up_to places none e (length places) (omega arith)

@@ -16,18 +16,22 @@ use Rattle.plan_write.specs.SheetText.{StatesSettled}
 use Rattle.plan_text.specs.SheetFaults.{LineDue, TitleDue, EndDue, IsDue, BeginsWithLine, IsInRange, IsOfGraph, HasWrongLine, order_told}
 use Rattle.plan_text.specs.SheetReading.{IsEndFault}
 
-pub begins : (due : LineDue) (text rest : List ℕ) (line : SheetLine) → IsDue due line → HasForm line → text ≡ text_of_line line ++ rest → BeginsWithLine due text line
+pub begins : (due : LineDue) (text rest : List ℕ) (line : SheetLine) → IsDue due line → HasForm line → text ≡ text_of_line line ++ rest →
+    BeginsWithLine due text line
 begins due text rest line is form e = record { is_due = is; form = form; behind = rest; spelled = e }
 
-pub out_of_range : (g : Graph) (before : List SheetLine) (due : LineDue) (text rest : List ℕ) (line : SheetLine) → IsDue due line → HasForm line → text ≡ text_of_line line ++ rest → (IsInRange before due line → ⊥) → HasWrongLine g before due text whats.Range
+pub out_of_range : (g : Graph) (before : List SheetLine) (due : LineDue) (text rest : List ℕ) (line : SheetLine) → IsDue due line → HasForm line →
+    text ≡ text_of_line line ++ rest → (IsInRange before due line → ⊥) → HasWrongLine g before due text whats.Range
 out_of_range g before due text rest line is form e out = (line, begins due text rest line is form e, out)
 
-pub not_of_graph : (g : Graph) (before : List SheetLine) (due : LineDue) (text rest : List ℕ) (line : SheetLine) → IsDue due line → HasForm line → text ≡ text_of_line line ++ rest → (IsOfGraph g due line → ⊥) → HasWrongLine g before due text whats.Graph
+pub not_of_graph : (g : Graph) (before : List SheetLine) (due : LineDue) (text rest : List ℕ) (line : SheetLine) → IsDue due line → HasForm line →
+    text ≡ text_of_line line ++ rest → (IsOfGraph g due line → ⊥) → HasWrongLine g before due text whats.Graph
 not_of_graph g before due text rest line is form e not = (line, begins due text rest line is form e, not)
 
 -- ---- the title
 
-pub no_title : (text : List ℕ) → ((rest : List ℕ) → text ≢ codes "railplan 1\n" ++ rest) → ((rest : List ℕ) → text ≢ codes "railplan 2\n" ++ rest) → (needs_drawing : Bool) (line : SheetLine) → BeginsWithLine (TitleDue needs_drawing) text line → ⊥
+pub no_title : (text : List ℕ) → ((rest : List ℕ) → text ≢ codes "railplan 1\n" ++ rest) → ((rest : List ℕ) → text ≢ codes "railplan 2\n" ++ rest) →
+    (needs_drawing : Bool) (line : SheetLine) → BeginsWithLine (TitleDue needs_drawing) text line → ⊥
 no_title text first second needs_drawing (Title First) b = first b.behind b.spelled
 no_title text first second needs_drawing (Title Second) b = second b.behind b.spelled
 no_title text first second needs_drawing line b = b.is_due
@@ -35,7 +39,8 @@ no_title text first second needs_drawing line b = b.is_due
 -- ---- the ending
 
 -- a text that says that there is no drawing doesn't say that there is one
-only_none : (text rest other : List ℕ) (e : Ending) → text ≡ text_of_line (EndLine NoDrawing) ++ rest → text ≡ text_of_line (EndLine e) ++ other → MayEnd true e → ⊥
+only_none : (text rest other : List ℕ) (e : Ending) → text ≡ text_of_line (EndLine NoDrawing) ++ rest → text ≡ text_of_line (EndLine e) ++ other →
+    MayEnd true e → ⊥
 only_none text rest other Best a b may = fifth (sym a ∙ b)
   where
     fifth : text_of_line (EndLine NoDrawing) ++ rest ≡ text_of_line (EndLine Best) ++ other → ⊥
@@ -54,12 +59,18 @@ no_line : (text rest : List ℕ) (line : SheetLine) → text ≡ text_of_line (E
 no_line text rest (EndLine e) a b = only_none text rest b.behind e a b.spelled b.is_due
 no_line text rest line a b = b.is_due
 
-pub end_fault : (g : Graph) (before : List SheetLine) (text rest : List ℕ) (order : List Criterion) (e : Ending) (what : SheetWhat) → IsSmallEnding e → text ≡ text_of_line (EndLine e) ++ rest → IsEndFault order true e what → order_told before ≡ order → HasWrongLine g before EndDue text what
+pub end_fault : (g : Graph) (before : List SheetLine) (text rest : List ℕ) (order : List Criterion) (e : Ending) (what : SheetWhat) → IsSmallEnding e →
+    text ≡ text_of_line (EndLine e) ++ rest → IsEndFault order true e what → order_told before ≡ order → HasWrongLine g before EndDue text what
 end_fault g before text rest order NoDrawing whats.Form small is h told = λ line b. no_line text rest line is b
 end_fault g before text rest order Best whats.Form small is h told = absurd (h tt)
 end_fault g before text rest order (Conflicts n) whats.Form small is h told = absurd (h tt)
 end_fault g before text rest order (Room n) whats.Form small is h told = absurd (h tt)
-end_fault g before text rest order e whats.Range small is h told = (EndLine e, begins EndDue text rest (EndLine e) h.0 small is, λ s. h.1 (subst (λ (o : List Criterion). StatesSettled o true e) told s))
+end_fault g before text rest order e whats.Range small is h told = (
+  EndLine e,
+  begins EndDue text rest (EndLine e) h.0 small is,
+  λ s. h.1
+      (subst (λ (o : List Criterion). StatesSettled o true e) told s),
+)
 end_fault g before text rest order e what small is h told = absurd h
 
 -- ---- the values

@@ -1,5 +1,6 @@
 -- Fields of a text, one after another.
-use Rattle.std.proofs.Common.{◌≡◌, ◌≢◌, ◌⊎◌, inl, inr, ℕ, ◌+◌, ◌<◌, ◌≤◌, ◌^◌, List, [], ◌∷◌, ◌++◌, map, length, Bool, true, false, ◌==◌, refl, sym, ◌∙◌, ap, subst, arith, append_assoc, length-append}
+use Rattle.std.proofs.Common.{◌≡◌, ◌≢◌, ◌⊎◌, inl, inr, ℕ, ◌+◌, ◌<◌, ◌≤◌, ◌^◌, List, [], ◌∷◌, ◌++◌, map, length, Bool, true, false, ◌==◌, refl, sym, ◌∙◌, ap}
+use Rattle.std.proofs.Common.{subst, arith, append_assoc, length-append}
 use Rattle.std.specs.Prelude.{⊤, None, Some, IfSome}
 use Rattle.std.specs.declared.option.Option.{Option}
 use Rattle.std.specs.Fmt.{decimal}
@@ -66,7 +67,8 @@ pub record Ahead (A : Type 0) (P : A → Type 0) (word : A → List ℕ) (read v
   pub all : AllByRecursion P more
   pub left : rest ≡ words word more ++ 10 ∷ behind
 
-pub ahead : {A : Type 0} {P : A → Type 0} {word : A → List ℕ} (s : IsSpelling A P word) (read values : List A) (rest behind : List ℕ) → AllByRecursion P read → AllByRecursion P values → (read ≡ []) ⊎ Ends rest →
+pub ahead : {A : Type 0} {P : A → Type 0} {word : A → List ℕ} (s : IsSpelling A P word) (read values : List A) (rest behind : List ℕ) → AllByRecursion P read →
+    AllByRecursion P values → (read ≡ []) ⊎ Ends rest →
     words word read ++ rest ≡ words word values ++ 10 ∷ behind → Ahead A P word read values rest behind
 ahead s [] values rest behind h k ends e = record { more = values; split = refl; all = k; left = e }
 ahead {A} {P} {word} s (a ∷ read) [] rest behind h k ends e = absurd (no_feed_at_space ((word a ++ words word read) ++ rest) behind e)
@@ -75,7 +77,8 @@ ahead {A} {P} {word} s (a ∷ read) (b ∷ values) rest behind h k ends e =
     let f : 32 ∷ (word a ++ (words word read ++ rest)) ≡ 32 ∷ (word b ++ (words word values ++ 10 ∷ behind)) =
     sym (regroup (word a) (words word read) rest) ∙ e ∙ regroup (word b) (words word values) (10 ∷ behind) in
     let g : word a ++ (words word read ++ rest) ≡ word b ++ (words word values ++ 10 ∷ behind) = cc in
-    let same = same_field (word a) (word b) (words word read ++ rest) (words word values ++ 10 ∷ behind) (s.one a h.0) (s.one b k.0) (words_end word read rest end) (words_end word values (10 ∷ behind) (inr refl)) g in
+    let same = same_field (word a) (word b) (words word read ++ rest) (words word values ++ 10 ∷ behind) (s.one a h.0) (s.one b k.0)
+    (words_end word read rest end) (words_end word values (10 ∷ behind) (inr refl)) g in
     let later = ahead s read values rest behind h.1 k.1 (inr end) same.rest in
     let first : a ≡ b = s.once a b h.0 k.0 same.field in
     record { more = later.more; split = cc (first, later.split); all = later.all; left = later.left }
@@ -85,7 +88,8 @@ pub record SameWords {A : Type 0} (xs ys : List A) (r s : List ℕ) : Type 0 whe
   pub values : xs ≡ ys
   pub behind : r ≡ s
 
-pub words_once : {A : Type 0} {P : A → Type 0} {word : A → List ℕ} (s : IsSpelling A P word) (xs ys : List A) (q r : List ℕ) → AllByRecursion P xs → AllByRecursion P ys →
+pub words_once : {A : Type 0} {P : A → Type 0} {word : A → List ℕ} (s : IsSpelling A P word) (xs ys : List A) (q r : List ℕ) → AllByRecursion P xs →
+    AllByRecursion P ys →
     words word xs ++ 10 ∷ q ≡ words word ys ++ 10 ∷ r → SameWords xs ys q r
 words_once {A} {P} {word} s xs ys q r h k e =
     let a = ahead s xs ys (10 ∷ q) r h k (inr (inr refl)) e in
@@ -99,7 +103,8 @@ words_once {A} {P} {word} s xs ys q r h k e =
 
 -- at a field that is no value's
 pub no_value : {A : Type 0} {P : A → Type 0} {word : A → List ℕ} (s : IsSpelling A P word) (text : List ℕ) (read : List A) (rest after field left : List ℕ) →
-    AllByRecursion P read → (read ≡ []) ⊎ Ends rest → text ≡ words word read ++ rest → rest ≡ 32 ∷ after → IsOneField field → Ends left → after ≡ field ++ left → ((a : A) → P a → field ≢ word a) →
+    AllByRecursion P read → (read ≡ []) ⊎ Ends rest → text ≡ words word read ++ rest → rest ≡ 32 ∷ after → IsOneField field → Ends left →
+    after ≡ field ++ left → ((a : A) → P a → field ≢ word a) →
     (values : List A) (behind : List ℕ) → AllByRecursion P values → text ≢ words word values ++ 10 ∷ behind
 no_value {A} {P} {word} s text read rest after field left h ends so_far is one end cut none values behind k e =
     let a = ahead s read values rest behind h k ends (sym so_far ∙ e) in
@@ -108,9 +113,11 @@ no_value {A} {P} {word} s text read rest after field left h ends so_far is one e
     at : (more : List A) → AllByRecursion P more → rest ≡ words word more ++ 10 ∷ behind → ⊥
     at [] all f = no_feed_at_space after behind (sym is ∙ f)
     at (b ∷ more) all f =
-        let g : 32 ∷ (field ++ left) ≡ 32 ∷ (word b ++ (words word more ++ 10 ∷ behind)) = ap (λ (t : List ℕ). 32 ∷ t) (sym cut) ∙ sym is ∙ f ∙ regroup (word b) (words word more) (10 ∷ behind) in
+        let g : 32 ∷ (field ++ left) ≡ 32 ∷ (word b ++ (words word more ++ 10 ∷ behind)) = ap (λ (t : List ℕ). 32 ∷ t) (sym cut) ∙ sym is ∙ f
+        ∙ regroup (word b) (words word more) (10 ∷ behind) in
         let i : field ++ left ≡ word b ++ (words word more ++ 10 ∷ behind) = cc in
-        none b all.0 (same_field field (word b) left (words word more ++ 10 ∷ behind) one (s.one b all.0) end (words_end word more (10 ∷ behind) (inr refl)) i).field
+        none b all.0 (same_field field (word b) left (words word more ++ 10 ∷ behind) one (s.one b all.0) end (words_end word more (10 ∷ behind) (inr refl))
+        i).field
 
 -- at one field too many
 pub no_more : {A : Type 0} {P : A → Type 0} {word : A → List ℕ} (s : IsSpelling A P word) (text : List ℕ) (read : List A) (rest after : List ℕ) (most : ℕ) →
@@ -129,7 +136,8 @@ full_is n most b e h = let f = eqb-true n most (sym e ∙ h) in omega (arith, f)
 
 -- where neither a space nor a line feed comes
 pub no_end : {A : Type 0} {P : A → Type 0} {word : A → List ℕ} (s : IsSpelling A P word) (text : List ℕ) (read : List A) (rest : List ℕ) →
-    AllByRecursion P read → (read ≡ []) ⊎ Ends rest → text ≡ words word read ++ rest → ((after : List ℕ) → rest ≢ 32 ∷ after) → ((after : List ℕ) → rest ≢ 10 ∷ after) →
+    AllByRecursion P read → (read ≡ []) ⊎ Ends rest → text ≡ words word read ++ rest → ((after : List ℕ) → rest ≢ 32 ∷ after) →
+    ((after : List ℕ) → rest ≢ 10 ∷ after) →
     (values : List A) (behind : List ℕ) → AllByRecursion P values → text ≢ words word values ++ 10 ∷ behind
 no_end {A} {P} {word} s text read rest h ends so_far no_space no_feed values behind k e =
     let a = ahead s read values rest behind h k ends (sym so_far ∙ e) in
@@ -174,7 +182,8 @@ pub record FieldsLeft (read fields : List (List ℕ)) (rest behind : List ℕ) :
   pub split : fields ≡ read ++ more
   pub left : rest ≡ spaced more ++ 10 ∷ behind
 
-pub fields_left : (read fields : List (List ℕ)) (rest behind : List ℕ) → AllByRecursion IsOneField read → AllByRecursion IsOneField fields → Ends rest → spaced read ++ rest ≡ spaced fields ++ 10 ∷ behind → FieldsLeft read fields rest behind
+pub fields_left : (read fields : List (List ℕ)) (rest behind : List ℕ) → AllByRecursion IsOneField read → AllByRecursion IsOneField fields → Ends rest →
+    spaced read ++ rest ≡ spaced fields ++ 10 ∷ behind → FieldsLeft read fields rest behind
 fields_left read fields rest behind h k ends e =
     let a = ahead of_fields read fields rest behind h k (inr ends)
     (ap (λ (fs : List (List ℕ)). spaced fs ++ rest) (map_same read) ∙ e ∙ ap (λ (fs : List (List ℕ)). spaced fs ++ 10 ∷ behind) (sym (map_same fields))) in
@@ -185,7 +194,8 @@ pub record SameFields (fields others : List (List ℕ)) (q r : List ℕ) : Type 
   pub fields_are : fields ≡ others
   pub behind : q ≡ r
 
-pub fields_once : (front : List ℕ) (fields others : List (List ℕ)) (q r : List ℕ) → AllByRecursion IsOneField fields → AllByRecursion IsOneField others → line_text front fields ++ q ≡ line_text front others ++ r → SameFields fields others q r
+pub fields_once : (front : List ℕ) (fields others : List (List ℕ)) (q r : List ℕ) → AllByRecursion IsOneField fields → AllByRecursion IsOneField others →
+    line_text front fields ++ q ≡ line_text front others ++ r → SameFields fields others q r
 fields_once front fields others q r h k e =
     let f : spaced fields ++ 10 ∷ q ≡ spaced others ++ 10 ∷ r =
     append_cancel_left front (spaced fields ++ 10 ∷ q) (spaced others ++ 10 ∷ r) (sym (line_front front fields q) ∙ e ∙ line_front front others r) in

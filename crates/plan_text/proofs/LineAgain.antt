@@ -14,7 +14,8 @@ use Rattle.plan_write.specs.declared.edition.Edition.{Edition}
 use Rattle.plan_write.specs.declared.edition.Edition.TheVariants.{First, Second}
 use Rattle.plan_write.specs.declared.ending.Ending.{Ending}
 use Rattle.plan_write.specs.declared.ending.Ending.TheVariants.{Best, NoDrawing, Conflicts, Room}
-use Rattle.plan_write.specs.SheetLine.{SheetLine, Title, GridLine, OrderLine, NodesLine, NodeLine, EdgesLine, EdgeLine, ValuesLine, EndLine, coordinates, field_told, other_fields, text_of_line, HasForm}
+use Rattle.plan_write.specs.SheetLine.{SheetLine, Title, GridLine, OrderLine, NodesLine, NodeLine, EdgesLine, EdgeLine, ValuesLine, EndLine, coordinates}
+use Rattle.plan_write.specs.SheetLine.{field_told, other_fields, text_of_line, HasForm}
 use Rattle.plan_text.specs.SheetFaults.{LineDue, TitleDue, GridDue, OrderDue, BodyDue, NodeDue, EdgesDue, EdgeDue, ValuesDue, EndDue, NoneDue, IsToldIn, IsDue}
 use Rattle.plan_text.proofs.FieldLemmas.{of_numbers, fields_once, decimals_are_one, decimals_once, name_is_one, both_one}
 use Rattle.plan_text.proofs.MileageLemmas.{told_is_one}
@@ -92,13 +93,25 @@ told_once (Some t) (Some u) e = let field : t ≡ u = cc in ap (λ (f : List ℕ
 told_once None (Some u) e = cc
 told_once (Some t) None e = cc
 
-node_fields_are_one : (n : ℕ) (name : List ℕ) (p : Point) (mileage : Option (List ℕ)) → HasForm (NodeLine n name p mileage) → AllByRecursion IsOneField (other_fields (NodeLine n name p mileage))
-node_fields_are_one n name p mileage h = (of_numbers.one n h.1.0, (h.0.one, (of_numbers.one p.x h.1.1.0, (of_numbers.one p.y h.1.1.1.0, told_is_one mileage h.2))))
+node_fields_are_one : (n : ℕ) (name : List ℕ) (p : Point) (mileage : Option (List ℕ)) → HasForm (NodeLine n name p mileage) →
+    AllByRecursion IsOneField (other_fields (NodeLine n name p mileage))
+node_fields_are_one n name p mileage h = (
+  of_numbers.one n h.1.0,
+  (
+    h.0.one,
+    (
+      of_numbers.one p.x h.1.1.0,
+      (of_numbers.one p.y h.1.1.1.0, told_is_one mileage h.2),
+    ),
+  ),
+)
 
 node_once : (n m : ℕ) (name other : List ℕ) (a b : Point) (x y : Option (List ℕ)) → IsOnce (NodeLine n name a x) (NodeLine m other b y)
 node_once n m name other a b x y q r h k e =
-    let same = fields_once (codes "node") (other_fields (NodeLine n name a x)) (other_fields (NodeLine m other b y)) q r (node_fields_are_one n name a x h) (node_fields_are_one m other b y k) e in
-    let four = four_fields (decimal n) name (decimal a.x) (decimal a.y) (decimal m) other (decimal b.x) (decimal b.y) (field_told x) (field_told y) same.fields_are in
+    let same = fields_once (codes "node") (other_fields (NodeLine n name a x)) (other_fields (NodeLine m other b y)) q r (node_fields_are_one n name a x h)
+    (node_fields_are_one m other b y k) e in
+    let four = four_fields (decimal n) name (decimal a.x) (decimal a.y) (decimal m) other (decimal b.x) (decimal b.y) (field_told x) (field_told y)
+    same.fields_are in
     let point = same_point a b (of_numbers.once a.x b.x h.1.1.0 k.1.1.0 four.2) (of_numbers.once a.y b.y h.1.1.1.0 k.1.1.1.0 four.3) in
     record {
       line = ap (λ (i : ℕ). NodeLine i name a x) (of_numbers.once n m h.1.0 k.1.0 four.0)
@@ -108,14 +121,21 @@ node_once n m name other a b x y q r h k e =
       behind = same.behind;
     }
 
-edge_fields_are_one : (e : ℕ) (track : Option (List ℕ)) (west east : ℕ) (ps : List Point) → HasForm (EdgeLine e track west east ps) → AllByRecursion IsOneField (other_fields (EdgeLine e track west east ps))
-edge_fields_are_one e track west east ps h =
-    (of_numbers.one e h.1.0, both_one (field_told track) (map decimal (west ∷ east ∷ flat_map coordinates ps)) (name_is_one track h.2) (decimals_are_one (west ∷ east ∷ flat_map coordinates ps) h.1.1))
+edge_fields_are_one : (e : ℕ) (track : Option (List ℕ)) (west east : ℕ) (ps : List Point) → HasForm (EdgeLine e track west east ps) →
+    AllByRecursion IsOneField (other_fields (EdgeLine e track west east ps))
+edge_fields_are_one e track west east ps h = (
+  of_numbers.one e h.1.0,
+  both_one (field_told track) (map decimal (west ∷ east ∷ flat_map coordinates ps)) (name_is_one track h.2)
+      (decimals_are_one (west ∷ east ∷ flat_map coordinates ps) h.1.1),
+)
 
-edge_once : (edition : Edition) (e f west east from to : ℕ) (x y : Option (List ℕ)) (ps qs : List Point) → IsToldIn edition x → IsToldIn edition y → IsOnce (EdgeLine e x west east ps) (EdgeLine f y from to qs)
+edge_once : (edition : Edition) (e f west east from to : ℕ) (x y : Option (List ℕ)) (ps qs : List Point) → IsToldIn edition x → IsToldIn edition y →
+    IsOnce (EdgeLine e x west east ps) (EdgeLine f y from to qs)
 edge_once edition e f west east from to x y ps qs tx ty q r h k s =
-    let same = fields_once (codes "edge") (other_fields (EdgeLine e x west east ps)) (other_fields (EdgeLine f y from to qs)) q r (edge_fields_are_one e x west east ps h) (edge_fields_are_one f y from to qs k) s in
-    let parts = same_told edition x y tx ty (decimal e) (decimal f) (map decimal (west ∷ east ∷ flat_map coordinates ps)) (map decimal (from ∷ to ∷ flat_map coordinates qs)) same.fields_are in
+    let same = fields_once (codes "edge") (other_fields (EdgeLine e x west east ps)) (other_fields (EdgeLine f y from to qs)) q r
+    (edge_fields_are_one e x west east ps h) (edge_fields_are_one f y from to qs k) s in
+    let parts = same_told edition x y tx ty (decimal e) (decimal f) (map decimal (west ∷ east ∷ flat_map coordinates ps))
+    (map decimal (from ∷ to ∷ flat_map coordinates qs)) same.fields_are in
     let numbers = decimals_once (west ∷ east ∷ flat_map coordinates ps) (from ∷ to ∷ flat_map coordinates qs) h.1.1 k.1.1 parts.others in
     let two = first_two_once west east from to (flat_map coordinates ps) (flat_map coordinates qs) numbers in
     record {
@@ -159,7 +179,8 @@ end_once (Conflicts n) (Conflicts m) q r h k e =
 end_once (Room n) (Room m) q r h k e =
     let same = numbers_once (codes "end room") (n ∷ []) (m ∷ []) q r (h, tt) (k, tt) e in
     record { line = ap (λ (i : ℕ). EndLine (Room i)) (one_once n m same.values); behind = same.behind }
-end_once a b q r h k e = let z : get_or (text_of_line (EndLine a) ++ q) 4 0 ≡ get_or (text_of_line (EndLine b) ++ r) 4 0 = ap (λ (t : List ℕ). get_or t 4 0) e in absurd (omega arith)
+end_once a b q r h k e = let z : get_or (text_of_line (EndLine a) ++ q) 4 0 ≡ get_or (text_of_line (EndLine b) ++ r) 4 0 = ap (λ (t : List ℕ). get_or t 4 0)
+    e in absurd (omega arith)
 
 -- ---- what is due
 
@@ -177,7 +198,8 @@ title_due d l m is also = absurd is
 
 grid_due : (edition : Edition) (needs_drawing : Bool) → IsOnceDue (GridDue edition needs_drawing)
 grid_due edition d (GridLine x a) (GridLine y b) is also =
-    subst (λ (o : Edition). IsOnce (GridLine o a) (GridLine y b)) (sym is) (subst (λ (o : Edition). IsOnce (GridLine edition a) (GridLine o b)) (sym also) (grid_once edition a b))
+    subst (λ (o : Edition). IsOnce (GridLine o a) (GridLine y b)) (sym is) (subst (λ (o : Edition). IsOnce (GridLine edition a) (GridLine o b)) (sym also)
+    (grid_once edition a b))
 grid_due edition d (GridLine x a) m is also = absurd also
 grid_due edition d l m is also = absurd is
 

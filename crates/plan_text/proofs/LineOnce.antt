@@ -18,15 +18,19 @@ use Rattle.plan_text.proofs.FieldLemmas.{SameWords, words, words_once, of_number
 
 -- ---- lines of numbers and of criteria
 
-pub numbers_once : (front : List ℕ) (ns ms : List ℕ) (q r : List ℕ) → AreSmall ns → AreSmall ms → line_text front (map decimal ns) ++ q ≡ line_text front (map decimal ms) ++ r → SameWords ns ms q r
+pub numbers_once : (front : List ℕ) (ns ms : List ℕ) (q r : List ℕ) → AreSmall ns → AreSmall ms →
+    line_text front (map decimal ns) ++ q ≡ line_text front (map decimal ms) ++ r → SameWords ns ms q r
 numbers_once front ns ms q r h k e =
     words_once of_numbers ns ms q r h k
-    (append_cancel_left front (words decimal ns ++ 10 ∷ q) (words decimal ms ++ 10 ∷ r) (sym (line_front front (map decimal ns) q) ∙ e ∙ line_front front (map decimal ms) r))
+    (append_cancel_left front (words decimal ns ++ 10 ∷ q) (words decimal ms ++ 10 ∷ r)
+    (sym (line_front front (map decimal ns) q) ∙ e ∙ line_front front (map decimal ms) r))
 
-pub criteria_once : (front : List ℕ) (cs ds : List Criterion) (q r : List ℕ) → line_text front (map criterion_word cs) ++ q ≡ line_text front (map criterion_word ds) ++ r → SameWords cs ds q r
+pub criteria_once : (front : List ℕ) (cs ds : List Criterion) (q r : List ℕ) →
+    line_text front (map criterion_word cs) ++ q ≡ line_text front (map criterion_word ds) ++ r → SameWords cs ds q r
 criteria_once front cs ds q r e =
     words_once of_criteria cs ds q r (any_criteria cs) (any_criteria ds)
-    (append_cancel_left front (words criterion_word cs ++ 10 ∷ q) (words criterion_word ds ++ 10 ∷ r) (sym (line_front front (map criterion_word cs) q) ∙ e ∙ line_front front (map criterion_word ds) r))
+    (append_cancel_left front (words criterion_word cs ++ 10 ∷ q) (words criterion_word ds ++ 10 ∷ r)
+    (sym (line_front front (map criterion_word cs) q) ∙ e ∙ line_front front (map criterion_word ds) r))
 
 -- ---- which line begins the text
 
@@ -36,7 +40,8 @@ pub record TellsGrid (edition : Edition) (text : List ℕ) : Type 0 where
   pub behind : List ℕ
   pub spelled : text ≡ text_of_line (GridLine edition grid) ++ behind
 
-pub tells_grid : (edition : Edition) (needs_drawing : Bool) (text : List ℕ) (line : SheetLine) → BeginsWithLine (GridDue edition needs_drawing) text line → TellsGrid edition text
+pub tells_grid : (edition : Edition) (needs_drawing : Bool) (text : List ℕ) (line : SheetLine) → BeginsWithLine (GridDue edition needs_drawing) text line →
+    TellsGrid edition text
 tells_grid edition needs_drawing text (GridLine other grid) b = record {
   grid = grid;
   form = subst (λ (o : Edition). HasForm (GridLine o grid)) b.is_due b.form;
@@ -51,7 +56,8 @@ pub record TellsOrder (text : List ℕ) : Type 0 where
   pub behind : List ℕ
   pub spelled : text ≡ text_of_line (OrderLine order) ++ behind
 
-pub tells_order : (edition : Edition) (needs_drawing : Bool) (text : List ℕ) (line : SheetLine) → BeginsWithLine (OrderDue edition needs_drawing) text line → TellsOrder text
+pub tells_order : (edition : Edition) (needs_drawing : Bool) (text : List ℕ) (line : SheetLine) → BeginsWithLine (OrderDue edition needs_drawing) text line →
+    TellsOrder text
 tells_order edition needs_drawing text (OrderLine order) b = record { order = order; form = b.form; behind = b.behind; spelled = b.spelled }
 tells_order edition needs_drawing text line b = absurd b.is_due
 
@@ -66,7 +72,16 @@ pub record TellsNode (edition : Edition) (text : List ℕ) : Type 0 where
   pub spelled : text ≡ text_of_line (NodeLine number name place mileage) ++ behind
 
 pub tells_node : (edition : Edition) (text : List ℕ) (n : ℕ) (line : SheetLine) → BeginsWithLine (NodeDue edition n) text line → TellsNode edition text
-tells_node edition text n (NodeLine number name place mileage) b = record { number = number; name = name; place = place; mileage = mileage; told = b.is_due; form = b.form; behind = b.behind; spelled = b.spelled }
+tells_node edition text n (NodeLine number name place mileage) b = record {
+  number = number;
+  name = name;
+  place = place;
+  mileage = mileage;
+  told = b.is_due;
+  form = b.form;
+  behind = b.behind;
+  spelled = b.spelled;
+}
 tells_node edition text n line b = absurd b.is_due
 
 pub record TellsEdge (edition : Edition) (text : List ℕ) : Type 0 where
@@ -81,7 +96,17 @@ pub record TellsEdge (edition : Edition) (text : List ℕ) : Type 0 where
   pub spelled : text ≡ text_of_line (EdgeLine number track west east points) ++ behind
 
 pub tells_edge : (edition : Edition) (text : List ℕ) (e : ℕ) (line : SheetLine) → BeginsWithLine (EdgeDue edition e) text line → TellsEdge edition text
-tells_edge edition text e (EdgeLine number track west east points) b = record { number = number; track = track; west = west; east = east; points = points; told = b.is_due; form = b.form; behind = b.behind; spelled = b.spelled }
+tells_edge edition text e (EdgeLine number track west east points) b = record {
+  number = number;
+  track = track;
+  west = west;
+  east = east;
+  points = points;
+  told = b.is_due;
+  form = b.form;
+  behind = b.behind;
+  spelled = b.spelled;
+}
 tells_edge edition text e line b = absurd b.is_due
 
 pub record TellsValues (text : List ℕ) : Type 0 where
@@ -102,7 +127,8 @@ pub record SameTold (a b : List ℕ) (x y : Option (List ℕ)) (xs ys : List (Li
   pub told : x ≡ y
   pub others : xs ≡ ys
 
-pub same_told : (edition : Edition) (x y : Option (List ℕ)) → IsToldIn edition x → IsToldIn edition y → (a b : List ℕ) (xs ys : List (List ℕ)) → a ∷ (field_told x ++ xs) ≡ b ∷ (field_told y ++ ys) → SameTold a b x y xs ys
+pub same_told : (edition : Edition) (x y : Option (List ℕ)) → IsToldIn edition x → IsToldIn edition y → (a b : List ℕ) (xs ys : List (List ℕ)) →
+    a ∷ (field_told x ++ xs) ≡ b ∷ (field_told y ++ ys) → SameTold a b x y xs ys
 same_told First None None h k a b xs ys e = record { number = cc; told = refl; others = cc }
 same_told Second (Some t) (Some u) h k a b xs ys e = let field : t ≡ u = cc in record { number = cc; told = ap (λ (f : List ℕ). Some f) field; others = cc }
 same_told First (Some t) y h k a b xs ys e = absurd h

@@ -1,5 +1,6 @@
 -- Mileages as a sheet tells them.
-use Rattle.std.proofs.Common.{◌≡◌, ◌≢◌, inl, inr, ℕ, suc, ◌+◌, ◌/◌, ◌<◌, ◌≤◌, ◌^◌, Bool, true, false, List, [], ◌∷◌, ◌++◌, length, None, Some, IfSome, MatchOption, is_some, refl, sym, ◌∙◌, ap, subst, arith, append_assoc, length-append, length-drop, take, drop, ◌-◌, ◌*◌}
+use Rattle.std.proofs.Common.{◌≡◌, ◌≢◌, inl, inr, ℕ, suc, ◌+◌, ◌/◌, ◌<◌, ◌≤◌, ◌^◌, Bool, true, false, List, [], ◌∷◌, ◌++◌, length, None, Some, IfSome}
+use Rattle.std.proofs.Common.{MatchOption, is_some, refl, sym, ◌∙◌, ap, subst, arith, append_assoc, length-append, length-drop, take, drop, ◌-◌, ◌*◌}
 use Rattle.std.specs.Prelude.{IsTrue, ◌↔◌, ℤ, pos, negsuc, neg_ℤ, ◌<ℤ◌, codes}
 use Rattle.std.specs.declared.option.Option.{Option}
 use Rattle.std.specs.Fmt.{decimal}
@@ -71,14 +72,19 @@ joined (x ∷ a) b h k = (h.0, joined a b h.1 k)
 size_is_one : (text : List ℕ) → IsSize text → IsOneField text
 size_is_one text s =
     one_by (s.whole ++ 46 ∷ s.fraction) text s.spelled
-    (joined s.whole (46 ∷ s.fraction) (whole_is_one s.whole s.is_whole) ((λ e. no_end_at 46 (omega arith) e), digits_are_one s.fraction s.is_fraction.are_digits))
+    (joined s.whole (46 ∷ s.fraction) (whole_is_one s.whole s.is_whole) (
+      (λ e. no_end_at 46 (omega arith) e),
+      digits_are_one s.fraction
+          s.is_fraction.are_digits,
+    ))
 
 sign_is_one : (is_negative : Bool) → IsOneField (minus_text is_negative)
 sign_is_one true = ((λ e. no_end_at 45 (omega arith) e), tt)
 sign_is_one false = tt
 
 pub mileage_is_one : (text : List ℕ) → IsMileageText text → IsOneField text
-mileage_is_one text m = one_by (minus_text m.is_negative ++ m.size) text m.spelled (joined (minus_text m.is_negative) m.size (sign_is_one m.is_negative) (size_is_one m.size m.is_size))
+mileage_is_one text m = one_by (minus_text m.is_negative ++ m.size) text m.spelled
+    (joined (minus_text m.is_negative) m.size (sign_is_one m.is_negative) (size_is_one m.size m.is_size))
 
 pub told_is_one : (mileage : Option (List ℕ)) → IfSome mileage IsMileageText → AllByRecursion IsOneField (field_told mileage)
 told_is_one None h = tt
@@ -139,12 +145,23 @@ below_neg : (n b : ℕ) → neg_ℤ (pos b) <ℤ negsuc n → suc n < b
 below_neg n b less = omega (arith, ints)
 
 pub written_mileage : (z : ℤ) → IsMileage z → IsMileageText (metres_text z)
-written_mileage (pos n) near = let small = below_pos n (3000000000 * 1000000) near.1 in record { is_negative = false; size = size_text n; is_size = size_is n (omega (arith, small)); spelled = refl }
-written_mileage (negsuc n) near = let small = below_neg n (3000000000 * 1000000) near.0 in record { is_negative = true; size = size_text (suc n); is_size = size_is (suc n) (omega (arith, small)); spelled = refl }
+written_mileage (pos n) near = let small = below_pos n (3000000000 * 1000000) near.1 in record {
+  is_negative = false;
+  size = size_text n;
+  is_size = size_is n (omega (arith, small));
+  spelled = refl;
+}
+written_mileage (negsuc n) near = let small = below_neg n (3000000000 * 1000000) near.0 in record {
+  is_negative = true;
+  size = size_text (suc n);
+  is_size = size_is (suc n) (omega (arith, small));
+  spelled = refl;
+}
 
 -- ---- the tests
 
-pub whole_iff : (text : List ℕ) (o : Option ℕ) (b : Bool) → MatchOption o ((n : ℕ) → IsNumberIn 0 MAX_METRES text n → ⊥) (IsNumberIn 0 MAX_METRES text) → b ≡ is_some o → IsTrue b ↔ IsWholeMetres text
+pub whole_iff : (text : List ℕ) (o : Option ℕ) (b : Bool) → MatchOption o ((n : ℕ) → IsNumberIn 0 MAX_METRES text n → ⊥) (IsNumberIn 0 MAX_METRES text) →
+    b ≡ is_some o → IsTrue b ↔ IsWholeMetres text
 whole_iff text None b h e = (λ t. absurd (false≢true (sym e ∙ t)), λ w. absurd (h w.0 w.1))
 whole_iff text (Some n) b h e = (λ t. (n, h), λ w. e)
 
@@ -161,9 +178,11 @@ pub record SevenBehind (text whole rest : List ℕ) : Type 0 where
   pub cut : text ≡ whole ++ rest
   pub seven : length rest ≡ 7
 
-pub cut_seven : (text whole rest : List ℕ) → 7 ≤ length text → whole ≡ take (length text - 7) text → rest ≡ drop (length text - 7) text → SevenBehind text whole rest
+pub cut_seven : (text whole rest : List ℕ) → 7 ≤ length text → whole ≡ take (length text - 7) text → rest ≡ drop (length text - 7) text →
+    SevenBehind text whole rest
 cut_seven text whole rest long front back = record {
-  cut = sym (take-append-drop (length text - 7) text) ∙ ap (λ (t : List ℕ). t ++ drop (length text - 7) text) (sym front) ∙ ap (λ (t : List ℕ). whole ++ t) (sym back);
+  cut = sym (take-append-drop (length text - 7) text) ∙ ap (λ (t : List ℕ). t ++ drop (length text - 7) text) (sym front)
+      ∙ ap (λ (t : List ℕ). whole ++ t) (sym back);
   seven = let n = ap length back in let k = length-drop (length text - 7) text in omega (arith, n, k, long);
 }
 
@@ -178,14 +197,24 @@ no_whole text whole rest b cut seven tests so s =
 third_of : (x y : List ℕ) → 46 ∷ x ≡ 46 ∷ y → x ≡ y
 third_of x y e = cc
 
-pub size_iff : (text whole rest fraction : List ℕ) (b c : Bool) → text ≡ whole ++ rest → length rest ≡ 7 → rest ≡ codes "." ++ fraction → IsTrue b ↔ IsWholeMetres whole → b ≡ true → IsTrue c ↔ IsFraction fraction → IsTrue c ↔ IsSize text
+pub size_iff : (text whole rest fraction : List ℕ) (b c : Bool) → text ≡ whole ++ rest → length rest ≡ 7 → rest ≡ codes "." ++ fraction →
+    IsTrue b ↔ IsWholeMetres whole → b ≡ true → IsTrue c ↔ IsFraction fraction → IsTrue c ↔ IsSize text
 size_iff text whole rest fraction b c cut seven point tests so last = (
   λ t. record { whole = whole; fraction = fraction; is_whole = tests.0 so; is_fraction = last.0 t; spelled = cut ∙ ap (λ (r : List ℕ). whole ++ r) point },
-  λ s. let parts = size_cut text whole rest cut seven s in last.1 (subst IsFraction (sym (third_of fraction s.fraction (sym point ∙ parts.behind_is))) s.is_fraction),
+  λ s. let parts = size_cut text whole rest cut seven s in last.1 (subst IsFraction
+      (sym (third_of fraction s.fraction (sym point ∙ parts.behind_is))) s.is_fraction),
 )
 
 pub minus_iff : (field size : List ℕ) (b : Bool) → field ≡ codes "-" ++ size → IsTrue b ↔ IsSize size → IsTrue b ↔ IsMileageText field
 minus_iff field size b e tests = (λ t. record { is_negative = true; size = size; is_size = tests.0 t; spelled = e }, λ m. tests.1 (behind_minus field size e m))
 
 pub plain_iff : (field : List ℕ) (b : Bool) → ((size : List ℕ) → field ≢ codes "-" ++ size) → IsTrue b ↔ IsSize field → IsTrue b ↔ IsMileageText field
-plain_iff field b none tests = (λ t. record { is_negative = false; size = field; is_size = tests.0 t; spelled = refl }, λ m. tests.1 (without_minus field none m))
+plain_iff field b none tests = (
+  λ t. record {
+    is_negative = false;
+    size = field;
+    is_size = tests.0 t;
+    spelled = refl;
+  },
+  λ m. tests.1 (without_minus field none m),
+)

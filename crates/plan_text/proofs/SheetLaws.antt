@@ -1,5 +1,6 @@
 -- A text is that of one sheet, or has one first fault.
-use Rattle.std.proofs.Common.{◌≡◌, ◌⊎◌, ℕ, ◌+◌, Bool, true, Result, Ok, Err, MatchResult, List, [], ◌∷◌, ◌++◌, Option, None, Some, IfSome, length, refl, sym, ◌∙◌, ap, subst, arith, append_assoc, length-append}
+use Rattle.std.proofs.Common.{◌≡◌, ◌⊎◌, ℕ, ◌+◌, Bool, true, Result, Ok, Err, MatchResult, List, [], ◌∷◌, ◌++◌, Option, None, Some, IfSome, length, refl, sym}
+use Rattle.std.proofs.Common.{◌∙◌, ap, subst, arith, append_assoc, length-append}
 use Rattle.std.specs.Prelude.{flat_map}
 use Rattle.std.proofs.lemmas.Grind.{flat_map-append}
 use Rattle.std.proofs.lemmas.List.{append_cancel_left, append-nil}
@@ -22,7 +23,9 @@ use Rattle.plan_text.specs.declared.sheet_fault.SheetFault.TheVariants.{Sheet as
 use Rattle.plan_write.specs.SheetLine.{SheetLine, Title, GridLine, OrderLine, NodesLine, EdgeLine, ValuesLine, EndLine, text_of_line}
 use Rattle.plan_core.specs.Lawful.{HasSizeOf}
 use Rattle.plan_write.specs.SheetText.{Sheet, DrawsAll, picture_lines, drawing_lines, found_lines, sheet_lines}
-use Rattle.plan_text.specs.SheetFaults.{LineDue, TitleDue, BodyDue, NoneDue, due_behind, due_after, place_told, line_told, drawing_told, BeginsWithLine, IsMisformed, HasWrongLine, IsInRange, IsOfGraph, HasShape, IsMeasured, IsRight, AreRightLines, IsSheetText, IsDrawingOf, HasSheetFault, IsSheetFault}
+use Rattle.plan_text.specs.SheetFaults.{LineDue, TitleDue, BodyDue, NoneDue, due_behind, due_after, place_told, line_told, drawing_told, BeginsWithLine}
+use Rattle.plan_text.specs.SheetFaults.{IsMisformed, HasWrongLine, IsInRange, IsOfGraph, HasShape, IsMeasured, IsRight, AreRightLines, IsSheetText}
+use Rattle.plan_text.specs.SheetFaults.{IsDrawingOf, HasSheetFault, IsSheetFault}
 use Rattle.plan_text.proofs.LineAgain.{once_due, none_due}
 use Rattle.plan_text.proofs.ReadingLemmas.{due_append}
 use Rattle.plan_text.proofs.SheetAgain.{parts_of, parts_are, parts_tell, due_parts}
@@ -36,7 +39,8 @@ texts lines = flat_map text_of_line lines
 one_begin : (due : LineDue) (text : List ℕ) (l m : SheetLine) → BeginsWithLine due text l → BeginsWithLine due text m → l ≡ m
 one_begin due text l m a b = (once_due due l m a.is_due b.is_due a.behind b.behind a.form b.form (sym a.spelled ∙ b.spelled)).line
 
-right_begins : (g : Graph) (before : List SheetLine) (due : LineDue) (text rest : List ℕ) (l : SheetLine) → IsRight g before due l → text ≡ text_of_line l ++ rest → BeginsWithLine due text l
+right_begins : (g : Graph) (before : List SheetLine) (due : LineDue) (text rest : List ℕ) (l : SheetLine) → IsRight g before due l →
+    text ≡ text_of_line l ++ rest → BeginsWithLine due text l
 right_begins g before due text rest l right e = record { is_due = right.is_due; form = right.form; behind = rest; spelled = e }
 
 -- nothing of the form that is due begins a text that is misformed
@@ -45,7 +49,8 @@ misformed NoneDue text l h b = none_due l b.is_due
 misformed due text l h b = h l b
 
 -- where a line is right, no line has a fault
-right_or_fault : (g : Graph) (before : List SheetLine) (due : LineDue) (text rest : List ℕ) (l : SheetLine) (what : SheetWhat) → IsRight g before due l → text ≡ text_of_line l ++ rest → HasWrongLine g before due text what → ⊥
+right_or_fault : (g : Graph) (before : List SheetLine) (due : LineDue) (text rest : List ℕ) (l : SheetLine) (what : SheetWhat) → IsRight g before due l →
+    text ≡ text_of_line l ++ rest → HasWrongLine g before due text what → ⊥
 right_or_fault g before due text rest l whats.Form right e f = misformed due text l f (right_begins g before due text rest l right e)
 right_or_fault g before due text rest l whats.Range right e (m, b, not) =
     not (subst (IsInRange before due) (one_begin due text l m (right_begins g before due text rest l right e) b) right.range)
@@ -65,15 +70,20 @@ record Front (a b : List SheetLine) (q r : List ℕ) : Type 0 where
   left : r ≡ texts more ++ q
 
 -- nothing is right behind the lines in front of a fault
-up_to_fault : (g : Graph) (before : List SheetLine) (due : LineDue) (a b : List SheetLine) (q r : List ℕ) (what : SheetWhat) → AreRightLines g before due a → AreRightLines g before due b →
+up_to_fault : (g : Graph) (before : List SheetLine) (due : LineDue) (a b : List SheetLine) (q r : List ℕ) (what : SheetWhat) → AreRightLines g before due a →
+    AreRightLines g before due b →
     HasWrongLine g (before ++ a) (due_after g due a) q what → texts a ++ q ≡ texts b ++ r → Front a b q r
 up_to_fault g before due a [] q r what h k f e = record { more = a; split = refl; left = sym e }
 up_to_fault g before due [] (m ∷ b) q r what h k f e =
-    absurd (right_or_fault g before due q (texts b ++ r) m what k.0 (e ∙ append_assoc (text_of_line m) (texts b) r) (subst (λ (lines : List SheetLine). HasWrongLine g lines due q what) (append-nil before) f))
+    absurd (right_or_fault g before due q (texts b ++ r) m what k.0 (e ∙ append_assoc (text_of_line m) (texts b) r)
+    (subst (λ (lines : List SheetLine). HasWrongLine g lines due q what) (append-nil before) f))
 up_to_fault g before due (l ∷ a) (m ∷ b) q r what h k f e =
-    let same = once_due due l m h.0.is_due k.0.is_due (texts a ++ q) (texts b ++ r) h.0.form k.0.form (sym (append_assoc (text_of_line l) (texts a) q) ∙ e ∙ append_assoc (text_of_line m) (texts b) r) in
-    let right : AreRightLines g (before ++ l ∷ []) (due_behind g due l) b = subst (λ (n : SheetLine). AreRightLines g (before ++ n ∷ []) (due_behind g due n) b) (sym same.line) k.1 in
-    let fault : HasWrongLine g ((before ++ l ∷ []) ++ a) (due_after g (due_behind g due l) a) q what = subst (λ (lines : List SheetLine). HasWrongLine g lines (due_after g (due_behind g due l) a) q what) (sym (append_assoc before (l ∷ []) a)) f in
+    let same = once_due due l m h.0.is_due k.0.is_due (texts a ++ q) (texts b ++ r) h.0.form k.0.form
+    (sym (append_assoc (text_of_line l) (texts a) q) ∙ e ∙ append_assoc (text_of_line m) (texts b) r) in
+    let right : AreRightLines g (before ++ l ∷ []) (due_behind g due l) b = subst (λ (n : SheetLine). AreRightLines g (before ++ n ∷ []) (due_behind g due n) b)
+    (sym same.line) k.1 in
+    let fault : HasWrongLine g ((before ++ l ∷ []) ++ a) (due_after g (due_behind g due l) a) q what = subst
+    (λ (lines : List SheetLine). HasWrongLine g lines (due_after g (due_behind g due l) a) q what) (sym (append_assoc before (l ∷ []) a)) f in
     let later = up_to_fault g (before ++ l ∷ []) (due_behind g due l) a b q r what h.1 right fault same.behind in
     record {
       more = later.more;
@@ -84,20 +94,24 @@ up_to_fault g before due (l ∷ a) (m ∷ b) q r what h k f e =
 -- ---- a text with a fault is no sheet's
 
 -- the lines of a drawing and of an ending are those of its points and lines, its values and the ending
-pub lines_are : (edition : Edition) (g : Graph) (d : Drawing) (e : Ending) → HasSizeOf g d → drawing_lines edition g d ++ EndLine e ∷ [] ≡ parts_of edition g d ++ ValuesLine (values_of d) ∷ EndLine e ∷ []
+pub lines_are : (edition : Edition) (g : Graph) (d : Drawing) (e : Ending) → HasSizeOf g d →
+    drawing_lines edition g d ++ EndLine e ∷ [] ≡ parts_of edition g d ++ ValuesLine (values_of d) ∷ EndLine e ∷ []
 lines_are edition g d e size =
-    ap (λ (lines : List SheetLine). NodesLine (length g.nodes) ∷ lines) (append_assoc (picture_lines edition g d) (ValuesLine (values_of d) ∷ []) (EndLine e ∷ []))
+    ap (λ (lines : List SheetLine). NodesLine (length g.nodes) ∷ lines) (append_assoc (picture_lines edition g d) (ValuesLine (values_of d) ∷ [])
+    (EndLine e ∷ []))
     ∙ ap (λ (lines : List SheetLine). lines ++ ValuesLine (values_of d) ∷ EndLine e ∷ []) (sym (parts_are edition g d size))
 
 -- nothing is due behind a sheet
-due_behind_found : (edition : Edition) (g : Graph) (needs_drawing : Bool) (found : Option Drawing) (e : Ending) → IfSome found (HasSizeOf g) → due_after g (BodyDue edition needs_drawing) (found_lines edition g found ++ EndLine e ∷ []) ≡ NoneDue
+due_behind_found : (edition : Edition) (g : Graph) (needs_drawing : Bool) (found : Option Drawing) (e : Ending) → IfSome found (HasSizeOf g) →
+    due_after g (BodyDue edition needs_drawing) (found_lines edition g found ++ EndLine e ∷ []) ≡ NoneDue
 due_behind_found edition g needs_drawing None e all = refl
 due_behind_found edition g needs_drawing (Some d) e all =
     ap (due_after g (BodyDue edition true)) (lines_are edition g d e all)
     ∙ due_append g (BodyDue edition true) (parts_of edition g d) (ValuesLine (values_of d) ∷ EndLine e ∷ [])
     ∙ ap (λ (due : LineDue). due_after g due (ValuesLine (values_of d) ∷ EndLine e ∷ [])) (due_parts edition g d all)
 
-due_at_end : (edition : Edition) (g : Graph) (needs_drawing : Bool) (s : Sheet) → DrawsAll g s → due_after g (TitleDue needs_drawing) (sheet_lines edition g s) ≡ NoneDue
+due_at_end : (edition : Edition) (g : Graph) (needs_drawing : Bool) (s : Sheet) → DrawsAll g s →
+    due_after g (TitleDue needs_drawing) (sheet_lines edition g s) ≡ NoneDue
 due_at_end edition g needs_drawing s all = due_behind_found edition g needs_drawing s.found s.ending all
 
 -- where no text is left and no line is due, there is no fault
@@ -113,17 +127,20 @@ some_text : (l : SheetLine) (rest : List ℕ) → [] ≡ text_of_line l ++ rest 
 some_text (Title edition) rest e = cc
 some_text l rest e = cc
 
-pub sheet_or_fault : (g : Graph) (needs_drawing : Bool) (text : List ℕ) (s : Sheet) (what : SheetWhat) (line : ℕ) → IsSheetText g needs_drawing text s → HasSheetFault g needs_drawing text what line → ⊥
+pub sheet_or_fault : (g : Graph) (needs_drawing : Bool) (text : List ℕ) (s : Sheet) (what : SheetWhat) (line : ℕ) → IsSheetText g needs_drawing text s →
+    HasSheetFault g needs_drawing text what line → ⊥
 sheet_or_fault g needs_drawing text s what line h f =
     let due = TitleDue needs_drawing in
-    let front = up_to_fault g [] due f.before (sheet_lines h.edition g s) f.rest [] what f.right h.right f.fault (sym f.spelled ∙ h.spelled ∙ sym (append-nil (texts (sheet_lines h.edition g s)))) in
+    let front = up_to_fault g [] due f.before (sheet_lines h.edition g s) f.rest [] what f.right h.right f.fault
+    (sym f.spelled ∙ h.spelled ∙ sym (append-nil (texts (sheet_lines h.edition g s)))) in
     none_more front.more front.split front.left
   where
     none_more : (more : List SheetLine) → f.before ≡ sheet_lines h.edition g s ++ more → [] ≡ texts more ++ f.rest → ⊥
     none_more [] split left =
         let whole : f.before ≡ sheet_lines h.edition g s = split ∙ append-nil (sheet_lines h.edition g s) in
         no_fault_left g f.before f.rest what (sym left)
-        (subst (λ (due : LineDue). HasWrongLine g f.before due f.rest what) (ap (due_after g (TitleDue needs_drawing)) whole ∙ due_at_end h.edition g needs_drawing s h.draws_all) f.fault)
+        (subst (λ (due : LineDue). HasWrongLine g f.before due f.rest what) (ap (due_after g (TitleDue needs_drawing)) whole
+        ∙ due_at_end h.edition g needs_drawing s h.draws_all) f.fault)
     none_more (l ∷ more) split left = some_text l (texts more ++ f.rest) (left ∙ append_assoc (text_of_line l) (texts more) f.rest)
 
 -- ---- one first fault
@@ -152,7 +169,8 @@ shape_or_values before (ValuesLine values) h k = h tt
 shape_or_values before l h k = k tt
 
 -- one text has one fault at its first line
-one_fault : (g : Graph) (before : List SheetLine) (due : LineDue) (text : List ℕ) (what other : SheetWhat) → HasWrongLine g before due text what → HasWrongLine g before due text other → what ≡ other
+one_fault : (g : Graph) (before : List SheetLine) (due : LineDue) (text : List ℕ) (what other : SheetWhat) → HasWrongLine g before due text what →
+    HasWrongLine g before due text other → what ≡ other
 one_fault g before due text whats.Form whats.Form f h = refl
 one_fault g before due text whats.Form whats.Range f (m, b, not) = absurd (misformed due text m f b)
 one_fault g before due text whats.Form whats.Graph f (m, b, not) = absurd (misformed due text m f b)
@@ -206,14 +224,16 @@ both_fronts a b q r f h = ends f.more h.more f.split h.split f.left
         let m : length b ≡ length a + length rest = ap length other ∙ length-append a rest in
         absurd (omega (arith, n, m))
 
-same_first : (g : Graph) (needs_drawing : Bool) (text : List ℕ) (what other : SheetWhat) (line at : ℕ) (f : HasSheetFault g needs_drawing text what line) (h : HasSheetFault g needs_drawing text other at) → SameFirst f.before h.before f.rest h.rest
+same_first : (g : Graph) (needs_drawing : Bool) (text : List ℕ) (what other : SheetWhat) (line at : ℕ) (f : HasSheetFault g needs_drawing text what line)
+    (h : HasSheetFault g needs_drawing text other at) → SameFirst f.before h.before f.rest h.rest
 same_first g needs_drawing text what other line at f h =
     let due = TitleDue needs_drawing in
     both_fronts f.before h.before f.rest h.rest
     (up_to_fault g [] due f.before h.before f.rest h.rest what f.right h.right f.fault (sym f.spelled ∙ h.spelled))
     (up_to_fault g [] due h.before f.before h.rest f.rest other h.right f.right h.fault (sym h.spelled ∙ f.spelled))
 
-pub one_kind : (g : Graph) (needs_drawing : Bool) (text : List ℕ) (what other : SheetWhat) (line at : ℕ) → HasSheetFault g needs_drawing text what line → HasSheetFault g needs_drawing text other at → what ≡ other
+pub one_kind : (g : Graph) (needs_drawing : Bool) (text : List ℕ) (what other : SheetWhat) (line at : ℕ) → HasSheetFault g needs_drawing text what line →
+    HasSheetFault g needs_drawing text other at → what ≡ other
 one_kind g needs_drawing text what other line at f h =
     let same = same_first g needs_drawing text what other line at f h in
     let there : HasWrongLine g f.before (due_after g (TitleDue needs_drawing) f.before) f.rest other =
@@ -221,7 +241,8 @@ one_kind g needs_drawing text what other line at f h =
     (subst (λ (t : List ℕ). HasWrongLine g h.before (due_after g (TitleDue needs_drawing) h.before) t other) (sym same.left) h.fault) in
     one_fault g f.before (due_after g (TitleDue needs_drawing) f.before) f.rest what other f.fault there
 
-pub one_line : (g : Graph) (needs_drawing : Bool) (text : List ℕ) (what other : SheetWhat) (line at : ℕ) → HasSheetFault g needs_drawing text what line → HasSheetFault g needs_drawing text other at → line ≡ at
+pub one_line : (g : Graph) (needs_drawing : Bool) (text : List ℕ) (what other : SheetWhat) (line at : ℕ) → HasSheetFault g needs_drawing text what line →
+    HasSheetFault g needs_drawing text other at → line ≡ at
 one_line g needs_drawing text what other line at f h =
     f.counted
     ∙ ap (λ (lines : List SheetLine). length lines + 1) (same_first g needs_drawing text what other line at f h).lines
@@ -230,13 +251,15 @@ one_line g needs_drawing text what other line at f h =
 -- ---- one sheet
 
 -- right lines of one text are the same
-same_lines : (g : Graph) (before : List SheetLine) (due : LineDue) (a b : List SheetLine) → AreRightLines g before due a → AreRightLines g before due b → texts a ≡ texts b → a ≡ b
+same_lines : (g : Graph) (before : List SheetLine) (due : LineDue) (a b : List SheetLine) → AreRightLines g before due a → AreRightLines g before due b →
+    texts a ≡ texts b → a ≡ b
 same_lines g before due [] [] h k e = refl
 same_lines g before due [] (m ∷ b) h k e = absurd (some_text m (texts b) e)
 same_lines g before due (l ∷ a) [] h k e = absurd (some_text l (texts a) (sym e))
 same_lines g before due (l ∷ a) (m ∷ b) h k e =
     let same = once_due due l m h.0.is_due k.0.is_due (texts a) (texts b) h.0.form k.0.form e in
-    let right : AreRightLines g (before ++ l ∷ []) (due_behind g due l) b = subst (λ (n : SheetLine). AreRightLines g (before ++ n ∷ []) (due_behind g due n) b) (sym same.line) k.1 in
+    let right : AreRightLines g (before ++ l ∷ []) (due_behind g due l) b = subst (λ (n : SheetLine). AreRightLines g (before ++ n ∷ []) (due_behind g due n) b)
+    (sym same.line) k.1 in
     ap (λ (lines : List SheetLine). l ∷ lines) (same_lines g (before ++ l ∷ []) (due_behind g due l) a b h.1 right same.behind)
     ∙ ap (λ (n : SheetLine). n ∷ b) same.line
 
@@ -272,15 +295,19 @@ record SameEnd (a b : Option Drawing) (e f : Ending) : Type 0 where
   found : a ≡ b
   ending : e ≡ f
 
-same_end : (edition : Edition) (g : Graph) (a b : Option Drawing) (e f : Ending) → IfSome a (HasSizeOf g) → IfSome b (HasSizeOf g) → found_lines edition g a ++ EndLine e ∷ [] ≡ found_lines edition g b ++ EndLine f ∷ [] → SameEnd a b e f
+same_end : (edition : Edition) (g : Graph) (a b : Option Drawing) (e f : Ending) → IfSome a (HasSizeOf g) → IfSome b (HasSizeOf g) →
+    found_lines edition g a ++ EndLine e ∷ [] ≡ found_lines edition g b ++ EndLine f ∷ [] → SameEnd a b e f
 same_end edition g None None e f h k s = record { found = refl; ending = same_ending e f s }
-same_end edition g None (Some d) e f h k s = absurd (no_ending (length g.nodes) ((picture_lines edition g d ++ ValuesLine (values_of d) ∷ []) ++ EndLine f ∷ []) e (sym s))
-same_end edition g (Some d) None e f h k s = absurd (no_ending (length g.nodes) ((picture_lines edition g d ++ ValuesLine (values_of d) ∷ []) ++ EndLine e ∷ []) f s)
+same_end edition g None (Some d) e f h k s = absurd (no_ending (length g.nodes) ((picture_lines edition g d ++ ValuesLine (values_of d) ∷ []) ++ EndLine f ∷ [])
+    e (sym s))
+same_end edition g (Some d) None e f h k s = absurd (no_ending (length g.nodes) ((picture_lines edition g d ++ ValuesLine (values_of d) ∷ []) ++ EndLine e ∷ [])
+    f s)
 same_end edition g (Some c) (Some d) e f h k s =
     let same : c ≡ d = sym (told edition g c e h) ∙ ap drawing_told s ∙ told edition g d f k in
     record {
       found = ap (λ (x : Drawing). Some x) same;
-      ending = same_ending e f (append_cancel_left (drawing_lines edition g d) (EndLine e ∷ []) (EndLine f ∷ []) (ap (λ (x : Drawing). drawing_lines edition g x ++ EndLine e ∷ []) (sym same) ∙ s));
+      ending = same_ending e f (append_cancel_left (drawing_lines edition g d) (EndLine e ∷ []) (EndLine f ∷ [])
+          (ap (λ (x : Drawing). drawing_lines edition g x ++ EndLine e ∷ []) (sym same) ∙ s));
     }
 
 first_lines : (a b c d e f : SheetLine) (xs ys : List SheetLine) → a ∷ b ∷ c ∷ xs ≡ d ∷ e ∷ f ∷ ys → (a ≡ d) × (b ≡ e) × (c ≡ f) × (xs ≡ ys)
@@ -300,32 +327,42 @@ same_sheet a b g o f e =
 end_lines : Edition → Graph → Sheet → List SheetLine
 end_lines edition g s = found_lines edition g s.found ++ EndLine s.ending ∷ []
 
-pub one_sheet : (g : Graph) (needs_drawing : Bool) (text : List ℕ) (a b : Sheet) → IsSheetText g needs_drawing text a → IsSheetText g needs_drawing text b → a ≡ b
+pub one_sheet : (g : Graph) (needs_drawing : Bool) (text : List ℕ) (a b : Sheet) → IsSheetText g needs_drawing text a → IsSheetText g needs_drawing text b →
+    a ≡ b
 unfolding end_lines
 one_sheet g needs_drawing text a b h k =
     let e = h.edition in
     let f = k.edition in
-    let same : sheet_lines e g a ≡ sheet_lines f g b = same_lines g [] (TitleDue needs_drawing) (sheet_lines e g a) (sheet_lines f g b) h.right k.right (sym h.spelled ∙ k.spelled) in
-    let first = first_lines (Title e) (GridLine e a.grid) (OrderLine a.order) (Title f) (GridLine f b.grid) (OrderLine b.order) (end_lines e g a) (end_lines f g b) same in
+    let same : sheet_lines e g a ≡ sheet_lines f g b = same_lines g [] (TitleDue needs_drawing) (sheet_lines e g a) (sheet_lines f g b) h.right k.right
+    (sym h.spelled ∙ k.spelled) in
+    let first = first_lines (Title e) (GridLine e a.grid) (OrderLine a.order) (Title f) (GridLine f b.grid) (OrderLine b.order) (end_lines e g a)
+    (end_lines f g b) same in
     let left : end_lines e g a ≡ end_lines e g b = first.3 ∙ ap (λ (o : Edition). end_lines o g b) (sym (same_edition e f first.0)) in
     let end = same_end e g a.found b.found a.ending b.ending h.draws_all k.draws_all left in
     same_sheet a b (same_grid e f a.grid b.grid first.1) (same_order a.order b.order first.2) end.found end.ending
 
 -- ---- exactly one answer
 
-one_fault_of : (g : Graph) (needs_drawing : Bool) (text : List ℕ) (e f : SheetFault) → IsSheetFault g needs_drawing text e → IsSheetFault g needs_drawing text f → e ≡ f
+one_fault_of : (g : Graph) (needs_drawing : Bool) (text : List ℕ) (e f : SheetFault) → IsSheetFault g needs_drawing text e →
+    IsSheetFault g needs_drawing text f → e ≡ f
 one_fault_of g needs_drawing text (SheetHas what line) (SheetHas other at) h k =
-    ap (λ (w : SheetWhat). SheetHas w line) (one_kind g needs_drawing text what other line at h k) ∙ ap (λ (n : ℕ). SheetHas other n) (one_line g needs_drawing text what other line at h k)
+    ap (λ (w : SheetWhat). SheetHas w line) (one_kind g needs_drawing text what other line at h k)
+    ∙ ap (λ (n : ℕ). SheetHas other n) (one_line g needs_drawing text what other line at h k)
 one_fault_of g needs_drawing text Memory f h k = absurd h
 one_fault_of g needs_drawing text (SheetHas what line) Memory h k = absurd k
 
-no_fault_of : (g : Graph) (needs_drawing : Bool) (text : List ℕ) (s : Sheet) (f : SheetFault) → IsSheetText g needs_drawing text s → IsSheetFault g needs_drawing text f → ⊥
+no_fault_of : (g : Graph) (needs_drawing : Bool) (text : List ℕ) (s : Sheet) (f : SheetFault) → IsSheetText g needs_drawing text s →
+    IsSheetFault g needs_drawing text f → ⊥
 no_fault_of g needs_drawing text s (SheetHas what line) h k = sheet_or_fault g needs_drawing text s what line h k
 no_fault_of g needs_drawing text s Memory h k = k
 
-pub sheet_exactly : (g : Graph) (needs_drawing : Bool) (text : List ℕ) (result : Result Sheet SheetFault) → MatchResult result (IsSheetText g needs_drawing text) (λ fault. (fault ≡ Memory) ⊎ IsSheetFault g needs_drawing text fault) → AnswersExactly result Memory (IsSheetText g needs_drawing text) (IsSheetFault g needs_drawing text)
-sheet_exactly g needs_drawing text (Ok s) h = answers_exactly (Ok s) Memory (IsSheetText g needs_drawing text) (IsSheetFault g needs_drawing text) h tt (one_sheet g needs_drawing text) (one_fault_of g needs_drawing text) (no_fault_of g needs_drawing text)
-sheet_exactly g needs_drawing text (Err e) h = answers_exactly (Err e) Memory (IsSheetText g needs_drawing text) (IsSheetFault g needs_drawing text) tt h (one_sheet g needs_drawing text) (one_fault_of g needs_drawing text) (no_fault_of g needs_drawing text)
+pub sheet_exactly : (g : Graph) (needs_drawing : Bool) (text : List ℕ) (result : Result Sheet SheetFault) →
+    MatchResult result (IsSheetText g needs_drawing text) (λ fault. (fault ≡ Memory) ⊎ IsSheetFault g needs_drawing text fault) →
+    AnswersExactly result Memory (IsSheetText g needs_drawing text) (IsSheetFault g needs_drawing text)
+sheet_exactly g needs_drawing text (Ok s) h = answers_exactly (Ok s) Memory (IsSheetText g needs_drawing text) (IsSheetFault g needs_drawing text) h tt
+    (one_sheet g needs_drawing text) (one_fault_of g needs_drawing text) (no_fault_of g needs_drawing text)
+sheet_exactly g needs_drawing text (Err e) h = answers_exactly (Err e) Memory (IsSheetText g needs_drawing text) (IsSheetFault g needs_drawing text) tt h
+    (one_sheet g needs_drawing text) (one_fault_of g needs_drawing text) (no_fault_of g needs_drawing text)
 
 pair : GridSize → Drawing → GridSize × Drawing
 pair grid d = (grid, d)
@@ -344,6 +381,10 @@ one_drawing g text p q h k =
 no_fault_drawn : (g : Graph) (text : List ℕ) (p : GridSize × Drawing) (f : SheetFault) → IsDrawingOf g text p.0 p.1 → IsSheetFault g true text f → ⊥
 no_fault_drawn g text p f h k = no_fault_of g true text h.sheet f h.told k
 
-pub drawing_exactly : (g : Graph) (text : List ℕ) (result : Result (GridSize × Drawing) SheetFault) → MatchResult result (λ p. IsDrawingOf g text p.0 p.1) (λ fault. (fault ≡ Memory) ⊎ IsSheetFault g true text fault) → AnswersExactly result Memory (λ p. IsDrawingOf g text p.0 p.1) (IsSheetFault g true text)
-drawing_exactly g text (Ok p) h = answers_exactly (Ok p) Memory (λ q. IsDrawingOf g text q.0 q.1) (IsSheetFault g true text) h tt (one_drawing g text) (one_fault_of g true text) (no_fault_drawn g text)
-drawing_exactly g text (Err e) h = answers_exactly (Err e) Memory (λ q. IsDrawingOf g text q.0 q.1) (IsSheetFault g true text) tt h (one_drawing g text) (one_fault_of g true text) (no_fault_drawn g text)
+pub drawing_exactly : (g : Graph) (text : List ℕ) (result : Result (GridSize × Drawing) SheetFault) →
+    MatchResult result (λ p. IsDrawingOf g text p.0 p.1) (λ fault. (fault ≡ Memory) ⊎ IsSheetFault g true text fault) →
+    AnswersExactly result Memory (λ p. IsDrawingOf g text p.0 p.1) (IsSheetFault g true text)
+drawing_exactly g text (Ok p) h = answers_exactly (Ok p) Memory (λ q. IsDrawingOf g text q.0 q.1) (IsSheetFault g true text) h tt (one_drawing g text)
+    (one_fault_of g true text) (no_fault_drawn g text)
+drawing_exactly g text (Err e) h = answers_exactly (Err e) Memory (λ q. IsDrawingOf g text q.0 q.1) (IsSheetFault g true text) tt h (one_drawing g text)
+    (one_fault_of g true text) (no_fault_drawn g text)

@@ -1,5 +1,6 @@
 -- A sheet's text is never too long to be read: it has few lines, a line few fields, and a field few bytes.
-use Rattle.std.proofs.Common.{◌≡◌, ℕ, ◌*◌, ◌<◌, ◌≤◌, Bool, true, false, List, [], ◌∷◌, ◌++◌, None, Some, IfSome, map, length, sym, ap, subst, arith, length-append}
+use Rattle.std.proofs.Common.{◌≡◌, ℕ, ◌*◌, ◌<◌, ◌≤◌, Bool, true, false, List, [], ◌∷◌, ◌++◌, None, Some, IfSome, map, length, sym, ap, subst, arith}
+use Rattle.std.proofs.Common.{length-append}
 use Rattle.std.specs.Prelude.{⊤, All, codes, flat_map}
 use Rattle.std.specs.declared.option.Option.{Option}
 use Rattle.std.specs.Fmt.{decimal}
@@ -21,7 +22,8 @@ use Rattle.outside_io.specs.Criteria.{criterion_word}
 use Rattle.plan_write.specs.declared.edition.Edition.{Edition}
 use Rattle.plan_write.specs.declared.edition.Edition.TheVariants.{First, Second}
 use Rattle.plan_write.specs.declared.ending.Ending.TheVariants.{Best, NoDrawing, Conflicts, Room}
-use Rattle.plan_write.specs.SheetLine.{SheetLine, Title, GridLine, OrderLine, NodesLine, NodeLine, EdgesLine, EdgeLine, ValuesLine, EndLine, coordinates, first_field, other_fields, text_of_line, IsSmall, AreSmall, minus_text, IsMileageText, HasForm}
+use Rattle.plan_write.specs.SheetLine.{SheetLine, Title, GridLine, OrderLine, NodesLine, NodeLine, EdgesLine, EdgeLine, ValuesLine, EndLine, coordinates}
+use Rattle.plan_write.specs.SheetLine.{first_field, other_fields, text_of_line, IsSmall, AreSmall, minus_text, IsMileageText, HasForm}
 use Rattle.plan_write.specs.SheetText.{Sheet, node_line, edge_line, node_lines, edge_lines, found_lines, sheet_lines}
 use Rattle.plan_text.specs.SheetFaults.{LineDue, TitleDue, due_behind, AreRightLines, IsSheetText}
 use Rattle.plan_text.proofs.MileageLemmas.{size_length}
@@ -79,11 +81,13 @@ NamesShort (NodeLine number name place mileage) = IsShortField name
 NamesShort (EdgeLine number track west east points) = IfSome track IsShortField
 NamesShort line = ⊤
 
-node_fields : (number : ℕ) (name : List ℕ) (place : Point) (more : List (List ℕ)) → AreSmall (number ∷ coordinates place) → IsShortField name → All IsShortField more → All IsShortField (decimal number ∷ name ∷ decimal place.x ∷ decimal place.y ∷ more)
+node_fields : (number : ℕ) (name : List ℕ) (place : Point) (more : List (List ℕ)) → AreSmall (number ∷ coordinates place) → IsShortField name →
+    All IsShortField more → All IsShortField (decimal number ∷ name ∷ decimal place.x ∷ decimal place.y ∷ more)
 node_fields number name place more small short rest =
     All-cons IsShortField (decimal number) (name ∷ decimal place.x ∷ decimal place.y ∷ more) (short_number number small.0)
     (All-cons IsShortField name (decimal place.x ∷ decimal place.y ∷ more) short
-    (All-cons IsShortField (decimal place.x) (decimal place.y ∷ more) (short_number place.x small.1.0) (All-cons IsShortField (decimal place.y) more (short_number place.y small.1.1.0) rest)))
+    (All-cons IsShortField (decimal place.x) (decimal place.y ∷ more) (short_number place.x small.1.0)
+    (All-cons IsShortField (decimal place.y) more (short_number place.y small.1.1.0) rest)))
 
 short_fields : (line : SheetLine) → HasForm line → NamesShort line → All IsShortField (other_fields line)
 short_fields (Title First) form short = one_field (codes "1") (omega arith)
@@ -93,12 +97,14 @@ short_fields (GridLine Second grid) form short = short_numbers (grid.width ∷ g
 short_fields (OrderLine order) form short = short_words order
 short_fields (NodesLine count) form short = one_field (decimal count) (short_number count form)
 short_fields (NodeLine number name place None) form short = node_fields number name place [] form.1 short (All-nil IsShortField)
-short_fields (NodeLine number name place (Some mileage)) form short = node_fields number name place (mileage ∷ []) form.1 short (one_field mileage (short_mileage mileage form.2))
+short_fields (NodeLine number name place (Some mileage)) form short = node_fields number name place (mileage ∷ []) form.1 short
+    (one_field mileage (short_mileage mileage form.2))
 short_fields (EdgesLine count) form short = one_field (decimal count) (short_number count form)
 short_fields (EdgeLine number None west east points) form short = short_numbers (number ∷ west ∷ east ∷ flat_map coordinates points) form.1
 short_fields (EdgeLine number (Some track) west east points) form short =
     let numbers = west ∷ east ∷ flat_map coordinates points in
-    All-cons IsShortField (decimal number) (track ∷ map decimal numbers) (short_number number form.1.0) (All-cons IsShortField track (map decimal numbers) short (short_numbers numbers form.1.1))
+    All-cons IsShortField (decimal number) (track ∷ map decimal numbers) (short_number number form.1.0)
+    (All-cons IsShortField track (map decimal numbers) short (short_numbers numbers form.1.1))
 short_fields (ValuesLine values) form short = short_numbers (values.height ∷ values.bends ∷ values.diagonal ∷ values.width ∷ []) form
 short_fields (EndLine Best) form short = one_field (codes "best") (omega arith)
 short_fields (EndLine NoDrawing) form short = one_field (codes "none") (omega arith)
@@ -162,7 +168,8 @@ short_line line form short =
 
 -- ---- the lines of a sheet
 
-texts_length : (g : Graph) (before : List SheetLine) (due : LineDue) (lines : List SheetLine) → AreRightLines g before due lines → All NamesShort lines → length (flat_map text_of_line lines) ≤ 800 * length lines
+texts_length : (g : Graph) (before : List SheetLine) (due : LineDue) (lines : List SheetLine) → AreRightLines g before due lines → All NamesShort lines →
+    length (flat_map text_of_line lines) ≤ 800 * length lines
 texts_length g before due [] right short = omega arith
 texts_length g before due (line ∷ lines) right short =
     let here = short_line line right.0.form (All-head NamesShort line lines short) in
@@ -197,7 +204,8 @@ found_names edition g (Some d) station =
     let values = ValuesLine (values_of d) ∷ [] in
     All-cons NamesShort (NodesLine (length g.nodes)) ((nodes ++ EdgesLine (length g.edges) ∷ edges) ++ values) tt
     (All-append NamesShort (nodes ++ EdgesLine (length g.edges) ∷ edges) values
-    (All-append NamesShort nodes (EdgesLine (length g.edges) ∷ edges) (node_names edition g d station) (All-cons NamesShort (EdgesLine (length g.edges)) edges tt (edge_names edition g d station)))
+    (All-append NamesShort nodes (EdgesLine (length g.edges) ∷ edges) (node_names edition g d station)
+    (All-cons NamesShort (EdgesLine (length g.edges)) edges tt (edge_names edition g d station)))
     (All-cons NamesShort (ValuesLine (values_of d)) [] tt (All-nil NamesShort)))
 
 sheet_names : (edition : Edition) (g : Graph) (s : Sheet) → IsStationGraph g → All NamesShort (sheet_lines edition g s)
@@ -207,7 +215,8 @@ sheet_names edition g s station =
     All-cons NamesShort (Title edition) (GridLine edition s.grid ∷ OrderLine s.order ∷ body) tt
     (All-cons NamesShort (GridLine edition s.grid) (OrderLine s.order ∷ body) tt
     (All-cons NamesShort (OrderLine s.order) body tt
-    (All-append NamesShort (found_lines edition g s.found) end (found_names edition g s.found station) (All-cons NamesShort (EndLine s.ending) [] tt (All-nil NamesShort)))))
+    (All-append NamesShort (found_lines edition g s.found) end (found_names edition g s.found station)
+    (All-cons NamesShort (EndLine s.ending) [] tt (All-nil NamesShort)))))
 
 few_found : (edition : Edition) (g : Graph) (found : Option Drawing) → IsStationGraph g → length (found_lines edition g found) ≤ 300
 few_found edition g None station = omega arith
@@ -223,7 +232,8 @@ few_found edition g (Some d) station =
     omega (arith, few_nodes, few_edges, n, e, picture, all)
 
 -- 305 lines of 800 bytes at most
-pub short_sheet : (g : Graph) (needs_drawing : Bool) (text : List ℕ) (s : Sheet) → IsStationGraph g → IsSheetText g needs_drawing text s → length text ≤ MAX_FILE_BYTES
+pub short_sheet : (g : Graph) (needs_drawing : Bool) (text : List ℕ) (s : Sheet) → IsStationGraph g → IsSheetText g needs_drawing text s →
+    length text ≤ MAX_FILE_BYTES
 short_sheet g needs_drawing text s station h =
     let few = few_found h.edition g s.found station in
     let body = length-append (found_lines h.edition g s.found) (EndLine s.ending ∷ []) in

@@ -1,12 +1,14 @@
 -- A sheet as it is written has no line with a fault.
-use Rattle.std.proofs.Common.{◌≡◌, inl, inr, ℕ, ◌+◌, ◌<◌, ◌≤◌, Bool, true, false, List, [], ◌∷◌, ◌++◌, Option, None, Some, IfSome, map, length, get_or, refl, sym, ap, subst, arith}
+use Rattle.std.proofs.Common.{◌≡◌, inl, inr, ℕ, ◌+◌, ◌<◌, ◌≤◌, Bool, true, false, List, [], ◌∷◌, ◌++◌, Option, None, Some, IfSome, map, length, get_or, refl}
+use Rattle.std.proofs.Common.{sym, ap, subst, arith}
 use Rattle.std.specs.Prelude.{All, flat_map}
 use Rattle.std.specs.Char.{encode_utf8}
 use Rattle.std.specs.Option.{is_some}
 use Rattle.std.specs.Str.{IsUtf8, chars, encode_utf8_all}
 use Rattle.std.proofs.lemmas.Bool.{false≢true}
 use Rattle.std.proofs.lemmas.List.{append-nil}
-use Rattle.std.proofs.lemmas.List.Elements.{All-nil, All-cons, All-head, All-tail, All-append, All-map, All-weaker, All-get_or, All-from_get_or, recursion_from_All}
+use Rattle.std.proofs.lemmas.List.Elements.{All-nil, All-cons, All-head, All-tail, All-append, All-map, All-weaker, All-get_or, All-from_get_or}
+use Rattle.std.proofs.lemmas.List.Elements.{recursion_from_All}
 use Rattle.std.proofs.lemmas.List.Sums.{sum_by-le}
 use Rattle.std.proofs.lemmas.Str.{inside_one, encodes-chars}
 use Rattle.plan_core.specs.declared.point.Point.{Point}
@@ -28,10 +30,12 @@ use Rattle.plan_write.specs.declared.edition.Edition.{Edition}
 use Rattle.plan_write.specs.declared.edition.Edition.TheVariants.{First, Second}
 use Rattle.plan_write.specs.declared.ending.Ending.{Ending}
 use Rattle.plan_write.specs.declared.ending.Ending.TheVariants.{Best, NoDrawing, Conflicts, Room}
-use Rattle.plan_write.specs.SheetLine.{SheetLine, GridLine, NodesLine, NodeLine, EdgesLine, EdgeLine, ValuesLine, EndLine, coordinates, IsName, IsMileageText, IsSmall, AreSmall, IsSmallEnding, StandsForLeast, HasForm, MayEnd}
+use Rattle.plan_write.specs.SheetLine.{SheetLine, GridLine, NodesLine, NodeLine, EdgesLine, EdgeLine, ValuesLine, EndLine, coordinates, IsName, IsMileageText}
+use Rattle.plan_write.specs.SheetLine.{IsSmall, AreSmall, IsSmallEnding, StandsForLeast, HasForm, MayEnd}
 use Rattle.plan_core.specs.Lawful.{HasSizeOf}
 use Rattle.plan_write.specs.SheetText.{Sheet, StatesSettled, DrawsAll, DrawsOnGrid, mileage_field, track_field, drawing_lines, found_lines, text_in}
-use Rattle.plan_text.specs.SheetFaults.{LineDue, TitleDue, BodyDue, EdgesDue, ValuesDue, EndDue, IsDue, node_due, edge_due, order_told, drawing_told, IsRight, AreRightLines, IsSheetText}
+use Rattle.plan_text.specs.SheetFaults.{LineDue, TitleDue, BodyDue, EdgesDue, ValuesDue, EndDue, IsDue, node_due, edge_due, order_told, drawing_told, IsRight}
+use Rattle.plan_text.specs.SheetFaults.{AreRightLines, IsSheetText}
 use Rattle.plan_text.specs.SheetReading.{head_lines, placed_lines, drawn_lines}
 use Rattle.plan_text.proofs.ReadingLemmas.{right_append, mileage_told, track_told, node_due_at, edge_due_at, order_kept, drawing_grown}
 use Rattle.plan_text.proofs.SheetAgain.{parts_of, no_criteria, parts_tell, due_nodes, due_parts, head_order}
@@ -55,11 +59,13 @@ not_of_id b c (inr e) f less = omega (arith, e, f, less)
 -- no byte of an id's character ends a field, and so none of an id
 within_one : (c : ℕ) → IsIdCharacter c → All Within (encode_utf8 c)
 within_one c is = All-from_get_or Within (encode_utf8 c) 0 (λ k less ends.
-    not_of_id (get_or (encode_utf8 c) k 0) c ends (inside_one c [] (encode_utf8 c) k (sym (append-nil (encode_utf8 c))) less (ascii (get_or (encode_utf8 c) k 0) ends)) is.0)
+    not_of_id (get_or (encode_utf8 c) k 0) c ends (inside_one c [] (encode_utf8 c) k (sym (append-nil (encode_utf8 c))) less
+    (ascii (get_or (encode_utf8 c) k 0) ends)) is.0)
 
 within_all : (cs : List ℕ) → All IsIdCharacter cs → All Within (encode_utf8_all cs)
 within_all [] h = All-nil Within
-within_all (c ∷ cs) h = All-append Within (encode_utf8 c) (encode_utf8_all cs) (within_one c (All-head IsIdCharacter c cs h)) (within_all cs (All-tail IsIdCharacter c cs h))
+within_all (c ∷ cs) h = All-append Within (encode_utf8 c) (encode_utf8_all cs) (within_one c (All-head IsIdCharacter c cs h))
+    (within_all cs (All-tail IsIdCharacter c cs h))
 
 pub id_is_name : (name : List ℕ) → IsId name → IsUtf8 name → IsName name
 id_is_name name id utf8 = record {
@@ -104,7 +110,8 @@ few_rows grid (a ∷ rest) is line on =
     let w = is.width_limit in
     omega (arith, span, far, w)
 
-small_values : (g : Graph) (grid : GridSize) (d : Drawing) → IsStationGraph g → IsGrid grid → HasSizeOf g d → All (IsOnGrid grid) (all_points d) → All (λ l. is_line l ≡ true) d.lines →
+small_values : (g : Graph) (grid : GridSize) (d : Drawing) → IsStationGraph g → IsGrid grid → HasSizeOf g d → All (IsOnGrid grid) (all_points d) →
+    All (λ l. is_line l ≡ true) d.lines →
     AreSmall ((values_of d).height ∷ (values_of d).bends ∷ (values_of d).diagonal ∷ (values_of d).width ∷ [])
 small_values g grid d station is size on lines =
     let on_lines : All (All (IsOnGrid grid)) d.lines = All-lists (IsOnGrid grid) d.lines (all_back (IsOnGrid grid) d.places (flat_map (λ l. l) d.lines) on) in
@@ -112,10 +119,13 @@ small_values g grid d station is size on lines =
     let h = is.height_limit in
     let few = station.few_edges in
     let same = size.lines in
-    let height = maximum-le (map (λ (p : Point). p.y) (all_points d)) 12 (All-map (λ x. x ≤ 12) (λ (p : Point). p.y) (all_points d) (All-weaker (IsOnGrid grid) (λ p. p.y ≤ 12) (λ p at. let y = at.in_height in omega (arith, y, h)) (all_points d) on)) in
-    let width = maximum-le (map (λ (p : Point). p.x) (all_points d)) 64 (All-map (λ x. x ≤ 64) (λ (p : Point). p.x) (all_points d) (All-weaker (IsOnGrid grid) (λ p. p.x ≤ 64) (λ p at. let x = at.in_width in omega (arith, x, w)) (all_points d) on)) in
+    let height = maximum-le (map (λ (p : Point). p.y) (all_points d)) 12 (All-map (λ x. x ≤ 12) (λ (p : Point). p.y) (all_points d)
+    (All-weaker (IsOnGrid grid) (λ p. p.y ≤ 12) (λ p at. let y = at.in_height in omega (arith, y, h)) (all_points d) on)) in
+    let width = maximum-le (map (λ (p : Point). p.x) (all_points d)) 64 (All-map (λ x. x ≤ 64) (λ (p : Point). p.x) (all_points d)
+    (All-weaker (IsOnGrid grid) (λ p. p.x ≤ 64) (λ p at. let x = at.in_width in omega (arith, x, w)) (all_points d) on)) in
     let bent = sum_by-le bends 2 d.lines (All-weaker (λ l. is_line l ≡ true) (λ l. bends l ≤ 2) bends-le d.lines lines) in
-    let rows = sum_by-le diagonal 64 d.lines (All-weaker (λ l. (is_line l ≡ true) × All (IsOnGrid grid) l) (λ l. diagonal l ≤ 64) (λ l both. few_rows grid l is both.0 both.1) d.lines (All-both (λ l. is_line l ≡ true) (All (IsOnGrid grid)) d.lines lines on_lines)) in
+    let rows = sum_by-le diagonal 64 d.lines (All-weaker (λ l. (is_line l ≡ true) × All (IsOnGrid grid) l) (λ l. diagonal l ≤ 64)
+    (λ l both. few_rows grid l is both.0 both.1) d.lines (All-both (λ l. is_line l ≡ true) (All (IsOnGrid grid)) d.lines lines on_lines)) in
     (omega (arith, height), (omega (arith, bent, few, same), (omega (arith, rows, few, same), (omega (arith, width), tt))))
 
 small_ending : (order : List Criterion) (is_drawn : Bool) (e : Ending) → IsOrder order → StatesSettled order is_drawn e → IsSmallEnding e
@@ -140,7 +150,9 @@ track_form : (edition : Edition) (g : Graph) (e : ℕ) → IsName (edge g e).tra
 track_form First g e is = tt
 track_form Second g e is = is
 
-right_nodes : (edition : Edition) (g : Graph) (grid : GridSize) (before : List SheetLine) (k : ℕ) (places : List Point) → IsStationGraph g → HasNames g → IsGrid grid → k + length places ≤ length g.nodes → All (IsOnGrid grid) places → AreRightLines g before (node_due edition g k) (placed_lines edition g k places)
+right_nodes : (edition : Edition) (g : Graph) (grid : GridSize) (before : List SheetLine) (k : ℕ) (places : List Point) → IsStationGraph g → HasNames g →
+    IsGrid grid → k + length places ≤ length g.nodes → All (IsOnGrid grid) places →
+    AreRightLines g before (node_due edition g k) (placed_lines edition g k places)
 right_nodes edition g grid before k [] station names is fits on = tt
 right_nodes edition g grid before k (p ∷ places) station names is fits on =
     let less : k < length g.nodes = omega (arith, fits) in
@@ -150,7 +162,8 @@ right_nodes edition g grid before k (p ∷ places) station names is fits on =
     subst (λ (due : LineDue). AreRightLines g before due (placed_lines edition g k (p ∷ places))) (sym (node_due_at edition g k less)) (
       record {
         is_due = mileage_told edition g k;
-        form = (names k less, (small, small_point grid p is (All-head (IsOnGrid grid) p places on)), mileage_form edition g k (All-get_or (λ (n : Node). IsMileage n.mileage) g.nodes k no_node less station.mileages));
+        form = (names k less, (small, small_point grid p is (All-head (IsOnGrid grid) p places on)), mileage_form edition g k
+        (All-get_or (λ (n : Node). IsMileage n.mileage) g.nodes k no_node less station.mileages));
         range = tt;
         of_graph = (refl, refl, refl);
         shape = tt;
@@ -159,7 +172,9 @@ right_nodes edition g grid before k (p ∷ places) station names is fits on =
       right_nodes edition g grid (before ++ line ∷ []) (k + 1) places station names is (omega (arith, fits)) (All-tail (IsOnGrid grid) p places on),
     )
 
-right_edges : (edition : Edition) (g : Graph) (grid : GridSize) (before : List SheetLine) (k : ℕ) (lines : List (List Point)) → IsStationGraph g → HasTracks g → IsGrid grid → k + length lines ≤ length g.edges → All (λ l. is_line l ≡ true) lines → All (All (IsOnGrid grid)) lines → AreRightLines g before (edge_due edition g k) (drawn_lines edition g k lines)
+right_edges : (edition : Edition) (g : Graph) (grid : GridSize) (before : List SheetLine) (k : ℕ) (lines : List (List Point)) → IsStationGraph g → HasTracks g →
+    IsGrid grid → k + length lines ≤ length g.edges → All (λ l. is_line l ≡ true) lines → All (All (IsOnGrid grid)) lines →
+    AreRightLines g before (edge_due edition g k) (drawn_lines edition g k lines)
 right_edges edition g grid before k [] station tracks is fits are on = tt
 right_edges edition g grid before k (l ∷ lines) station tracks is fits are on =
     let less : k < length g.edges = omega (arith, fits) in
@@ -175,13 +190,16 @@ right_edges edition g grid before k (l ∷ lines) station tracks is fits are on 
     subst (λ (due : LineDue). AreRightLines g before due (drawn_lines edition g k (l ∷ lines))) (sym (edge_due_at edition g k less)) (
       record {
         is_due = track_told edition g k;
-        form = (record { from = points.0; to = points.1 }, (small, (west, (east, small_points grid l is (All-head (All (IsOnGrid grid)) l lines on)))), track_form edition g k (tracks k less));
+        form = (record {
+        from = points.0; to = points.1
+        }, (small, (west, (east, small_points grid l is (All-head (All (IsOnGrid grid)) l lines on)))), track_form edition g k (tracks k less));
         range = tt;
         of_graph = (refl, refl, refl, refl);
         shape = shape;
         measured = tt;
       },
-      right_edges edition g grid (before ++ line ∷ []) (k + 1) lines station tracks is (omega (arith, fits)) (All-tail (λ l. is_line l ≡ true) l lines are) (All-tail (All (IsOnGrid grid)) l lines on),
+      right_edges edition g grid (before ++ line ∷ []) (k + 1) lines station tracks is (omega (arith, fits)) (All-tail (λ l. is_line l ≡ true) l lines are)
+      (All-tail (All (IsOnGrid grid)) l lines on),
     )
 
 count_due : (edition : Edition) (needs_drawing : Bool) (n : ℕ) → IsDue (BodyDue edition needs_drawing) (NodesLine n)
@@ -198,7 +216,8 @@ record IsDrawn (g : Graph) (grid : GridSize) (d : Drawing) : Type 0 where
   on_grid : All (IsOnGrid grid) (all_points d)
   are_lines : All (λ l. is_line l ≡ true) d.lines
 
-right_parts : (edition : Edition) (g : Graph) (needs_drawing : Bool) (grid : GridSize) (d : Drawing) (before : List SheetLine) → IsDrawn g grid d → AreRightLines g before (BodyDue edition needs_drawing) (parts_of edition g d)
+right_parts : (edition : Edition) (g : Graph) (needs_drawing : Bool) (grid : GridSize) (d : Drawing) (before : List SheetLine) → IsDrawn g grid d →
+    AreRightLines g before (BodyDue edition needs_drawing) (parts_of edition g d)
 right_parts edition g needs_drawing grid d before h =
     let n = length g.nodes in
     let e = length g.edges in
@@ -210,16 +229,21 @@ right_parts edition g needs_drawing grid d before h =
     let counted = before ++ NodesLine n ∷ [] in
     let edges : AreRightLines g (counted ++ placed) (EdgesDue edition) (EdgesLine e ∷ drawn_lines edition g 0 d.lines) = (
       record { is_due = tt; form = omega (arith, few_edges); range = tt; of_graph = refl; shape = tt; measured = tt },
-      right_edges edition g grid ((counted ++ placed) ++ EdgesLine e ∷ []) 0 d.lines h.station h.tracks h.is_grid (omega (arith, lines)) h.are_lines (All-lists (IsOnGrid grid) d.lines (all_back (IsOnGrid grid) d.places (flat_map (λ l. l) d.lines) h.on_grid)),
+      right_edges edition g grid ((counted ++ placed) ++ EdgesLine e ∷ []) 0 d.lines h.station h.tracks h.is_grid (omega (arith, lines)) h.are_lines
+      (All-lists (IsOnGrid grid) d.lines (all_back (IsOnGrid grid) d.places (flat_map (λ l. l) d.lines) h.on_grid)),
     ) in (
       record { is_due = count_due edition needs_drawing n; form = omega (arith, few_nodes); range = tt; of_graph = refl; shape = tt; measured = tt },
       right_append g counted (node_due edition g 0) placed (EdgesLine e ∷ drawn_lines edition g 0 d.lines)
-          (right_nodes edition g grid counted 0 d.places h.station h.names h.is_grid (omega (arith, places)) (all_front (IsOnGrid grid) d.places (flat_map (λ l. l) d.lines) h.on_grid))
-          (subst (λ (due : LineDue). AreRightLines g (counted ++ placed) due (EdgesLine e ∷ drawn_lines edition g 0 d.lines)) (sym (due_nodes edition g d.places places)) edges),
+          (right_nodes edition g grid counted 0 d.places h.station h.names h.is_grid (omega (arith, places))
+          (all_front (IsOnGrid grid) d.places (flat_map (λ l. l) d.lines) h.on_grid))
+          (subst (λ (due : LineDue). AreRightLines g (counted ++ placed) due (EdgesLine e ∷ drawn_lines edition g 0 d.lines))
+          (sym (due_nodes edition g d.places places)) edges),
     )
 
 -- with its values and the ending
-right_drawn : (edition : Edition) (g : Graph) (needs_drawing : Bool) (grid : GridSize) (order : List Criterion) (d : Drawing) (e : Ending) → IsDrawn g grid d → IsOrder order → MayEnd true e → StatesSettled order true e → AreRightLines g (head_lines edition grid order) (BodyDue edition needs_drawing) (drawing_lines edition g d ++ EndLine e ∷ [])
+right_drawn : (edition : Edition) (g : Graph) (needs_drawing : Bool) (grid : GridSize) (order : List Criterion) (d : Drawing) (e : Ending) → IsDrawn g grid d →
+    IsOrder order → MayEnd true e → StatesSettled order true e → AreRightLines g (head_lines edition grid order) (BodyDue edition needs_drawing)
+    (drawing_lines edition g d ++ EndLine e ∷ [])
 right_drawn edition g needs_drawing grid order d e h is may settled =
     let head = head_lines edition grid order in
     let parts = parts_of edition g d in
@@ -228,26 +252,39 @@ right_drawn edition g needs_drawing grid order d e h is may settled =
     let ordered : order_told before ≡ order = order_kept head parts order (no_criteria edition g d) (head_order edition grid order) in
     let last : order_told (before ++ ValuesLine (values_of d) ∷ []) ≡ order = order_kept before (ValuesLine (values_of d) ∷ []) order refl ordered in
     let values : IsRight g before ValuesDue (ValuesLine (values_of d)) =
-    record { is_due = tt; form = small_values g grid d h.station h.is_grid h.size h.on_grid h.are_lines; range = tt; of_graph = tt; shape = tt; measured = ap values_of (sym told) } in
+    record {
+    is_due = tt; form = small_values g grid d h.station h.is_grid h.size h.on_grid h.are_lines; range = tt; of_graph = tt; shape = tt; measured = ap values_of
+    (sym told)
+    } in
     let end : IsRight g (before ++ ValuesLine (values_of d) ∷ []) EndDue (EndLine e) =
-    record { is_due = may; form = small_ending order true e is settled; range = subst (λ (o : List Criterion). StatesSettled o true e) (sym last) settled; of_graph = tt; shape = tt; measured = tt } in
+    record {
+    is_due = may; form = small_ending order true e is settled; range = subst (λ (o : List Criterion). StatesSettled o true e) (sym last) settled; of_graph = tt;
+    shape = tt; measured = tt
+    } in
     subst (λ (lines : List SheetLine). AreRightLines g head (BodyDue edition needs_drawing) lines) (sym (lines_are edition g d e h.size))
     (right_append g head (BodyDue edition needs_drawing) parts (ValuesLine (values_of d) ∷ EndLine e ∷ []) (right_parts edition g needs_drawing grid d head h)
-    (subst (λ (due : LineDue). AreRightLines g before due (ValuesLine (values_of d) ∷ EndLine e ∷ [])) (sym (due_parts edition g d h.size)) (values, (end, tt))))
+    (subst (λ (due : LineDue). AreRightLines g before due (ValuesLine (values_of d) ∷ EndLine e ∷ [])) (sym (due_parts edition g d h.size))
+    (values, (end, tt))))
 
 -- ---- the whole sheet
 
 grid_form : (edition : Edition) (grid : GridSize) → IsGrid grid → StandsForLeast edition grid → HasForm (GridLine edition grid)
 grid_form First grid is stands = let w = is.width_limit in let h = is.height_limit in ((omega (arith, w), (omega (arith, h), tt)), stands)
-grid_form Second grid is stands = let w = is.width_limit in let h = is.height_limit in let l = is.least_limit in ((omega (arith, w), (omega (arith, h), (omega (arith, l), tt))), tt)
+grid_form Second grid is stands = let w = is.width_limit in let h = is.height_limit in let l = is.least_limit in
+    ((omega (arith, w), (omega (arith, h), (omega (arith, l), tt))), tt)
 
-right_head : (edition : Edition) (g : Graph) (needs_drawing : Bool) (grid : GridSize) (order : List Criterion) → IsGrid grid → StandsForLeast edition grid → IsOrder order → AreRightLines g [] (TitleDue needs_drawing) (head_lines edition grid order)
+right_head : (edition : Edition) (g : Graph) (needs_drawing : Bool) (grid : GridSize) (order : List Criterion) → IsGrid grid → StandsForLeast edition grid →
+    IsOrder order → AreRightLines g [] (TitleDue needs_drawing) (head_lines edition grid order)
 right_head edition g needs_drawing grid order is_grid stands is_order = (
   record { is_due = tt; form = tt; range = tt; of_graph = tt; shape = tt; measured = tt },
   (
     record { is_due = refl; form = grid_form edition grid is_grid stands; range = is_grid; of_graph = tt; shape = tt; measured = tt },
     (
-      record { is_due = tt; form = record { from = is_order.some; to = few_criteria order is_order.each_once }; range = is_order; of_graph = tt; shape = tt; measured = tt },
+      record {
+      is_due = tt; form = record {
+      from = is_order.some; to = few_criteria order is_order.each_once
+      }; range = is_order; of_graph = tt; shape = tt; measured = tt
+      },
       tt,
     ),
   ),
@@ -270,7 +307,8 @@ pub record IsWritable (g : Graph) (s : Sheet) : Type 0 where
   pub on_grid : DrawsOnGrid s
   pub settled : StatesSettled s.order (is_some s.found) s.ending
 
-right_undrawn : (edition : Edition) (g : Graph) (grid : GridSize) (order : List Criterion) (e : Ending) → IsOrder order → MayEnd false e → StatesSettled order false e → AreRightLines g (head_lines edition grid order) (BodyDue edition false) (EndLine e ∷ [])
+right_undrawn : (edition : Edition) (g : Graph) (grid : GridSize) (order : List Criterion) (e : Ending) → IsOrder order → MayEnd false e →
+    StatesSettled order false e → AreRightLines g (head_lines edition grid order) (BodyDue edition false) (EndLine e ∷ [])
 right_undrawn edition g grid order e is may settled = (
   record {
     is_due = may;
@@ -283,11 +321,14 @@ right_undrawn edition g grid order e is may settled = (
   tt,
 )
 
-right_found : (edition : Edition) (g : Graph) (s : Sheet) (needs_drawing : Bool) → IsWritable g s → (needs_drawing ≡ true → is_some s.found ≡ true) → AreRightLines g (head_lines edition s.grid s.order) (BodyDue edition needs_drawing) (found_lines edition g s.found ++ EndLine s.ending ∷ [])
+right_found : (edition : Edition) (g : Graph) (s : Sheet) (needs_drawing : Bool) → IsWritable g s → (needs_drawing ≡ true → is_some s.found ≡ true) →
+    AreRightLines g (head_lines edition s.grid s.order) (BodyDue edition needs_drawing) (found_lines edition g s.found ++ EndLine s.ending ∷ [])
 right_found edition g s needs_drawing h drawn = by_case needs_drawing s.found drawn h.draws_all h.on_grid h.kept.are_lines h.kept.may_end h.settled
   where
-    by_case : (needs_drawing : Bool) (found : Option Drawing) → (needs_drawing ≡ true → is_some found ≡ true) → IfSome found (HasSizeOf g) → IfSome found (λ d. All (IsOnGrid s.grid) (all_points d)) → IfSome found (λ d. All (λ l. is_line l ≡ true) d.lines) →
-        MayEnd (is_some found) s.ending → StatesSettled s.order (is_some found) s.ending → AreRightLines g (head_lines edition s.grid s.order) (BodyDue edition needs_drawing) (found_lines edition g found ++ EndLine s.ending ∷ [])
+    by_case : (needs_drawing : Bool) (found : Option Drawing) → (needs_drawing ≡ true → is_some found ≡ true) → IfSome found (HasSizeOf g) →
+    IfSome found (λ d. All (IsOnGrid s.grid) (all_points d)) → IfSome found (λ d. All (λ l. is_line l ≡ true) d.lines) →
+        MayEnd (is_some found) s.ending → StatesSettled s.order (is_some found) s.ending →
+        AreRightLines g (head_lines edition s.grid s.order) (BodyDue edition needs_drawing) (found_lines edition g found ++ EndLine s.ending ∷ [])
     by_case true None drawn size on are may settled = absurd (false≢true (drawn refl))
     by_case false None drawn size on are may settled = right_undrawn edition g s.grid s.order s.ending h.kept.is_order may settled
     by_case needs_drawing (Some d) drawn size on are may settled =
@@ -295,10 +336,12 @@ right_found edition g s needs_drawing h drawn = by_case needs_drawing s.found dr
         (record { station = h.station; names = h.names; tracks = h.tracks; is_grid = h.kept.is_grid; size = size; on_grid = on; are_lines = are })
         h.kept.is_order may settled
 
-pub written : (edition : Edition) (g : Graph) (s : Sheet) (needs_drawing : Bool) → StandsForLeast edition s.grid → IsWritable g s → (needs_drawing ≡ true → is_some s.found ≡ true) → IsSheetText g needs_drawing (text_in edition g s) s
+pub written : (edition : Edition) (g : Graph) (s : Sheet) (needs_drawing : Bool) → StandsForLeast edition s.grid → IsWritable g s →
+    (needs_drawing ≡ true → is_some s.found ≡ true) → IsSheetText g needs_drawing (text_in edition g s) s
 written edition g s needs_drawing stands h drawn = record {
   edition = edition;
   draws_all = h.draws_all;
-  right = right_append g [] (TitleDue needs_drawing) (head_lines edition s.grid s.order) (found_lines edition g s.found ++ EndLine s.ending ∷ []) (right_head edition g needs_drawing s.grid s.order h.kept.is_grid stands h.kept.is_order) (right_found edition g s needs_drawing h drawn);
+  right = right_append g [] (TitleDue needs_drawing) (head_lines edition s.grid s.order) (found_lines edition g s.found ++ EndLine s.ending ∷ [])
+  (right_head edition g needs_drawing s.grid s.order h.kept.is_grid stands h.kept.is_order) (right_found edition g s needs_drawing h drawn);
   spelled = refl;
 }

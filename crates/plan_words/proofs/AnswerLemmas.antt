@@ -1,5 +1,6 @@
 -- Words have one answer.
-use Rattle.std.proofs.Common.{◌≡◌, ◌≢◌, ℕ, zero, suc, ◌+◌, ◌^◌, ◌<◌, ◌⊎◌, inl, inr, None, Some, List, [], ◌∷◌, ◌++◌, length, get_or, refl, sym, ap, subst, ◌∙◌, length-append, arith}
+use Rattle.std.proofs.Common.{◌≡◌, ◌≢◌, ℕ, zero, suc, ◌+◌, ◌^◌, ◌<◌, ◌⊎◌, inl, inr, None, Some, List, [], ◌∷◌, ◌++◌, length, get_or, refl, sym, ap, subst, ◌∙◌}
+use Rattle.std.proofs.Common.{length-append, arith}
 use Rattle.std.specs.Prelude.{Result, IfOk, IfErr, Option, if◌then◌else◌, ◌==◌}
 use Rattle.std.proofs.Math.Seq.{get_or-append_seam}
 use Rattle.std.proofs.lemmas.List.{get_or_append_left}
@@ -22,8 +23,10 @@ use Rattle.plan_words.specs.declared.fault.WordFault.{WordFault}
 use Rattle.plan_words.specs.declared.fault.WordFault.TheVariants as answers
 use Rattle.plan_words.specs.OptionValues.{IsOrderText, IsSeed}
 use Rattle.plan_words.specs.Arguments.{arguments_from, argument_names, files_in}
-use Rattle.plan_words.specs.WordFaults.{command_word, number_of, SomeHasWordFault, IsLeftmost, MayBothStand, AllMayStand, HasClash, IsFirstRepeat, IsMissing, HasOneNameTwice, IsFaultOfArguments, IsFaultBehind, IsFaultOfWords}
-use Rattle.plan_words.specs.Words.{default_order, IsChosen, IsDrawCommand, IsFrontCommand, IsRedrawCommand, command_kind, HasParts, AreSoundArguments, IsCommandOf, IsWordFault, IsExplainCommand}
+use Rattle.plan_words.specs.WordFaults.{command_word, number_of, SomeHasWordFault, IsLeftmost, MayBothStand, AllMayStand, HasClash, IsFirstRepeat, IsMissing}
+use Rattle.plan_words.specs.WordFaults.{HasOneNameTwice, IsFaultOfArguments, IsFaultBehind, IsFaultOfWords}
+use Rattle.plan_words.specs.Words.{default_order, IsChosen, IsDrawCommand, IsFrontCommand, IsRedrawCommand, command_kind, HasParts, AreSoundArguments}
+use Rattle.plan_words.specs.Words.{IsCommandOf, IsWordFault, IsExplainCommand}
 use Rattle.plan_words.proofs.OrderTextLemmas.{criteria_text_injective}
 use Rattle.plan_words.proofs.FileLemmas.{values_apart}
 
@@ -31,7 +34,9 @@ use Rattle.plan_words.proofs.FileLemmas.{values_apart}
 
 abbrev command_at : List ℕ → CommandWord
 command_at [] = words.Draw
-command_at (b ∷ bytes) = if b == 118 then words.Verify else if b == 99 then words.Check else if b == 103 then words.Graph else if b == 109 then words.Make else if b == 116 then (if length bytes == 3 then words.Trim else words.Trial) else if b == 115 then words.Signals else if b == 102 then words.Front else if b == 114 then (if length bytes == 6 then words.Recheck else words.Redraw) else if b == 101 then words.Explain else words.Draw
+command_at (b ∷ bytes) = if b == 118 then words.Verify else if b == 99 then words.Check else if b == 103 then words.Graph else if b == 109 then words.Make else
+    if b == 116 then (if length bytes == 3 then words.Trim else words.Trial) else if b == 115 then words.Signals else if b == 102 then words.Front else if
+    b == 114 then (if length bytes == 6 then words.Recheck else words.Redraw) else if b == 101 then words.Explain else words.Draw
 
 command_at-word : (command : CommandWord) → command_at (command_word command) ≡ command
 command_at-word words.Draw = refl
@@ -73,7 +78,9 @@ number_of_injective a b is = sym (kind_at-number a) ∙ ap kind_at is ∙ kind_a
 
 -- ---- a list is cut at two places
 
-two_cuts : (before : List FileWord) (x : FileWord) (after front : List FileWord) (y : FileWord) (back : List FileWord) → before ++ x ∷ after ≡ front ++ y ∷ back → ((before ≡ front) × (x ≡ y)) ⊎ (((between : List FileWord) × (front ≡ before ++ x ∷ between)) ⊎ ((between : List FileWord) × (before ≡ front ++ y ∷ between)))
+two_cuts : (before : List FileWord) (x : FileWord) (after front : List FileWord) (y : FileWord) (back : List FileWord) →
+    before ++ x ∷ after ≡ front ++ y ∷ back → ((before ≡ front) × (x ≡ y)) ⊎ (((between : List FileWord) × (front ≡ before ++ x ∷ between)) ⊎
+    ((between : List FileWord) × (before ≡ front ++ y ∷ between)))
 two_cuts [] x after [] y back e = let same : x ≡ y = cc in inl (refl, same)
 two_cuts [] x after (z ∷ front) y back e = let same : z ≡ x = cc in inr (inl (front, ap (λ (w : FileWord). w ∷ front) same))
 two_cuts (w ∷ before) x after [] y back e = let same : w ≡ y = cc in inr (inr (before, ap (λ (v : FileWord). v ∷ before) same))
@@ -82,17 +89,23 @@ two_cuts (w ∷ before) x after (z ∷ front) y back e =
     let tail : before ++ x ∷ after ≡ front ++ y ∷ back = cc in
     elim (two_cuts before x after front y back tail) [
       | inl h ↦ let begins = h.0 in inl (ap (λ (v : FileWord). v ∷ before) same ∙ ap (λ (vs : List FileWord). z ∷ vs) begins, h.1)
-      | inr (inl h) ↦ let begins = h.1 in inr (inl (h.0, ap (λ (vs : List FileWord). z ∷ vs) begins ∙ ap (λ (v : FileWord). v ∷ (before ++ x ∷ h.0)) (sym same)))
+      | inr (inl h) ↦ let begins = h.1 in inr (inl (
+        h.0,
+        ap (λ (vs : List FileWord). z ∷ vs) begins
+            ∙ ap (λ (v : FileWord). v ∷ (before ++ x ∷ h.0)) (sym same),
+      ))
       | inr (inr h) ↦ let begins = h.1 in inr (inr (h.0, ap (λ (vs : List FileWord). w ∷ vs) begins ∙ ap (λ (v : FileWord). v ∷ (front ++ y ∷ h.0)) same))
     ]
 
-apart_has_no_repeat : (files before : List FileWord) (file : FileWord) (after : List FileWord) → files ≡ before ++ file ∷ after → AllMayStand files → HasClash before file → ⊥
+apart_has_no_repeat : (files before : List FileWord) (file : FileWord) (after : List FileWord) → files ≡ before ++ file ∷ after → AllMayStand files →
+    HasClash before file → ⊥
 apart_has_no_repeat files before file after cut apart (other, (k, within, is), clash) =
     let whole = before ++ file ∷ after in
     let P : List FileWord → Type 0 = λ xs. AllMayStand xs in
     let left : get_or whole k other ≡ other = get_or_append_left before (file ∷ after) other k within ∙ is in
     let here : get_or whole (length before) other ≡ file = get_or-append_seam before file after other in
-    let stand : MayBothStand (get_or whole k other) (get_or whole (length before) other) = subst P cut apart k (length before) other within (omega (arith, length-append before (file ∷ after))) in
+    let stand : MayBothStand (get_or whole k other) (get_or whole (length before) other) = subst P cut apart k (length before) other within
+    (omega (arith, length-append before (file ∷ after))) in
     subst (λ (f : FileWord). MayBothStand other f) here (subst (λ (e : FileWord). MayBothStand e (get_or whole (length before) other)) left stand) clash
 
 first_repeat_same : (files : List FileWord) (p q : ℕ) → IsFirstRepeat files p → IsFirstRepeat files q → p ≡ q
@@ -105,7 +118,8 @@ first_repeat_same files p q x y =
 
 -- ---- one fault
 
-leftmost_same : (command : CommandWord) (arguments : List Argument) (a b : WordWhat) (p q : ℕ) → IsLeftmost command arguments a p → IsLeftmost command arguments b q → (a ≡ b) × (p ≡ q)
+leftmost_same : (command : CommandWord) (arguments : List Argument) (a b : WordWhat) (p q : ℕ) → IsLeftmost command arguments a p →
+    IsLeftmost command arguments b q → (a ≡ b) × (p ≡ q)
 leftmost_same command arguments a b p q x y =
     let at_most = x.leftmost b q y.fault in
     let at_least = y.leftmost a p x.fault in
@@ -119,7 +133,8 @@ Sorts command arguments end what position =
     IsLeftmost command arguments what position
     ⊎ (((what ≡ MissingName) × IsMissing command arguments end position) ⊎ ((what ≡ BadValue) × HasOneNameTwice command arguments position))
 
-sort_of : (command : CommandWord) (arguments : List Argument) (end : ℕ) (what : WordWhat) (position : ℕ) → IsFaultOfArguments command arguments end what position → Sorts command arguments end what position
+sort_of : (command : CommandWord) (arguments : List Argument) (end : ℕ) (what : WordWhat) (position : ℕ) →
+    IsFaultOfArguments command arguments end what position → Sorts command arguments end what position
 sort_of command arguments end NoCommand position h = inl h
 sort_of command arguments end UnknownCommand position h = inl h
 sort_of command arguments end MissingName position h = inr (inl (refl, h))
@@ -129,7 +144,8 @@ sort_of command arguments end RepeatedOption position h = inl h
 sort_of command arguments end BadValue position (inl h) = inl h
 sort_of command arguments end BadValue position (inr h) = inr (inr (refl, h))
 
-sorts_same : (command : CommandWord) (arguments : List Argument) (end : ℕ) (a b : WordWhat) (p q : ℕ) → Sorts command arguments end a p → Sorts command arguments end b q → (a ≡ b) × (p ≡ q)
+sorts_same : (command : CommandWord) (arguments : List Argument) (end : ℕ) (a b : WordWhat) (p q : ℕ) → Sorts command arguments end a p →
+    Sorts command arguments end b q → (a ≡ b) × (p ≡ q)
 sorts_same command arguments end a b p q (inl x) (inl y) = leftmost_same command arguments a b p q x y
 sorts_same command arguments end a b p q (inl x) (inr (inl y)) = absurd (y.1.sound a p x.fault)
 sorts_same command arguments end a b p q (inl x) (inr (inr y)) = absurd (y.1.sound a p x.fault)
@@ -140,7 +156,8 @@ sorts_same command arguments end a b p q (inr (inl x)) (inr (inr y)) = let few =
 sorts_same command arguments end a b p q (inr (inr x)) (inr (inl y)) = let enough = x.1.enough in let few = y.1.few in absurd (omega (arith, few, enough))
 sorts_same command arguments end a b p q (inr (inr x)) (inr (inr y)) = (x.0 ∙ sym y.0, first_repeat_same (files_in command arguments) p q x.1.repeat y.1.repeat)
 
-behind_same : (first : List ℕ) (rest : List (List ℕ)) (a b : WordWhat) (p q : ℕ) → IsFaultBehind first rest a p → IsFaultBehind first rest b q → (a ≡ b) × (p ≡ q)
+behind_same : (first : List ℕ) (rest : List (List ℕ)) (a b : WordWhat) (p q : ℕ) → IsFaultBehind first rest a p → IsFaultBehind first rest b q →
+    (a ≡ b) × (p ≡ q)
 behind_same first rest a b p q x y =
     let command : x.command ≡ y.command = command_word_injective x.command y.command (sym x.named ∙ y.named) in
     let P : CommandWord → Type 0 = λ c. IsFaultOfArguments c (arguments_from 2 rest) (length rest + 2) a p in
@@ -157,39 +174,46 @@ fault_same (first ∷ rest) a b p q (inr x) (inr y) = behind_same first rest a b
 
 -- ---- a command or a fault
 
-sound_or_fault : (command : CommandWord) (arguments : List Argument) (end : ℕ) (what : WordWhat) (position : ℕ) → AreSoundArguments command arguments → Sorts command arguments end what position → ⊥
+sound_or_fault : (command : CommandWord) (arguments : List Argument) (end : ℕ) (what : WordWhat) (position : ℕ) → AreSoundArguments command arguments →
+    Sorts command arguments end what position → ⊥
 sound_or_fault command arguments end what position sound (inl x) = sound.sound what position x.fault
 sound_or_fault command arguments end what position sound (inr (inl x)) = let few = x.1.few in let enough = sound.enough in omega (arith, few, enough)
 sound_or_fault command arguments end what position sound (inr (inr x)) =
     let repeat = x.1.repeat in
     apart_has_no_repeat (files_in command arguments) repeat.before repeat.file repeat.after repeat.cut sound.apart repeat.again
 
-fault_of_command : (command : CommandWord) (rest : List (List ℕ)) (what : WordWhat) (position : ℕ) → AreSoundArguments command (arguments_from 2 rest) → IsFaultOfWords (command_word command ∷ rest) what position → ⊥
+fault_of_command : (command : CommandWord) (rest : List (List ℕ)) (what : WordWhat) (position : ℕ) → AreSoundArguments command (arguments_from 2 rest) →
+    IsFaultOfWords (command_word command ∷ rest) what position → ⊥
 fault_of_command command rest what position sound (inl x) = x.none command refl
 fault_of_command command rest what position sound (inr x) =
     let same : x.command ≡ command = command_word_injective x.command command (sym x.named) in
     let P : CommandWord → Type 0 = λ c. IsFaultOfArguments c (arguments_from 2 rest) (length rest + 2) what position in
-    sound_or_fault command (arguments_from 2 rest) (length rest + 2) what position sound (sort_of command (arguments_from 2 rest) (length rest + 2) what position (subst P same x.fault))
+    sound_or_fault command (arguments_from 2 rest) (length rest + 2) what position sound
+    (sort_of command (arguments_from 2 rest) (length rest + 2) what position (subst P same x.fault))
 
-pub command_or_fault : (list : List (List ℕ)) (command : Command) (what : WordWhat) (position : ℕ) → IsCommandOf list command → IsFaultOfWords list what position → ⊥
+pub command_or_fault : (list : List (List ℕ)) (command : Command) (what : WordWhat) (position : ℕ) → IsCommandOf list command →
+    IsFaultOfWords list what position → ⊥
 command_or_fault list command what position x fault =
     let P : List (List ℕ) → Type 0 = λ all. IsFaultOfWords all what position in
     fault_of_command (command_kind command) x.rest what position x.sound (subst P x.first fault)
 
 -- ---- one command
 
-chosen_number : (value : Option (List ℕ)) (low high default n m : ℕ) → high < 2 ^ 64 → IsChosen value (IsNumberIn low high) default n → IsChosen value (IsNumberIn low high) default m → n ≡ m
+chosen_number : (value : Option (List ℕ)) (low high default n m : ℕ) → high < 2 ^ 64 → IsChosen value (IsNumberIn low high) default n →
+    IsChosen value (IsNumberIn low high) default m → n ≡ m
 chosen_number None low high default n m small x y = x ∙ sym y
 chosen_number (Some text) low high default n m small x y =
     let n_to = x.to in
     let m_to = y.to in
     decimal_injective n m (omega (arith, small, n_to)) (omega (arith, small, m_to)) (sym x.written ∙ y.written)
 
-chosen_order : (value : Option (List ℕ)) (a b : List Criterion) → IsChosen value IsOrderText default_order a → IsChosen value IsOrderText default_order b → a ≡ b
+chosen_order : (value : Option (List ℕ)) (a b : List Criterion) → IsChosen value IsOrderText default_order a → IsChosen value IsOrderText default_order b →
+    a ≡ b
 chosen_order None a b x y = x ∙ sym y
 chosen_order (Some text) a b x y = criteria_text_injective a b (sym x.written ∙ y.written)
 
-same_seed : (arguments : List Argument) (n m : ℕ) → (name : List ℕ) × (argument_names arguments ≡ name ∷ []) × IsSeed name n → (name : List ℕ) × (argument_names arguments ≡ name ∷ []) × IsSeed name m → n ≡ m
+same_seed : (arguments : List Argument) (n m : ℕ) → (name : List ℕ) × (argument_names arguments ≡ name ∷ []) × IsSeed name n →
+    (name : List ℕ) × (argument_names arguments ≡ name ∷ []) × IsSeed name m → n ≡ m
 same_seed arguments n m x y =
     let names : x.0 ∷ [] ≡ y.0 ∷ [] = sym x.1 ∙ y.1 in
     let name : x.0 ≡ y.0 = cc in
@@ -243,7 +267,8 @@ same_redraw arguments i j f e s t g h n m l k x y =
     let log : l ≡ k = x.log_name ∙ sym y.log_name in
     cc
 
-same_explain : (arguments : List Argument) (i j : List ℕ) (g h : GridSize) (n m : ℕ) → IsExplainCommand arguments i g n → IsExplainCommand arguments j h m → Explain i g n ≡ Explain j h m
+same_explain : (arguments : List Argument) (i j : List ℕ) (g h : GridSize) (n m : ℕ) → IsExplainCommand arguments i g n → IsExplainCommand arguments j h m →
+    Explain i g n ≡ Explain j h m
 same_explain arguments i j g h n m x y =
     let names : i ∷ [] ≡ j ∷ [] = sym x.names ∙ y.names in
     let input : i ≡ j = cc in
@@ -292,13 +317,16 @@ not_both : (list : List (List ℕ)) (command : Command) (e : WordFault) → IsCo
 not_both list command (answers.Words what position) x y = command_or_fault list command what position x y
 not_both list command answers.Memory x y = y
 
-pub words_exactly : (list : List (List ℕ)) (answer : Result Command WordFault) → IfOk answer (IsCommandOf list) → IfErr answer (λ e. (e ≡ answers.Memory) ⊎ IsWordFault list e) → AnswersExactly answer answers.Memory (IsCommandOf list) (IsWordFault list)
-words_exactly list answer command fault = answers_exactly answer answers.Memory (IsCommandOf list) (IsWordFault list) command fault (command_same list) (one_word_fault list) (not_both list)
+pub words_exactly : (list : List (List ℕ)) (answer : Result Command WordFault) → IfOk answer (IsCommandOf list) →
+    IfErr answer (λ e. (e ≡ answers.Memory) ⊎ IsWordFault list e) → AnswersExactly answer answers.Memory (IsCommandOf list) (IsWordFault list)
+words_exactly list answer command fault = answers_exactly answer answers.Memory (IsCommandOf list) (IsWordFault list) command fault (command_same list)
+    (one_word_fault list) (not_both list)
 
 -- ---- the files that a drawing's command names
 
 -- the picture's isn't the log's
-pub outputs_apart : (list : List (List ℕ)) (input : List ℕ) (grid : GridSize) (order : List Criterion) (budget : ℕ) (svg log : Option (List ℕ)) (picture name : List ℕ) →
+pub outputs_apart : (list : List (List ℕ)) (input : List ℕ) (grid : GridSize) (order : List Criterion) (budget : ℕ) (svg log : Option (List ℕ))
+    (picture name : List ℕ) →
     IsCommandOf list (Draw input grid order budget svg log) → svg ≡ Some picture → log ≡ Some name → picture ≢ name
 outputs_apart list input grid order budget svg log picture name x is_picture is_log =
     values_apart words.Draw (arguments_from 2 x.rest) picture name (sym x.parts.svg_name ∙ is_picture) (sym x.parts.log_name ∙ is_log) x.sound.apart

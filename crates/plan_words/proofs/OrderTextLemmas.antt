@@ -35,7 +35,8 @@ pieces_are text (c ∷ rest) some is = ap pieces is ∙ pieces-criteria_text c r
 abbrev pub IsPiece : List ℕ → ℕ → List ℕ → Type 0
 IsPiece text n word = (n < length (pieces text)) × (word ≡ get_or (pieces text) n word)
 
-pub wrong_word : (text word : List ℕ) (n : ℕ) → IsPiece text n word → ((c : Criterion) → word ≢ criterion_word c) → (order : List Criterion) → 1 ≤ length order → text ≢ criteria_text order
+pub wrong_word : (text word : List ℕ) (n : ℕ) → IsPiece text n word → ((c : Criterion) → word ≢ criterion_word c) → (order : List Criterion) →
+    1 ≤ length order → text ≢ criteria_text order
 wrong_word text word n piece none order some is =
     let words : pieces text ≡ map criterion_word order = pieces_are text order some is in
     let count : length (pieces text) ≡ length order = ap length words ∙ length-map order criterion_word in
@@ -43,13 +44,15 @@ wrong_word text word n piece none order some is =
     let n_within : n < length order = omega (arith, within, count) in
     none (get_or order n Height) (piece.1 ∙ ap (λ (ps : List (List ℕ)). get_or ps n word) words ∙ get_or-map criterion_word order n Height word n_within)
 
-pub too_many_words : (text word : List ℕ) (n : ℕ) → IsPiece text n word → 4 ≤ n → (order : List Criterion) → 1 ≤ length order → length order ≤ 4 → text ≢ criteria_text order
+pub too_many_words : (text word : List ℕ) (n : ℕ) → IsPiece text n word → 4 ≤ n → (order : List Criterion) → 1 ≤ length order → length order ≤ 4 →
+    text ≢ criteria_text order
 too_many_words text word n piece many order some few is =
     let count : length (pieces text) ≡ length order = ap length (pieces_are text order some is) ∙ length-map order criterion_word in
     let within = piece.0 in
     omega (arith, within, count)
 
-pub one_word_more : (text word : List ℕ) (n : ℕ) (list longer : List Criterion) (c : Criterion) → IsPiece text n word → word ≡ criterion_word c → map criterion_word list ≡ take n (pieces text) → longer ≡ list ++ c ∷ [] → map criterion_word longer ≡ take (n + 1) (pieces text)
+pub one_word_more : (text word : List ℕ) (n : ℕ) (list longer : List Criterion) (c : Criterion) → IsPiece text n word → word ≡ criterion_word c →
+    map criterion_word list ≡ take n (pieces text) → longer ≡ list ++ c ∷ [] → map criterion_word longer ≡ take (n + 1) (pieces text)
 one_word_more text word n list longer c piece is read put =
     ap (map criterion_word) put
     ∙ map-append criterion_word list (c ∷ [])
@@ -57,12 +60,14 @@ one_word_more text word n list longer c piece is read put =
     ∙ ap (λ (w : List ℕ). take n (pieces text) ++ w ∷ []) (sym is ∙ piece.1)
     ∙ sym (take_more (pieces text) n word piece.0)
 
-pub all_words : (text : List ℕ) (n : ℕ) (list : List Criterion) → n ≡ length (pieces text) → map criterion_word list ≡ take n (pieces text) → text ≡ criteria_text list
+pub all_words : (text : List ℕ) (n : ℕ) (list : List Criterion) → n ≡ length (pieces text) → map criterion_word list ≡ take n (pieces text) →
+    text ≡ criteria_text list
 all_words text n list all read =
     sym (join_with_byte-slice_split 44 text)
     ∙ ap (join_with_byte 44) (sym (read ∙ take_all n (pieces text) (omega arith)))
 
-pub not_an_order : (text : List ℕ) → ((list : List Criterion) → 1 ≤ length list → length list ≤ 4 → text ≢ criteria_text list) → (order : List Criterion) → IsOrderText text order → ⊥
+pub not_an_order : (text : List ℕ) → ((list : List Criterion) → 1 ≤ length list → length list ≤ 4 → text ≢ criteria_text list) → (order : List Criterion) →
+    IsOrderText text order → ⊥
 not_an_order text none order is = none order is.is_order.some (few_criteria order is.is_order.each_once) is.written
 
 -- ---- a text is that of one order
@@ -105,13 +110,15 @@ criteria_text_injective (c ∷ rest) (d ∷ others) is =
     ∙ ap (map criterion_at) (sym (pieces-criteria_text c rest) ∙ ap pieces is ∙ pieces-criteria_text d others)
     ∙ criteria_at-words (d ∷ others)
 
-pub order_or_none : (text : List ℕ) (list : List Criterion) (r : Option (List Criterion)) → text ≡ criteria_text list → SomeIff r (IsOrder list) list → MatchOption r ((order : List Criterion) → IsOrderText text order → ⊥) (IsOrderText text)
+pub order_or_none : (text : List ℕ) (list : List Criterion) (r : Option (List Criterion)) → text ≡ criteria_text list → SomeIff r (IsOrder list) list →
+    MatchOption r ((order : List Criterion) → IsOrderText text order → ⊥) (IsOrderText text)
 order_or_none text list None is none = λ order other. none (subst IsOrder (criteria_text_injective order list (sym other.written ∙ is)) other.is_order)
 order_or_none text list (Some order) is (is_order, same) = record { written = is ∙ ap criteria_text (sym same); is_order = subst IsOrder (sym same) is_order }
 
 -- ---- two criteria
 
-pub pair_or_none : (text : List ℕ) (list : List Criterion) (r : Option (Criterion × Criterion)) → text ≡ criteria_text list → MatchOption r ((a b : Criterion) → a ≢ b → list ≢ a ∷ b ∷ []) (λ pair. (pair.0 ≢ pair.1) × (list ≡ pair.0 ∷ pair.1 ∷ [])) →
+pub pair_or_none : (text : List ℕ) (list : List Criterion) (r : Option (Criterion × Criterion)) → text ≡ criteria_text list →
+    MatchOption r ((a b : Criterion) → a ≢ b → list ≢ a ∷ b ∷ []) (λ pair. (pair.0 ≢ pair.1) × (list ≡ pair.0 ∷ pair.1 ∷ [])) →
     MatchOption r ((a b : Criterion) → IsPairText text a b → ⊥) (λ pair. IsPairText text pair.0 pair.1)
 pair_or_none text list None is none = λ a b p. none a b p.apart (criteria_text_injective list (a ∷ b ∷ []) (sym is ∙ p.written))
 pair_or_none text list (Some pair) is (apart, same) = record { written = is ∙ ap criteria_text same; apart = apart }

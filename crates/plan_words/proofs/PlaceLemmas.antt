@@ -15,7 +15,8 @@ arguments_stand at [] = tt
 arguments_stand at (word ∷ []) =
     elim (is_option word) as (λ b. StandFrom at ((if b then Setting at word None else Name at word) ∷ [])) [ true ↦ (refl, tt) | false ↦ (refl, tt) ]
 arguments_stand at (word ∷ next ∷ words) =
-    elim (is_option word) as (λ b. StandFrom at (if b then Setting at word (Some next) ∷ arguments_from (at + 2) words else Name at word ∷ arguments_from (at + 1) (next ∷ words))) [
+    elim (is_option word) as (λ b. StandFrom at (if b then Setting at word (Some next) ∷ arguments_from (at + 2) words else Name at word ∷ arguments_from
+    (at + 1) (next ∷ words))) [
       | true ↦ (refl, arguments_stand (at + 2) words)
       | false ↦ (refl, arguments_stand (at + 1) (next ∷ words))
     ]
@@ -26,7 +27,8 @@ next_within (Name at word) = (omega arith, omega arith)
 next_within (Setting at word value) = (omega arith, omega arith)
 
 -- a later argument stands behind
-pub stands_behind : (at : ℕ) (before : List Argument) (argument : Argument) (after : List Argument) → StandFrom at (before ++ argument ∷ after) → at ≤ argument_place argument
+pub stands_behind : (at : ℕ) (before : List Argument) (argument : Argument) (after : List Argument) → StandFrom at (before ++ argument ∷ after) →
+    at ≤ argument_place argument
 stands_behind at [] argument after h = let e = h.0 in omega (arith, e)
 stands_behind at (first ∷ before) argument after h =
     let e = h.0 in
@@ -35,7 +37,8 @@ stands_behind at (first ∷ before) argument after h =
     omega (arith, e, later, within)
 
 -- and not far behind
-pub stands_near : (at : ℕ) (before : List Argument) (argument : Argument) (after : List Argument) → StandFrom at (before ++ argument ∷ after) → argument_place argument ≤ at + 2 * length before
+pub stands_near : (at : ℕ) (before : List Argument) (argument : Argument) (after : List Argument) → StandFrom at (before ++ argument ∷ after) →
+    argument_place argument ≤ at + 2 * length before
 stands_near at [] argument after h = let e = h.0 in omega (arith, e)
 stands_near at (first ∷ before) argument after h =
     let e = h.0 in
@@ -45,7 +48,8 @@ stands_near at (first ∷ before) argument after h =
 
 -- ---- faults stand at the argument's own words
 
-pub fault_from : (command : CommandWord) (before : List Argument) (argument : Argument) (what : WordWhat) (position : ℕ) → HasWordFault command before argument what position → argument_place argument ≤ position
+pub fault_from : (command : CommandWord) (before : List Argument) (argument : Argument) (what : WordWhat) (position : ℕ) →
+    HasWordFault command before argument what position → argument_place argument ≤ position
 fault_from command before (Name at name) NoCommand position h = absurd h
 fault_from command before (Name at name) UnknownCommand position h = absurd h
 fault_from command before (Name at name) MissingName position h = absurd h
@@ -62,7 +66,8 @@ fault_from command before (Setting at word value) RepeatedOption position h = le
 fault_from command before (Setting at word None) BadValue position h = omega (arith, h)
 fault_from command before (Setting at word (Some value)) BadValue position h = let e = h.3 in omega (arith, e)
 
-pub fault_to : (command : CommandWord) (before : List Argument) (argument : Argument) (what : WordWhat) (position : ℕ) → HasWordFault command before argument what position → position < next_place argument
+pub fault_to : (command : CommandWord) (before : List Argument) (argument : Argument) (what : WordWhat) (position : ℕ) →
+    HasWordFault command before argument what position → position < next_place argument
 fault_to command before (Name at name) NoCommand position h = absurd h
 fault_to command before (Name at name) UnknownCommand position h = absurd h
 fault_to command before (Name at name) MissingName position h = absurd h

@@ -1,5 +1,6 @@
 -- Arguments without a fault: one more, how many they can be, and that the first fault behind them is the leftmost.
-use Rattle.std.proofs.Common.{◌≡◌, ◌≢◌, ℕ, zero, suc, ◌+◌, ◌<◌, ◌≤◌, ◌⊎◌, inl, inr, true, false, ◌||◌, None, Some, List, [], ◌∷◌, ◌++◌, length, take, drop, get_or, map, eqb, refl, sym, ap, subst, ◌∙◌, append_assoc, length-append, arith}
+use Rattle.std.proofs.Common.{◌≡◌, ◌≢◌, ℕ, zero, suc, ◌+◌, ◌<◌, ◌≤◌, ◌⊎◌, inl, inr, true, false, ◌||◌, None, Some, List, [], ◌∷◌, ◌++◌, length, take, drop}
+use Rattle.std.proofs.Common.{get_or, map, eqb, refl, sym, ap, subst, ◌∙◌, append_assoc, length-append, arith}
 use Rattle.std.specs.Prelude.{if◌then◌else◌, ◌==◌, AllPairs, All}
 use Rattle.std.proofs.lemmas.Bool.{ne_eqb, eqb-true, false≢true}
 use Rattle.std.proofs.lemmas.Bool.Decides.{nat_tests}
@@ -30,7 +31,8 @@ use Rattle.plan_words.proofs.PlaceLemmas.{stands_behind, stands_near, fault_from
 abbrev rank : List ℕ → ℕ
 rank word =
     let letter = get_or word 2 0 in
-    if letter == 119 then 0 else if letter == 104 then 1 else if letter == 111 then 2 else if letter == 99 then 3 else if letter == 115 then 4 else if get_or word 3 0 == 101 then 5 else 6
+    if letter == 119 then 0 else if letter == 104 then 1 else if letter == 111 then 2 else if letter == 99 then 3 else if letter == 115 then 4 else if get_or
+    word 3 0 == 101 then 5 else 6
 
 abbrev of_rank : ℕ → OptionWord
 of_rank zero = Width
@@ -87,13 +89,17 @@ few_options words apart known =
     let most = length-le_from_distinct_below (map rank words) 7 (IsDistinct-from_apart eqb (map rank words) distinct) (ranks_are_small words) in
     omega (arith, n, most)
 
-pub argument_names-push : (before : List Argument) (argument : Argument) → argument_names (before ++ argument ∷ []) ≡ argument_names before ++ argument_name argument
-argument_names-push before argument = flat_map-append argument_name before (argument ∷ []) ∙ ap (λ (ws : List (List ℕ)). argument_names before ++ ws) (append-nil (argument_name argument))
+pub argument_names-push : (before : List Argument) (argument : Argument) →
+    argument_names (before ++ argument ∷ []) ≡ argument_names before ++ argument_name argument
+argument_names-push before argument = flat_map-append argument_name before (argument ∷ [])
+    ∙ ap (λ (ws : List (List ℕ)). argument_names before ++ ws) (append-nil (argument_name argument))
 
 options_in-push : (before : List Argument) (argument : Argument) → options_in (before ++ argument ∷ []) ≡ options_in before ++ option_of argument
-options_in-push before argument = flat_map-append option_of before (argument ∷ []) ∙ ap (λ (ws : List (List ℕ)). options_in before ++ ws) (append-nil (option_of argument))
+options_in-push before argument = flat_map-append option_of before (argument ∷ [])
+    ∙ ap (λ (ws : List (List ℕ)). options_in before ++ ws) (append-nil (option_of argument))
 
-names_push : (command : CommandWord) (before : List Argument) (argument : Argument) → length (argument_names before) ≤ name_count command → IsSoundBehind command before argument → length (argument_names (before ++ argument ∷ [])) ≤ name_count command
+names_push : (command : CommandWord) (before : List Argument) (argument : Argument) → length (argument_names before) ≤ name_count command →
+    IsSoundBehind command before argument → length (argument_names (before ++ argument ∷ [])) ≤ name_count command
 names_push command before (Name at name) few sound =
     let n = ap length (argument_names-push before (Name at name)) ∙ length-append (argument_names before) (name ∷ []) in
     let less = sound.0 in
@@ -102,11 +108,14 @@ names_push command before (Setting at word value) few sound =
     let n = ap length (argument_names-push before (Setting at word value) ∙ append-nil (argument_names before)) in
     omega (arith, n, few)
 
-names_few : (command : CommandWord) (before arguments : List Argument) → length (argument_names before) ≤ name_count command → SoundFrom command before arguments → length (argument_names (before ++ arguments)) ≤ name_count command
-names_few command before [] few sound = let P : List Argument → Type 0 = λ xs. length (argument_names xs) ≤ name_count command in subst P (sym (append-nil before)) few
+names_few : (command : CommandWord) (before arguments : List Argument) → length (argument_names before) ≤ name_count command →
+    SoundFrom command before arguments → length (argument_names (before ++ arguments)) ≤ name_count command
+names_few command before [] few sound = let P : List Argument → Type 0 = λ xs. length (argument_names xs) ≤ name_count command in subst P
+    (sym (append-nil before)) few
 names_few command before (argument ∷ arguments) few sound =
     let P : List Argument → Type 0 = λ xs. length (argument_names xs) ≤ name_count command in
-    subst P (append_assoc before (argument ∷ []) arguments) (names_few command (before ++ argument ∷ []) arguments (names_push command before argument few sound.0) sound.1)
+    subst P (append_assoc before (argument ∷ []) arguments) (names_few command (before ++ argument ∷ []) arguments
+    (names_push command before argument few sound.0) sound.1)
 
 -- option words that stand once each, and are known
 record AreOptions (words : List (List ℕ)) : Type 0 where
@@ -127,20 +136,24 @@ known_option Explain word h = (h.0, h.1)
 known_option Trim word h = absurd h
 known_option Recheck word h = absurd h
 
-options_push : (command : CommandWord) (before : List Argument) (argument : Argument) → AreOptions (options_in before) → IsSoundBehind command before argument → AreOptions (options_in (before ++ argument ∷ []))
+options_push : (command : CommandWord) (before : List Argument) (argument : Argument) → AreOptions (options_in before) → IsSoundBehind command before argument →
+    AreOptions (options_in (before ++ argument ∷ []))
 options_push command before (Name at name) are sound = subst AreOptions (sym (options_in-push before (Name at name) ∙ append-nil (options_in before))) are
 options_push command before (Setting at word value) are sound =
     let longer : AreOptions (options_in before ++ word ∷ []) = record {
-      apart = all_pairs_push (λ a b. a ≢ b) (options_in before) word are.apart (λ k d within same. sound.fresh (k, within, get_or_default (options_in before) k word d within ∙ same));
+      apart = all_pairs_push (λ a b. a ≢ b) (options_in before) word are.apart (λ k d within same. sound.fresh
+          (k, within, get_or_default (options_in before) k word d within ∙ same));
       known = All-push IsKnown (options_in before) word are.known (known_option command word sound.known);
     } in
     subst AreOptions (sym (options_in-push before (Setting at word value))) longer
 
-options_once : (command : CommandWord) (before arguments : List Argument) → AreOptions (options_in before) → SoundFrom command before arguments → AreOptions (options_in (before ++ arguments))
+options_once : (command : CommandWord) (before arguments : List Argument) → AreOptions (options_in before) → SoundFrom command before arguments →
+    AreOptions (options_in (before ++ arguments))
 options_once command before [] are sound = let P : List Argument → Type 0 = λ xs. AreOptions (options_in xs) in subst P (sym (append-nil before)) are
 options_once command before (argument ∷ arguments) are sound =
     let P : List Argument → Type 0 = λ xs. AreOptions (options_in xs) in
-    subst P (append_assoc before (argument ∷ []) arguments) (options_once command (before ++ argument ∷ []) arguments (options_push command before argument are sound.0) sound.1)
+    subst P (append_assoc before (argument ∷ []) arguments) (options_once command (before ++ argument ∷ []) arguments
+    (options_push command before argument are sound.0) sound.1)
 
 no_options : AreOptions []
 no_options = record { apart = λ i j d less within. absurd (omega arith); known = λ k d within. absurd (omega arith) }
@@ -174,7 +187,8 @@ few_arguments command arguments sound =
     omega (arith, parts, names, few, options)
 
 -- an argument behind others without a fault stands near
-pub is_near : (command : CommandWord) (before : List Argument) (argument : Argument) (after : List Argument) → SoundFrom command [] before → StandFrom 2 (before ++ argument ∷ after) → IsNear argument
+pub is_near : (command : CommandWord) (before : List Argument) (argument : Argument) (after : List Argument) → SoundFrom command [] before →
+    StandFrom 2 (before ++ argument ∷ after) → IsNear argument
 is_near command before argument after sound stand =
     let near = stands_near 2 before argument after stand in
     let few = few_arguments command before sound in
@@ -182,13 +196,16 @@ is_near command before argument after sound stand =
 
 -- ---- sound arguments have no fault
 
-pub sound_push : (command : CommandWord) (before arguments : List Argument) (argument : Argument) → SoundFrom command before arguments → IsSoundBehind command (before ++ arguments) argument → SoundFrom command before (arguments ++ argument ∷ [])
-sound_push command before [] argument sound one = let P : List Argument → Type 0 = λ xs. IsSoundBehind command xs argument in (subst P (append-nil before) one, tt)
+pub sound_push : (command : CommandWord) (before arguments : List Argument) (argument : Argument) → SoundFrom command before arguments →
+    IsSoundBehind command (before ++ arguments) argument → SoundFrom command before (arguments ++ argument ∷ [])
+sound_push command before [] argument sound one = let P : List Argument →
+    Type 0 = λ xs. IsSoundBehind command xs argument in (subst P (append-nil before) one, tt)
 sound_push command before (first ∷ arguments) argument sound one =
     let P : List Argument → Type 0 = λ xs. IsSoundBehind command xs argument in
     (sound.0, sound_push command (before ++ first ∷ []) arguments argument sound.1 (subst P (sym (append_assoc before (first ∷ []) arguments)) one))
 
-no_fault_behind : (command : CommandWord) (before : List Argument) (argument : Argument) → IsSoundBehind command before argument → (what : WordWhat) (position : ℕ) → HasWordFault command before argument what position → ⊥
+no_fault_behind : (command : CommandWord) (before : List Argument) (argument : Argument) → IsSoundBehind command before argument →
+    (what : WordWhat) (position : ℕ) → HasWordFault command before argument what position → ⊥
 no_fault_behind command before (Name at name) sound NoCommand position h = h
 no_fault_behind command before (Name at name) sound UnknownCommand position h = h
 no_fault_behind command before (Name at name) sound MissingName position h = h
@@ -210,13 +227,16 @@ no_fault_behind command before (Setting at word (Some value)) sound BadValue pos
     let P : OptionWord → Type 0 = λ o. Takes o value in
     h.2 (subst P same (subst (Takes sound.option) text sound.taken))
 
-sound_later : (command : CommandWord) (before between : List Argument) (argument : Argument) (after : List Argument) → SoundFrom command before (between ++ argument ∷ after) → IsSoundBehind command (before ++ between) argument
-sound_later command before [] argument after sound = let P : List Argument → Type 0 = λ xs. IsSoundBehind command xs argument in subst P (sym (append-nil before)) sound.0
+sound_later : (command : CommandWord) (before between : List Argument) (argument : Argument) (after : List Argument) →
+    SoundFrom command before (between ++ argument ∷ after) → IsSoundBehind command (before ++ between) argument
+sound_later command before [] argument after sound = let P : List Argument →
+    Type 0 = λ xs. IsSoundBehind command xs argument in subst P (sym (append-nil before)) sound.0
 sound_later command before (first ∷ between) argument after sound =
     let P : List Argument → Type 0 = λ xs. IsSoundBehind command xs argument in
     subst P (append_assoc before (first ∷ []) between) (sound_later command (before ++ first ∷ []) between argument after sound.1)
 
-pub sound_at : (command : CommandWord) (arguments before : List Argument) (argument : Argument) (after : List Argument) → SoundFrom command [] arguments → arguments ≡ before ++ argument ∷ after → IsSoundBehind command before argument
+pub sound_at : (command : CommandWord) (arguments before : List Argument) (argument : Argument) (after : List Argument) → SoundFrom command [] arguments →
+    arguments ≡ before ++ argument ∷ after → IsSoundBehind command before argument
 sound_at command arguments before argument after sound cut = sound_later command [] before argument after (subst (SoundFrom command []) cut sound)
 
 pub sound_have_no_fault : (command : CommandWord) (arguments : List Argument) → SoundFrom command [] arguments → HaveNoFault command arguments
@@ -225,7 +245,10 @@ sound_have_no_fault command arguments sound what position f =
 
 -- ---- the first fault behind sound arguments
 
-same_or_later : (command : CommandWord) (before sound_ones : List Argument) (argument : Argument) (after : List Argument) (at : ℕ) → SoundFrom command before sound_ones → StandFrom at (sound_ones ++ argument ∷ after) → (between : List Argument) (other : Argument) (rest : List Argument) → sound_ones ++ argument ∷ after ≡ between ++ other ∷ rest → (what : WordWhat) (position : ℕ) → HasWordFault command (before ++ between) other what position → HasWordFault command (before ++ sound_ones) argument what position ⊎ (next_place argument ≤ position)
+same_or_later : (command : CommandWord) (before sound_ones : List Argument) (argument : Argument) (after : List Argument) (at : ℕ) →
+    SoundFrom command before sound_ones → StandFrom at (sound_ones ++ argument ∷ after) → (between : List Argument) (other : Argument) (rest : List Argument) →
+    sound_ones ++ argument ∷ after ≡ between ++ other ∷ rest → (what : WordWhat) (position : ℕ) → HasWordFault command (before ++ between) other what position →
+    HasWordFault command (before ++ sound_ones) argument what position ⊎ (next_place argument ≤ position)
 same_or_later command before [] argument after at sound stand [] other rest cut what position fault =
     let same : other ≡ argument = cc in
     let P : Argument → Type 0 = λ x. HasWordFault command (before ++ []) x what position in
@@ -244,12 +267,16 @@ same_or_later command before (x ∷ sound_ones) argument after at sound stand (y
     let same : y ≡ x = cc in
     let tail : sound_ones ++ argument ∷ after ≡ between ++ other ∷ rest = cc in
     let P : List Argument → Type 0 = λ zs. HasWordFault command zs other what position in
-    let shift : before ++ y ∷ between ≡ (before ++ x ∷ []) ++ between = ap (λ (z : Argument). before ++ z ∷ between) same ∙ sym (append_assoc before (x ∷ []) between) in
-    let found = same_or_later command (before ++ x ∷ []) sound_ones argument after (next_place x) sound.1 stand.1 between other rest tail what position (subst P shift fault) in
+    let shift : before ++ y ∷ between ≡ (before ++ x ∷ []) ++ between = ap (λ (z : Argument). before ++ z ∷ between) same
+    ∙ sym (append_assoc before (x ∷ []) between) in
+    let found = same_or_later command (before ++ x ∷ []) sound_ones argument after (next_place x) sound.1 stand.1 between other rest tail what position
+    (subst P shift fault) in
     let Q : List Argument → Type 0 = λ zs. HasWordFault command zs argument what position ⊎ (next_place argument ≤ position) in
     subst Q (append_assoc before (x ∷ []) sound_ones) found
 
-pub leftmost_from : (command : CommandWord) (arguments before : List Argument) (argument : Argument) (after : List Argument) (what : WordWhat) (position : ℕ) → arguments ≡ before ++ argument ∷ after → SoundFrom command [] before → StandFrom 2 arguments → IsFirstWordFault command before argument what position → IsLeftmost command arguments what position
+pub leftmost_from : (command : CommandWord) (arguments before : List Argument) (argument : Argument) (after : List Argument) (what : WordWhat) (position : ℕ) →
+    arguments ≡ before ++ argument ∷ after → SoundFrom command [] before → StandFrom 2 arguments → IsFirstWordFault command before argument what position →
+    IsLeftmost command arguments what position
 leftmost_from command arguments before argument after what position cut sound stand first =
     let stand_cut = subst (StandFrom 2) cut stand in
     let to = fault_to command before argument what position first.fault in
@@ -269,16 +296,22 @@ leftmost_from command arguments before argument after what position cut sound st
 
 -- ---- the same at a place of the list
 
-pub near_at : (command : CommandWord) (arguments : List Argument) (i : ℕ) (argument : Argument) → i < length arguments → argument ≡ get_or arguments i argument → SoundFrom command [] (take i arguments) → StandFrom 2 arguments → IsNear argument
+pub near_at : (command : CommandWord) (arguments : List Argument) (i : ℕ) (argument : Argument) → i < length arguments →
+    argument ≡ get_or arguments i argument → SoundFrom command [] (take i arguments) → StandFrom 2 arguments → IsNear argument
 near_at command arguments i argument within is sound stand =
     is_near command (take i arguments) argument (drop (suc i) arguments) sound (subst (StandFrom 2) (cut_at arguments i argument within is) stand)
 
-pub sound_more : (command : CommandWord) (arguments : List Argument) (i : ℕ) (argument : Argument) → i < length arguments → argument ≡ get_or arguments i argument → SoundFrom command [] (take i arguments) → IsSoundBehind command (take i arguments) argument → SoundFrom command [] (take (i + 1) arguments)
+pub sound_more : (command : CommandWord) (arguments : List Argument) (i : ℕ) (argument : Argument) → i < length arguments →
+    argument ≡ get_or arguments i argument → SoundFrom command [] (take i arguments) → IsSoundBehind command (take i arguments) argument →
+    SoundFrom command [] (take (i + 1) arguments)
 sound_more command arguments i argument within is sound one =
-    let more : take (i + 1) arguments ≡ take i arguments ++ argument ∷ [] = take_more arguments i argument within ∙ ap (λ (a : Argument). take i arguments ++ a ∷ []) (sym is) in
+    let more : take (i + 1) arguments ≡ take i arguments ++ argument ∷ [] = take_more arguments i argument within
+    ∙ ap (λ (a : Argument). take i arguments ++ a ∷ []) (sym is) in
     subst (SoundFrom command []) (sym more) (sound_push command [] (take i arguments) argument sound one)
 
-pub leftmost_at : (command : CommandWord) (arguments : List Argument) (i : ℕ) (argument : Argument) (what : WordWhat) (position : ℕ) → i < length arguments → argument ≡ get_or arguments i argument → SoundFrom command [] (take i arguments) → StandFrom 2 arguments → IsFirstWordFault command (take i arguments) argument what position → IsLeftmost command arguments what position
+pub leftmost_at : (command : CommandWord) (arguments : List Argument) (i : ℕ) (argument : Argument) (what : WordWhat) (position : ℕ) → i < length arguments →
+    argument ≡ get_or arguments i argument → SoundFrom command [] (take i arguments) → StandFrom 2 arguments →
+    IsFirstWordFault command (take i arguments) argument what position → IsLeftmost command arguments what position
 leftmost_at command arguments i argument what position within is sound stand first =
     leftmost_from command arguments (take i arguments) argument (drop (suc i) arguments) what position (cut_at arguments i argument within is) sound stand first
 
@@ -289,6 +322,7 @@ names_most command arguments sound = names_few command [] arguments (omega arith
 
 pub all_near : (command : CommandWord) (arguments : List Argument) → SoundFrom command [] arguments → StandFrom 2 arguments → All IsNear arguments
 all_near command arguments sound stand k d within =
-    let near = stands_near 2 (take k arguments) (get_or arguments k d) (drop (suc k) arguments) (subst (StandFrom 2) (cut_at arguments k (get_or arguments k d) within (get_or_default arguments k d (get_or arguments k d) within)) stand) in
+    let near = stands_near 2 (take k arguments) (get_or arguments k d) (drop (suc k) arguments)
+    (subst (StandFrom 2) (cut_at arguments k (get_or arguments k d) within (get_or_default arguments k d (get_or arguments k d) within)) stand) in
     let few = few_arguments command arguments sound in
     omega (arith, near, few, within, length-take-le k arguments (omega (arith, within)))

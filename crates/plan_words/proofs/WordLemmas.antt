@@ -17,7 +17,8 @@ use Rattle.plan_words.specs.Arguments.{option_of, options_in}
 pub word_decides : (words : List (List ℕ)) (word : List ℕ) → Decides (list_any (λ other. bytes_eq other word) words) (Contains words word)
 word_decides words word =
     Decides-contains words word (list_any (λ other. bytes_eq other word) words)
-    (Decides-by_or (λ other. bytes_eq other word) (λ other. other ≡ word) (list_any (λ other. bytes_eq other word)) (λ other. bytes_eq-Decides other word) refl (λ _ _. refl) words)
+    (Decides-by_or (λ other. bytes_eq other word) (λ other. other ≡ word) (list_any (λ other. bytes_eq other word)) (λ other. bytes_eq-Decides other word) refl
+    (λ _ _. refl) words)
 
 -- a list is cut at one of its places
 pub cut_at : {X : Type 0} (xs : List X) (i : ℕ) (x : X) → i < length xs → x ≡ get_or xs i x → xs ≡ take i xs ++ x ∷ drop (suc i) xs
@@ -25,7 +26,9 @@ cut_at xs i x within is =
     sym (take-append-drop i xs)
     ∙ ap (λ ys. take i xs ++ ys) (drop-cons xs i x within ∙ ap (λ y. y ∷ drop (suc i) xs) (sym is))
 
-pub option_found : (arguments : List Argument) (i : ℕ) (argument : Argument) (at : ℕ) (word : List ℕ) (value : Option (List ℕ)) (option : List ℕ) → i < length arguments → argument ≡ get_or arguments i argument → argument ≡ Setting at word value → bytes_eq word option ≡ true → Contains (options_in arguments) option
+pub option_found : (arguments : List Argument) (i : ℕ) (argument : Argument) (at : ℕ) (word : List ℕ) (value : Option (List ℕ)) (option : List ℕ) →
+    i < length arguments → argument ≡ get_or arguments i argument → argument ≡ Setting at word value → bytes_eq word option ≡ true →
+    Contains (options_in arguments) option
 option_found arguments i argument at word value option within there is same =
     let e : word ≡ option = (bytes_eq-Decides word option).0 same in
     let cut : options_in arguments ≡ options_in (take i arguments) ++ option ∷ options_in (drop (suc i) arguments) =
@@ -37,8 +40,11 @@ option_found arguments i argument at word value option within there is same =
     let P : List (List ℕ) → Type 0 = λ words. Contains words option in
     subst P (sym cut) (Contains-append_right (options_in (take i arguments)) (option ∷ options_in (drop (suc i) arguments)) option (0, omega arith, refl))
 
-pub option_absent : (arguments : List Argument) (i : ℕ) (option : List ℕ) → length arguments ≤ i → list_any (λ word. bytes_eq word option) (options_in (drop i arguments)) ≡ list_any (λ word. bytes_eq word option) (options_in arguments) → Contains (options_in arguments) option → ⊥
+pub option_absent : (arguments : List Argument) (i : ℕ) (option : List ℕ) → length arguments ≤ i →
+    list_any (λ word. bytes_eq word option) (options_in (drop i arguments)) ≡ list_any (λ word. bytes_eq word option) (options_in arguments) →
+    Contains (options_in arguments) option → ⊥
 option_absent arguments i option all left there =
-    let none : list_any (λ word. bytes_eq word option) (options_in (drop i arguments)) ≡ false = ap (λ (rest : List Argument). list_any (λ word. bytes_eq word option) (options_in rest)) (drop_all i arguments all) in
+    let none : list_any (λ word. bytes_eq word option) (options_in (drop i arguments)) ≡ false = ap
+    (λ (rest : List Argument). list_any (λ word. bytes_eq word option) (options_in rest)) (drop_all i arguments all) in
     let some : list_any (λ word. bytes_eq word option) (options_in arguments) ≡ true = (word_decides (options_in arguments) option).1 there in
     cc

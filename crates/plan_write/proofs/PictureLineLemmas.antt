@@ -4,7 +4,8 @@ use Rattle.std.proofs.Common.{ℕ, ap, ◌∙◌, append_assoc}
 use Rattle.outside_io.specs.Contents.{Begins}
 
 -- texts that are appended one after another
-pub appended_four : (old a b c d one two three four : List ℕ) → one ≡ old ++ a → two ≡ one ++ b → three ≡ two ++ c → four ≡ three ++ d → four ≡ old ++ (a ++ (b ++ (c ++ d)))
+pub appended_four : (old a b c d one two three four : List ℕ) → one ≡ old ++ a → two ≡ one ++ b → three ≡ two ++ c → four ≡ three ++ d →
+    four ≡ old ++ (a ++ (b ++ (c ++ d)))
 appended_four old a b c d one two three four e f g h =
     h
     ∙ ap (λ (xs : List ℕ). xs ++ d) (g ∙ ap (λ (xs : List ℕ). xs ++ c) (f ∙ ap (λ (xs : List ℕ). xs ++ b) e))

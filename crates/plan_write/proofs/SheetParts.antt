@@ -24,14 +24,16 @@ texts_numbered : (line : ℕ → SheetLine) (numbers : List ℕ) → texts (map 
 texts_numbered line [] = refl
 texts_numbered line (n ∷ numbers) = ap (λ (t : List ℕ). text_of_line (line n) ++ t) (texts_numbered line numbers)
 
-pub text_more : (line : ℕ → SheetLine) (old into new : List ℕ) (n : ℕ) → into ≡ old ++ texts (map line (range_with_len 0 n)) → new ≡ into ++ text_of_line (line n) → new ≡ old ++ texts (map line (range_with_len 0 (n + 1)))
+pub text_more : (line : ℕ → SheetLine) (old into new : List ℕ) (n : ℕ) → into ≡ old ++ texts (map line (range_with_len 0 n)) →
+    new ≡ into ++ text_of_line (line n) → new ≡ old ++ texts (map line (range_with_len 0 (n + 1)))
 text_more line old into new n so_far now =
     line_more (λ (k : ℕ). text_of_line (line k)) old into new n (so_far ∙ ap (λ (t : List ℕ). old ++ t) (texts_numbered line (range_with_len 0 n))) now
     ∙ ap (λ (t : List ℕ). old ++ t) (sym (texts_numbered line (range_with_len 0 (n + 1))))
 
 -- ---- parts one after another
 
-pub parts_appended : (a b c : List SheetLine) (old one two three : List ℕ) → one ≡ old ++ texts a → two ≡ one ++ texts b → three ≡ two ++ texts c → three ≡ old ++ texts (a ++ (b ++ c))
+pub parts_appended : (a b c : List SheetLine) (old one two three : List ℕ) → one ≡ old ++ texts a → two ≡ one ++ texts b → three ≡ two ++ texts c →
+    three ≡ old ++ texts (a ++ (b ++ c))
 parts_appended a b c old one two three e f g =
     g
     ∙ ap (λ (t : List ℕ). t ++ texts c) (f ∙ ap (λ (t : List ℕ). t ++ texts b) e ∙ append_assoc old (texts a) (texts b))
@@ -54,11 +56,14 @@ line_appended line into new e = e ∙ ap (λ (t : List ℕ). into ++ t) (sym (ap
 abbrev sheet_of : GridSize → List Criterion → Option Drawing → Ending → Sheet
 sheet_of grid order found ending = record { grid = grid; order = order; found = found; ending = ending }
 
-pub sheet_appended : (g : Graph) (s : Sheet) (grid : GridSize) (order : List Criterion) (found : Option Drawing) (ending : Ending) (old one two three four five : List ℕ) →
-    sheet_of grid order found ending ≡ s → one ≡ old ++ text_of_line (Title Second) → two ≡ one ++ text_of_line (GridLine Second grid) → three ≡ two ++ text_of_line (OrderLine order) → four ≡ three ++ texts (found_lines Second g s.found) → five ≡ four ++ text_of_line (EndLine ending) →
+pub sheet_appended : (g : Graph) (s : Sheet) (grid : GridSize) (order : List Criterion) (found : Option Drawing) (ending : Ending)
+    (old one two three four five : List ℕ) →
+    sheet_of grid order found ending ≡ s → one ≡ old ++ text_of_line (Title Second) → two ≡ one ++ text_of_line (GridLine Second grid) →
+    three ≡ two ++ text_of_line (OrderLine order) → four ≡ three ++ texts (found_lines Second g s.found) → five ≡ four ++ text_of_line (EndLine ending) →
     five ≡ old ++ sheet_text g s
 sheet_appended g s grid order found ending old one two three four five is a b c d e =
     let head : List SheetLine = Title Second ∷ GridLine Second grid ∷ OrderLine order ∷ [] in
-    let begun : three ≡ old ++ texts head = parts_appended (Title Second ∷ []) (GridLine Second grid ∷ []) (OrderLine order ∷ []) old one two three (line_appended (Title Second) old one a) (line_appended (GridLine Second grid) one two b) (line_appended (OrderLine order) two three c) in
+    let begun : three ≡ old ++ texts head = parts_appended (Title Second ∷ []) (GridLine Second grid ∷ []) (OrderLine order ∷ []) old one two three
+    (line_appended (Title Second) old one a) (line_appended (GridLine Second grid) one two b) (line_appended (OrderLine order) two three c) in
     parts_appended head (found_lines Second g s.found) (EndLine ending ∷ []) old three four five begun d (line_appended (EndLine ending) four five e)
     ∙ ap (λ (t : Sheet). old ++ texts (Title Second ∷ GridLine Second t.grid ∷ OrderLine t.order ∷ (found_lines Second g s.found ++ EndLine t.ending ∷ []))) is

@@ -10,10 +10,12 @@ use Rattle.port_graph.specs.Plain.{plain_edge}
 use Rattle.port_graph.specs.Sites.{number_among}
 use Rattle.port_graph.specs.TopologyGraph.{west_of, east_of, edge_among}
 
-same_edge : (a b c d : ℕ) (track name : List ℕ) → track ≡ name → a ≡ c → b ≡ d → (let e : Edge = record { track = track; west = a; east = b } in e) ≡ record { track = name; west = c; east = d }
+same_edge : (a b c d : ℕ) (track name : List ℕ) → track ≡ name → a ≡ c → b ≡ d →
+    (let e : Edge = record { track = track; west = a; east = b } in e) ≡ record { track = name; west = c; east = d }
 same_edge a b c d track name p q r = cc
 
-pub pushed_edge : (ss : List Site) (r : Run) (rows new : List EdgeRow) (row : EdgeRow) → new ≡ rows ++ row ∷ [] → row.track ≡ r.track → row.west.0 ≡ number_among ss (west_of r).at → row.east.0 ≡ number_among ss (east_of r).at → map plain_edge new ≡ map plain_edge rows ++ edge_among ss r ∷ []
+pub pushed_edge : (ss : List Site) (r : Run) (rows new : List EdgeRow) (row : EdgeRow) → new ≡ rows ++ row ∷ [] → row.track ≡ r.track →
+    row.west.0 ≡ number_among ss (west_of r).at → row.east.0 ≡ number_among ss (east_of r).at → map plain_edge new ≡ map plain_edge rows ++ edge_among ss r ∷ []
 pushed_edge ss r rows new row is track west east =
     ap (map plain_edge) is ∙ map-append plain_edge rows (row ∷ []) ∙ ap (λ (e : Edge). map plain_edge rows ++ e ∷ []) (same_edge _ _ _ _ _ _ track west east)
 
@@ -21,7 +23,8 @@ pub drop_here : {A : Type 0} (xs : List A) (i : ℕ) (x : A) → i < length xs �
 drop_here xs i x within is = rw add-one (drop-cons xs i x within ∙ ap (λ y. y ∷ drop (suc i) xs) (sym is))
 
 -- one element of what is left goes over to what is there
-pub moved_over : {A B : Type 0} (f : A → B) (there next all : List B) (xs : List A) (i : ℕ) (x : A) → i < length xs → x ≡ get_or xs i x → there ++ map f (drop i xs) ≡ all → next ≡ there ++ f x ∷ [] → next ++ map f (drop (i + 1) xs) ≡ all
+pub moved_over : {A B : Type 0} (f : A → B) (there next all : List B) (xs : List A) (i : ℕ) (x : A) → i < length xs → x ≡ get_or xs i x →
+    there ++ map f (drop i xs) ≡ all → next ≡ there ++ f x ∷ [] → next ++ map f (drop (i + 1) xs) ≡ all
 moved_over f there next all xs i x within is so_far pushed =
     ap (λ l. l ++ map f (drop (i + 1) xs)) pushed
     ∙ append_assoc there (f x ∷ []) (map f (drop (i + 1) xs))
@@ -29,7 +32,8 @@ moved_over f there next all xs i x within is so_far pushed =
     ∙ so_far
 
 -- what one element of what is left stands for goes over to what is there
-pub all_moved_over : {A B : Type 0} (f : A → List B) (there next all : List B) (xs : List A) (i : ℕ) (x : A) → i < length xs → x ≡ get_or xs i x → there ++ flat_map f (drop i xs) ≡ all → next ≡ there ++ f x → next ++ flat_map f (drop (i + 1) xs) ≡ all
+pub all_moved_over : {A B : Type 0} (f : A → List B) (there next all : List B) (xs : List A) (i : ℕ) (x : A) → i < length xs → x ≡ get_or xs i x →
+    there ++ flat_map f (drop i xs) ≡ all → next ≡ there ++ f x → next ++ flat_map f (drop (i + 1) xs) ≡ all
 all_moved_over f there next all xs i x within is so_far pushed =
     ap (λ l. l ++ flat_map f (drop (i + 1) xs)) pushed
     ∙ append_assoc there (f x) (flat_map f (drop (i + 1) xs))
@@ -37,14 +41,16 @@ all_moved_over f there next all xs i x within is so_far pushed =
     ∙ so_far
 
 -- the same where the elements are counted
-pub counted_over : {A B : Type 0} (f : ℕ × A → B) (there next all : List B) (xs : List A) (i : ℕ) (x : A) → i < length xs → x ≡ get_or xs i x → there ++ map f (enumerate_from i (drop i xs)) ≡ all → next ≡ there ++ f (i, x) ∷ [] → next ++ map f (enumerate_from (i + 1) (drop (i + 1) xs)) ≡ all
+pub counted_over : {A B : Type 0} (f : ℕ × A → B) (there next all : List B) (xs : List A) (i : ℕ) (x : A) → i < length xs → x ≡ get_or xs i x →
+    there ++ map f (enumerate_from i (drop i xs)) ≡ all → next ≡ there ++ f (i, x) ∷ [] → next ++ map f (enumerate_from (i + 1) (drop (i + 1) xs)) ≡ all
 counted_over f there next all xs i x within is so_far pushed =
     ap (λ l. l ++ map f (enumerate_from (i + 1) (drop (i + 1) xs))) pushed
     ∙ append_assoc there (f (i, x) ∷ []) (map f (enumerate_from (i + 1) (drop (i + 1) xs)))
     ∙ ap (λ l. there ++ map f (enumerate_from i l)) (sym (drop_here xs i x within is))
     ∙ so_far
 
-pub all_counted_over : {A B : Type 0} (f : ℕ × A → List B) (there next all : List B) (xs : List A) (i : ℕ) (x : A) → i < length xs → x ≡ get_or xs i x → there ++ flat_map f (enumerate_from i (drop i xs)) ≡ all → next ≡ there ++ f (i, x) → next ++ flat_map f (enumerate_from (i + 1) (drop (i + 1) xs)) ≡ all
+pub all_counted_over : {A B : Type 0} (f : ℕ × A → List B) (there next all : List B) (xs : List A) (i : ℕ) (x : A) → i < length xs → x ≡ get_or xs i x →
+    there ++ flat_map f (enumerate_from i (drop i xs)) ≡ all → next ≡ there ++ f (i, x) → next ++ flat_map f (enumerate_from (i + 1) (drop (i + 1) xs)) ≡ all
 all_counted_over f there next all xs i x within is so_far pushed =
     ap (λ l. l ++ flat_map f (enumerate_from (i + 1) (drop (i + 1) xs))) pushed
     ∙ append_assoc there (f (i, x)) (flat_map f (enumerate_from (i + 1) (drop (i + 1) xs)))

@@ -1,5 +1,6 @@
 -- Each run goes from a node to a node at which it meets, and what meets at a node are runs with an end there.
-use Rattle.std.proofs.Common.{◌≡◌, ◌≢◌, ℕ, zero, suc, ◌+◌, ◌≤◌, Bool, true, false, ◌&&◌, cond, List, [], ◌∷◌, ◌++◌, length, map, Option, Some, None, refl, sym, ap, ◌∙◌, subst, inl, inr, zero-add, arith}
+use Rattle.std.proofs.Common.{◌≡◌, ◌≢◌, ℕ, zero, suc, ◌+◌, ◌≤◌, Bool, true, false, ◌&&◌, cond, List, [], ◌∷◌, ◌++◌, length, map, Option, Some, None, refl, sym}
+use Rattle.std.proofs.Common.{ap, ◌∙◌, subst, inl, inr, zero-add, arith}
 use Rattle.std.specs.Prelude.{nat_lt, slice_get, unwrap_or, option_and_then}
 use Rattle.std.specs.Option.{option_map_or}
 use Rattle.std.specs.List.{enumerate_from}
@@ -24,7 +25,8 @@ use Rattle.port_graph.specs.Runs.{piece_number, last_piece, join_of_connection, 
 use Rattle.port_graph.specs.Sites.{end_meeting, end_sites, inner_meeting, inner_site, track_sites, sites}
 use Rattle.port_graph.specs.Sides.{edges_met}
 use Rattle.port_graph.proofs.Membership.{In, in_left, in_right, in_append, in_map, in_numbered, numbered_in}
-use Rattle.port_graph.proofs.Places.{Where, at_end, at_inner, end_of, end_part, end_place, where_is, end_connection, end_spot_at, inner_spot_at, end_is_end, ends_apart}
+use Rattle.port_graph.proofs.Places.{Where, at_end, at_inner, end_of, end_part, end_place, where_is, end_connection, end_spot_at, inner_spot_at, end_is_end}
+use Rattle.port_graph.proofs.Places.{ends_apart}
 
 -- ---- edges beyond connections
 
@@ -66,7 +68,8 @@ pub after_met : (t : Topology) (before after : ℕ) (what : InnerKind) → In af
 after_met t before after (Switch outgoing hand track_diverges conn) = inr (inl refl)
 after_met t before after (Crossing hand incoming outgoing) = inr (inl refl)
 
-pub connection_met : (t : Topology) (before after : ℕ) (what : InnerKind) (m : ℕ) (c : Conn) → slice_get (connections what) m ≡ Some c → In (edge_beyond t c) (edges_met (inner_meeting t before after what))
+pub connection_met : (t : Topology) (before after : ℕ) (what : InnerKind) (m : ℕ) (c : Conn) → slice_get (connections what) m ≡ Some c →
+    In (edge_beyond t c) (edges_met (inner_meeting t before after what))
 connection_met t before after (Switch outgoing hand track_diverges conn) zero c is = inr (inr (inl (ap (edge_beyond t) (same_Some conn c is))))
 connection_met t before after (Switch outgoing hand track_diverges conn) (suc m) c is = absurd (none-some c is)
 connection_met t before after (Crossing hand incoming outgoing) zero c is = inr (inr (inl (ap (edge_beyond t) (same_Some incoming c is))))
@@ -112,7 +115,8 @@ in_sites t k track s here h =
 abbrev inner_list : Topology → ℕ → Track → List Site
 inner_list t k track = map (λ (ix : ℕ × Inner). inner_site t k ix.0 ix.1) (enumerate_from 0 track.inner)
 
-pub inner_site_there : (t : Topology) (k i : ℕ) (track : Track) (x : Inner) → slice_get t.tracks k ≡ Some track → slice_get track.inner i ≡ Some x → In (inner_site t k i x) (sites t)
+pub inner_site_there : (t : Topology) (k i : ℕ) (track : Track) (x : Inner) → slice_get t.tracks k ≡ Some track → slice_get track.inner i ≡ Some x →
+    In (inner_site t k i x) (sites t)
 inner_site_there t k i track x here at_i =
     in_sites t k track (inner_site t k i x) here
     (in_right (end_sites t track.begin (piece_number t k 0)) (inner_list t k track ++ end_sites t track.end (last_piece t k)) (inner_site t k i x)
@@ -128,10 +132,12 @@ was_chosen true s s' (inl is) = (refl, is)
 was_chosen true s s' (inr none) = absurd none
 was_chosen false s s' none = absurd none
 
-pub end_site_there : (t : Topology) (k : ℕ) (track : Track) (last : Bool) → slice_get t.tracks k ≡ Some track → has_node t (end_of track last) ≡ true → In (site_of_end t (end_of track last) (own t k last)) (sites t)
+pub end_site_there : (t : Topology) (k : ℕ) (track : Track) (last : Bool) → slice_get t.tracks k ≡ Some track → has_node t (end_of track last) ≡ true →
+    In (site_of_end t (end_of track last) (own t k last)) (sites t)
 end_site_there t k track false here node =
     let s : Site = site_of_end t track.begin (piece_number t k 0) in
-    in_sites t k track s here (in_left (end_sites t track.begin (piece_number t k 0)) (inner_list t k track ++ end_sites t track.end (last_piece t k)) s (chosen (has_node t track.begin) s node))
+    in_sites t k track s here (in_left (end_sites t track.begin (piece_number t k 0)) (inner_list t k track ++ end_sites t track.end (last_piece t k)) s
+    (chosen (has_node t track.begin) s node))
 end_site_there t k track true here node =
     let s : Site = site_of_end t track.end (last_piece t k) in
     in_sites t k track s here (in_right (end_sites t track.begin (piece_number t k 0)) (inner_list t k track ++ end_sites t track.end (last_piece t k)) s
@@ -139,13 +145,15 @@ end_site_there t k track true here node =
 
 -- a node is that of a track's end, or of a switch or crossing
 pub data SiteOf (t : Topology) (s : Site) : Type 0 where
-  of_end : (k : ℕ) (track : Track) (last : Bool) → slice_get t.tracks k ≡ Some track → has_node t (end_of track last) ≡ true → site_of_end t (end_of track last) (own t k last) ≡ s → SiteOf t s
+  of_end : (k : ℕ) (track : Track) (last : Bool) → slice_get t.tracks k ≡ Some track → has_node t (end_of track last) ≡ true →
+  site_of_end t (end_of track last) (own t k last) ≡ s → SiteOf t s
   of_inner : (k i : ℕ) (track : Track) (x : Inner) → slice_get t.tracks k ≡ Some track → slice_get track.inner i ≡ Some x → inner_site t k i x ≡ s → SiteOf t s
 
 of_inner_list : (t : Topology) (k : ℕ) (track : Track) (s : Site) → slice_get t.tracks k ≡ Some track → In s (inner_list t k track) → SiteOf t s
 of_inner_list t k track s here h = go (enumerate_from 0 track.inner) (λ ix g. there_numbered 0 track.inner ix g) h
   where
-    go : (l : List (ℕ × Inner)) → ((ix : ℕ × Inner) → In ix l → (i : ℕ) × (slice_get track.inner i ≡ Some ix.1) × (ix.0 ≡ 0 + i)) → In s (map (λ (ix : ℕ × Inner). inner_site t k ix.0 ix.1) l) → SiteOf t s
+    go : (l : List (ℕ × Inner)) → ((ix : ℕ × Inner) → In ix l → (i : ℕ) × (slice_get track.inner i ≡ Some ix.1) × (ix.0 ≡ 0 + i)) →
+    In s (map (λ (ix : ℕ × Inner). inner_site t k ix.0 ix.1) l) → SiteOf t s
     go [] from h = absurd h
     go (ix ∷ l) from (inl is) =
         let f = from ix (inl refl) in
@@ -168,7 +176,8 @@ site_of t s h =
 
 -- ---- which ends have nodes, and where the others lead
 
-pub node_beside_end : (t : Topology) (e : TrackEnd) (c : Conn) (track : Track) (last : Bool) → e.joined ≡ Some c → slice_get t.tracks c.to.track ≡ Some track → c.to.part ≡ end_part last → has_node t e ≡ nat_lt e.at (end_of track last).at
+pub node_beside_end : (t : Topology) (e : TrackEnd) (c : Conn) (track : Track) (last : Bool) → e.joined ≡ Some c → slice_get t.tracks c.to.track ≡ Some track →
+    c.to.part ≡ end_part last → has_node t e ≡ nat_lt e.at (end_of track last).at
 node_beside_end t e c track last joined here on =
     ap (is_node t e) joined
     ∙ ap (λ (b : Bool). b && is_listed_before e (spot_at t c.to)) (ap is_track_end on ∙ end_is_end last)
@@ -203,23 +212,29 @@ same_site_with t spot spot' e e' same same' s = record {
   met = subst (λ (n : ℕ). In n (edges_met s.site.meets)) same' s.met;
 }
 
-pub inner_with : (t : Topology) (k i : ℕ) (track : Track) (x : Inner) (e : ℕ) → slice_get t.tracks k ≡ Some track → slice_get track.inner i ≡ Some x → In e (edges_met (inner_meeting t (piece_number t k i) (piece_number t k (i + 1)) x.what)) → SiteWith t (inner_spot x) e
+pub inner_with : (t : Topology) (k i : ℕ) (track : Track) (x : Inner) (e : ℕ) → slice_get t.tracks k ≡ Some track → slice_get track.inner i ≡ Some x →
+    In e (edges_met (inner_meeting t (piece_number t k i) (piece_number t k (i + 1)) x.what)) → SiteWith t (inner_spot x) e
 inner_with t k i track x e here at_i met = record { site = inner_site t k i x; there = inner_site_there t k i track x here at_i; at = refl; met = met }
 
-leads_beside : (t : Topology) → IsResolved t → (k : ℕ) (track : Track) (last : Bool) (c other : Conn) → slice_get t.tracks k ≡ Some track → (end_of track last).joined ≡ Some c → has_node t (end_of track last) ≡ false → connection t (end_place k last) ≡ Some c → other.to ≡ end_place k last → Where t c.to other → SiteWith t (leads_to t (end_of track last)) (own t k last)
+leads_beside : (t : Topology) → IsResolved t → (k : ℕ) (track : Track) (last : Bool) (c other : Conn) → slice_get t.tracks k ≡ Some track →
+    (end_of track last).joined ≡ Some c → has_node t (end_of track last) ≡ false → connection t (end_place k last) ≡ Some c → other.to ≡ end_place k last →
+    Where t c.to other → SiteWith t (leads_to t (end_of track last)) (own t k last)
 leads_beside t resolved k track last c other here joined node from back (at_inner track2 i m x here2 at_i on at_m) =
     same_site_with t (inner_spot x) (leads_to t (end_of track last)) (edge_beyond t other) (own t k last)
     (sym (leads_other t (end_of track last) c (inner_spot x) node joined (inner_spot_at t c.to track2 i m x here2 at_i on)))
     (beyond_end t other k last (ap (λ (p : Place). p.track) back) (ap (λ (p : Place). p.part) back))
-    (inner_with t c.to.track i track2 x (edge_beyond t other) here2 at_i (connection_met t (piece_number t c.to.track i) (piece_number t c.to.track (i + 1)) x.what m other at_m))
+    (inner_with t c.to.track i track2 x (edge_beyond t other) here2 at_i (connection_met t (piece_number t c.to.track i) (piece_number t c.to.track (i + 1))
+    x.what m other at_m))
 leads_beside t resolved k track last c other here joined node from back (at_end track2 last2 here2 on joined2) =
     let e : TrackEnd = end_of track last in
     let e2 : TrackEnd = end_of track2 last2 in
-    let elsewhere : end_place k last ≢ end_place c.to.track last2 = λ same. resolved.joins.elsewhere (end_place k last) c from (same_place c.to (end_place c.to.track last2) refl on ∙ sym same) in
+    let elsewhere : end_place k last ≢ end_place c.to.track last2 = λ same. resolved.joins.elsewhere (end_place k last) c from
+    (same_place c.to (end_place c.to.track last2) refl on ∙ sym same) in
     let late : e2.at ≤ e.at = ltb-false e.at e2.at (sym (node_beside_end t e c track2 last2 joined here2 on) ∙ node) in
     let differ : e.at ≢ e2.at = ends_apart t resolved k c.to.track track track2 last last2 here here2 elsewhere in
     let here' : slice_get t.tracks other.to.track ≡ Some track = ap (λ (p : Place). slice_get t.tracks p.track) back ∙ here in
-    let node2 : has_node t e2 ≡ true = node_beside_end t e2 other track last joined2 here' (ap (λ (p : Place). p.part) back) ∙ lt-ltb e2.at e.at (omega arith) in
+    let node2 : has_node t e2 ≡ true = node_beside_end t e2 other track last joined2 here' (ap (λ (p : Place). p.part) back)
+    ∙ lt-ltb e2.at e.at (omega arith) in
     record {
       site = site_of_end t e2 (own t c.to.track last2);
       there = end_site_there t c.to.track track2 last2 here2 node2;
@@ -230,10 +245,12 @@ leads_beside t resolved k track last c other here joined node from back (at_end 
     }
 
 -- a track's end leads to a node at which its piece meets
-pub leads_with : (t : Topology) → IsResolved t → (k : ℕ) (track : Track) (last : Bool) → slice_get t.tracks k ≡ Some track → SiteWith t (leads_to t (end_of track last)) (own t k last)
+pub leads_with : (t : Topology) → IsResolved t → (k : ℕ) (track : Track) (last : Bool) → slice_get t.tracks k ≡ Some track →
+    SiteWith t (leads_to t (end_of track last)) (own t k last)
 leads_with t resolved k track last here = by_node (has_node t (end_of track last)) refl
   where
-    by_joined : (o : Option Conn) → (end_of track last).joined ≡ o → has_node t (end_of track last) ≡ false → SiteWith t (leads_to t (end_of track last)) (own t k last)
+    by_joined : (o : Option Conn) → (end_of track last).joined ≡ o → has_node t (end_of track last) ≡ false →
+    SiteWith t (leads_to t (end_of track last)) (own t k last)
     by_joined None joined node = absurd (false≢true (sym node ∙ ap (is_node t (end_of track last)) joined))
     by_joined (Some c) joined node =
         let from : connection t (end_place k last) ≡ Some c = end_connection t k track last here ∙ joined in

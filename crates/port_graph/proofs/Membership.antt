@@ -1,5 +1,6 @@
 -- What stands in a list, and in a list of which each two differ.
-use Rattle.std.proofs.Common.{◌≡◌, ◌≢◌, ℕ, zero, suc, ◌+◌, ◌<◌, List, [], ◌∷◌, ◌++◌, length, map, get_or, Option, Some, None, refl, sym, ap, subst, inl, inr, arith}
+use Rattle.std.proofs.Common.{◌≡◌, ◌≢◌, ℕ, zero, suc, ◌+◌, ◌<◌, List, [], ◌∷◌, ◌++◌, length, map, get_or, Option, Some, None, refl, sym, ap, subst, inl, inr}
+use Rattle.std.proofs.Common.{arith}
 use Rattle.std.specs.Prelude.{◌⊎◌, AllPairs, Contains, slice_get, option_and_then}
 use Rattle.std.specs.List.{flat_map, enumerate_from}
 use Rattle.std.proofs.lemmas.List.Elements.{All-contains}
@@ -68,7 +69,8 @@ flat_in f (x ∷ xs) y h =
     ]
 
 -- the same where the parts are numbered
-pub in_numbered : {X Y : Type 0} (f : ℕ → X → List Y) (n : ℕ) (xs : List X) (k : ℕ) (x : X) (y : Y) → slice_get xs k ≡ Some x → In y (f (n + k) x) → In y (flat_map (λ (kx : ℕ × X). f kx.0 kx.1) (enumerate_from n xs))
+pub in_numbered : {X Y : Type 0} (f : ℕ → X → List Y) (n : ℕ) (xs : List X) (k : ℕ) (x : X) (y : Y) → slice_get xs k ≡ Some x → In y (f (n + k) x) →
+    In y (flat_map (λ (kx : ℕ × X). f kx.0 kx.1) (enumerate_from n xs))
 in_numbered f n [] k x y e h = absurd (none-some x e)
 in_numbered {X} {Y} f n (z ∷ zs) zero x y e h =
     in_left (f n z) (flat_map (λ (kx : ℕ × X). f kx.0 kx.1) (enumerate_from (n + 1) zs)) y
@@ -77,7 +79,8 @@ in_numbered {X} f n (z ∷ zs) (suc k) x y e h =
     in_right (f n z) (flat_map (λ (kx : ℕ × X). f kx.0 kx.1) (enumerate_from (n + 1) zs)) y
     (in_numbered f (n + 1) zs k x y e (subst (λ (m : ℕ). In y (f m x)) (omega arith) h))
 
-pub numbered_in : {X Y : Type 0} (f : ℕ → X → List Y) (n : ℕ) (xs : List X) (y : Y) → In y (flat_map (λ (kx : ℕ × X). f kx.0 kx.1) (enumerate_from n xs)) → (k : ℕ) × (x : X) × (slice_get xs k ≡ Some x) × In y (f (n + k) x)
+pub numbered_in : {X Y : Type 0} (f : ℕ → X → List Y) (n : ℕ) (xs : List X) (y : Y) → In y (flat_map (λ (kx : ℕ × X). f kx.0 kx.1) (enumerate_from n xs)) →
+    (k : ℕ) × (x : X) × (slice_get xs k ≡ Some x) × In y (f (n + k) x)
 numbered_in f n [] y h = absurd h
 numbered_in {X} f n (z ∷ zs) y h =
     elim (in_append (f n z) (flat_map (λ (kx : ℕ × X). f kx.0 kx.1) (enumerate_from (n + 1) zs)) y h) [
@@ -103,7 +106,8 @@ pairs_right R [] ys pairs = pairs
 pairs_right R (x ∷ xs) ys pairs = pairs_right R xs ys (pairs_tail R x (xs ++ ys) pairs)
 
 -- two elements of different places, where the relation holds both ways
-pub pairs_at : {X : Type 0} (R : X → X → Type 0) (flip : (a b : X) → R a b → R b a) (xs : List X) (i j : ℕ) (a b : X) → AllPairs R xs → slice_get xs i ≡ Some a → slice_get xs j ≡ Some b → i ≢ j → R a b
+pub pairs_at : {X : Type 0} (R : X → X → Type 0) (flip : (a b : X) → R a b → R b a) (xs : List X) (i j : ℕ) (a b : X) → AllPairs R xs →
+    slice_get xs i ≡ Some a → slice_get xs j ≡ Some b → i ≢ j → R a b
 pairs_at R flip [] i j a b pairs p q differ = absurd (none-some a p)
 pairs_at R flip (x ∷ xs) zero zero a b pairs p q differ = absurd (differ refl)
 pairs_at {X} R flip (x ∷ xs) zero (suc j) a b pairs p q differ =
@@ -114,18 +118,21 @@ pairs_at R flip (x ∷ xs) (suc i) (suc j) a b pairs p q differ =
     pairs_at R flip xs i j a b (pairs_tail R x xs pairs) p q (λ e. differ (ap suc e))
 
 -- elements of two different parts
-pub pairs_apart : {X Y : Type 0} (R : Y → Y → Type 0) (flip : (a b : Y) → R a b → R b a) (f : X → List Y) (xs : List X) (i j : ℕ) (x y : X) (a b : Y) → AllPairs R (flat_map f xs) → slice_get xs i ≡ Some x → slice_get xs j ≡ Some y → i ≢ j → In a (f x) → In b (f y) → R a b
+pub pairs_apart : {X Y : Type 0} (R : Y → Y → Type 0) (flip : (a b : Y) → R a b → R b a) (f : X → List Y) (xs : List X) (i j : ℕ) (x y : X) (a b : Y) →
+    AllPairs R (flat_map f xs) → slice_get xs i ≡ Some x → slice_get xs j ≡ Some y → i ≢ j → In a (f x) → In b (f y) → R a b
 pairs_apart R flip f [] i j x y a b pairs p q differ h k = absurd (none-some x p)
 pairs_apart R flip f (z ∷ zs) zero zero x y a b pairs p q differ h k = absurd (differ refl)
 pairs_apart {Y = Y} R flip f (z ∷ zs) zero (suc j) x y a b pairs p q differ h k =
     pairs_across R (f z) (flat_map f zs) a b pairs (subst (λ (l : List Y). In a l) (ap f (sym (same_Some z x p))) h) (in_flat f zs y b (in_at zs j y q) k)
 pairs_apart {Y = Y} R flip f (z ∷ zs) (suc i) zero x y a b pairs p q differ h k =
-    flip b a (pairs_across R (f z) (flat_map f zs) b a pairs (subst (λ (l : List Y). In b l) (ap f (sym (same_Some z y q))) k) (in_flat f zs x a (in_at zs i x p) h))
+    flip b a (pairs_across R (f z) (flat_map f zs) b a pairs (subst (λ (l : List Y). In b l) (ap f (sym (same_Some z y q))) k)
+    (in_flat f zs x a (in_at zs i x p) h))
 pairs_apart R flip f (z ∷ zs) (suc i) (suc j) x y a b pairs p q differ h k =
     pairs_apart R flip f zs i j x y a b (pairs_right R (f z) (flat_map f zs) pairs) p q (λ e. differ (ap suc e)) h k
 
 -- one part
-pub pairs_within : {X Y : Type 0} (R : Y → Y → Type 0) (f : X → List Y) (xs : List X) (i : ℕ) (x : X) → AllPairs R (flat_map f xs) → slice_get xs i ≡ Some x → AllPairs R (f x)
+pub pairs_within : {X Y : Type 0} (R : Y → Y → Type 0) (f : X → List Y) (xs : List X) (i : ℕ) (x : X) → AllPairs R (flat_map f xs) → slice_get xs i ≡ Some x →
+    AllPairs R (f x)
 pairs_within R f [] i x pairs p = absurd (none-some x p)
 pairs_within {Y = Y} R f (z ∷ zs) zero x pairs p = subst (λ (l : List Y). AllPairs R l) (ap f (same_Some z x p)) (pairs_front R (f z) (flat_map f zs) pairs)
 pairs_within R f (z ∷ zs) (suc i) x pairs p = pairs_within R f zs i x (pairs_right R (f z) (flat_map f zs) pairs) p

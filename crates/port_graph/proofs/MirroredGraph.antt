@@ -15,8 +15,10 @@ use Rattle.plan_core.specs.declared.sides.Hand.TheVariants.{Left, Right}
 use Rattle.plan_core.specs.declared.topology.Topology.{Topology}
 use Rattle.plan_core.specs.declared.topology.Track.{Track}
 use Rattle.plan_core.specs.declared.topology.Inner.{Inner}
-use Rattle.plan_core.specs.Graph.{Graph, Node, Edge, Ports, End, Joint, Switch, Crossing, node, edge, no_node, mileage, edges_of, AreAt, IsPortOf, ArePortsOf, IsTrackGraph}
-use Rattle.plan_core.specs.Topology.{Element, elements, track_element, end_elements, inner_element, inner_elements, track_elements, conn_element, track_miles, IsMileage, IsId, IsResolved}
+use Rattle.plan_core.specs.Graph.{Graph, Node, Edge, Ports, End, Joint, Switch, Crossing, node, edge, no_node, mileage, edges_of, AreAt, IsPortOf, ArePortsOf}
+use Rattle.plan_core.specs.Graph.{IsTrackGraph}
+use Rattle.plan_core.specs.Topology.{Element, elements, track_element, end_elements, inner_element, inner_elements, track_elements, conn_element, track_miles}
+use Rattle.plan_core.specs.Topology.{IsMileage, IsId, IsResolved}
 use Rattle.plan_core.specs.declared.topology.Conn.{Conn}
 use Rattle.plan_core.proofs.Listing.{Contains-map}
 use Rattle.port_graph.specs.declared.fault.GraphFault.{GraphFault}
@@ -29,14 +31,16 @@ use Rattle.port_graph.specs.declared.sites.Meeting.TheVariants as meeting
 use Rattle.port_graph.specs.PortRule.{ports_of, joint_ports, switch_ports, crossing_ports}
 use Rattle.port_graph.specs.Sites.{sites, node_number}
 use Rattle.port_graph.specs.StationGraph.{IsStationGraph}
-use Rattle.port_graph.specs.TopologyGraph.{west_of, east_of, edge_of, IsRun, AreEdgesOf, side_at, IsNodeOf, IsGraphOf, IsStationGraphOf, AllForward, IsFirstLevel, IsFirstMismatch, IsGraphFault}
+use Rattle.port_graph.specs.TopologyGraph.{west_of, east_of, edge_of, IsRun, AreEdgesOf, side_at, IsNodeOf, IsGraphOf, IsStationGraphOf, AllForward}
+use Rattle.port_graph.specs.TopologyGraph.{IsFirstLevel, IsFirstMismatch, IsGraphFault}
 use Rattle.port_graph.specs.Mirrored.{other_hand, mirrored_inner, mirrored_track, mirrored_topology, mirrored_ports, mirrored_node, mirrored_graph}
 use Rattle.port_graph.proofs.PortLemmas.{apart_moved}
 use Rattle.port_graph.proofs.TurnedGraph.{contains_back}
 use Rattle.port_graph.proofs.TurnedLists.{flat_alike, map_alike}
 use Rattle.port_graph.proofs.TurnedFaults.{some_map}
 use Rattle.port_graph.proofs.TurnedStation.{pairs_map}
-use Rattle.port_graph.proofs.MirroredTopology.{mirrored_meeting, mirrored_site, connections-mirrored, connection-mirrored, pieces-mirrored, joins-mirrored, join_number-mirrored, edge_count-mirrored, sites-mirrored, node_number-mirrored}
+use Rattle.port_graph.proofs.MirroredTopology.{mirrored_meeting, mirrored_site, connections-mirrored, connection-mirrored, pieces-mirrored, joins-mirrored}
+use Rattle.port_graph.proofs.MirroredTopology.{join_number-mirrored, edge_count-mirrored, sites-mirrored, node_number-mirrored}
 
 -- ---- the topology
 
@@ -44,12 +48,14 @@ elements-mirrored : (t : Topology) → elements (mirrored_topology t) ≡ elemen
 elements-mirrored t =
     flat_alike mirrored_track track_elements track_elements
     (λ track. ap (λ (l : List Element). track_element track ∷ (end_elements track.begin ++ (l ++ end_elements track.end)))
-    (flat_alike mirrored_inner inner_elements inner_elements (λ x. ap (λ (cs : List Conn). inner_element x ∷ map conn_element cs) (connections-mirrored x.what)) track.inner))
+    (flat_alike mirrored_inner inner_elements inner_elements (λ x. ap (λ (cs : List Conn). inner_element x ∷ map conn_element cs) (connections-mirrored x.what))
+    track.inner))
     t.tracks
 
 miles-mirrored : (track : Track) → track_miles (mirrored_track track) ≡ track_miles track
 miles-mirrored track =
-    ap (λ (l : List ℤ). track.begin.mile.0 ∷ (l ++ track.end.mile.0 ∷ [])) (map_alike mirrored_inner (λ (x : Inner). x.mile.0) (λ (x : Inner). x.mile.0) (λ x. refl) track.inner)
+    ap (λ (l : List ℤ). track.begin.mile.0 ∷ (l ++ track.end.mile.0 ∷ [])) (map_alike mirrored_inner (λ (x : Inner). x.mile.0) (λ (x : Inner). x.mile.0)
+    (λ x. refl) track.inner)
 
 pub IsResolved-mirrored : (t : Topology) → IsResolved t → IsResolved (mirrored_topology t)
 IsResolved-mirrored t resolved = record {
@@ -75,7 +81,8 @@ hand_twice Right = refl
 meeting_twice : (meets : Meeting) → mirrored_meeting (mirrored_meeting meets) ≡ meets
 meeting_twice (meeting.End e) = refl
 meeting_twice (meeting.Joint first other) = refl
-meeting_twice (meeting.Switch outgoing hand track_diverges before after branch) = ap (λ (h : Hand). meeting.Switch outgoing h track_diverges before after branch) (hand_twice hand)
+meeting_twice (meeting.Switch outgoing hand track_diverges before after branch) = ap
+    (λ (h : Hand). meeting.Switch outgoing h track_diverges before after branch) (hand_twice hand)
 meeting_twice (meeting.Crossing hand before after incoming outgoing) = ap (λ (h : Hand). meeting.Crossing h before after incoming outgoing) (hand_twice hand)
 
 site_twice : (s : Site) → mirrored_site (mirrored_site s) ≡ s
@@ -92,7 +99,8 @@ joint-mirrored first other East West = refl
 joint-mirrored first other West West = refl
 joint-mirrored first other East East = refl
 
-switch-mirrored : (hand : Hand) (t s d : ℕ) (a b c : Compass) → switch_ports (other_hand hand) t s d a b c ≡ option_map mirrored_ports (switch_ports hand t s d a b c)
+switch-mirrored : (hand : Hand) (t s d : ℕ) (a b c : Compass) → switch_ports (other_hand hand) t s d a b c ≡ option_map mirrored_ports
+    (switch_ports hand t s d a b c)
 switch-mirrored Left t s d West East East = refl
 switch-mirrored Right t s d West East East = refl
 switch-mirrored Left t s d East West West = refl
@@ -104,7 +112,8 @@ switch-mirrored hand t s d East East East = refl
 switch-mirrored hand t s d East East West = refl
 switch-mirrored hand t s d East West East = refl
 
-crossing-mirrored : (hand : Hand) (b a i o : ℕ) (p q r s : Compass) → crossing_ports (other_hand hand) b a i o p q r s ≡ option_map mirrored_ports (crossing_ports hand b a i o p q r s)
+crossing-mirrored : (hand : Hand) (b a i o : ℕ) (p q r s : Compass) →
+    crossing_ports (other_hand hand) b a i o p q r s ≡ option_map mirrored_ports (crossing_ports hand b a i o p q r s)
 crossing-mirrored Left b a i o West East West East = refl
 crossing-mirrored Right b a i o West East West East = refl
 crossing-mirrored Left b a i o East West East West = refl
@@ -120,17 +129,30 @@ pub ports_of-mirrored : (side : ℕ → Compass) (meets : Meeting) → ports_of 
 ports_of-mirrored side (meeting.End e) = refl
 ports_of-mirrored side (meeting.Joint first other) = joint-mirrored first.0 other.0 (side first.0) (side other.0)
 ports_of-mirrored side (meeting.Switch outgoing hand track_diverges before after branch) = switch-mirrored hand _ _ _ _ _ _
-ports_of-mirrored side (meeting.Crossing hand before after incoming outgoing) = crossing-mirrored hand before.0 after.0 incoming.0 outgoing.0 (side before.0) (side after.0) (side incoming.0) (side outgoing.0)
+ports_of-mirrored side (meeting.Crossing hand before after incoming outgoing) = crossing-mirrored hand before.0 after.0 incoming.0 outgoing.0 (side before.0)
+    (side after.0) (side incoming.0) (side outgoing.0)
 
 -- ---- edges and nodes
 
 IsRun-back : (t : Topology) (e : ℕ) (r : Run) → IsRun (mirrored_topology t) e r → IsRun t e r
 IsRun-back t e r (inl piece) = inl (ap (λ (l : List Run). slice_get l e) (sym (pieces-mirrored t)) ∙ piece)
-IsRun-back t e r (inr join) = inr (join.0, subst (λ (l : List Join). Contains l join.0) (joins-mirrored t) join.1, sym (join_number-mirrored t join.0.at) ∙ join.2, join.3)
+IsRun-back t e r (inr join) = inr (
+  join.0,
+  subst (λ (l : List Join). Contains l join.0) (joins-mirrored t) join.1,
+  sym (join_number-mirrored t join.0.at)
+      ∙ join.2,
+  join.3,
+)
 
 IsRun-forth : (t : Topology) (e : ℕ) (r : Run) → IsRun t e r → IsRun (mirrored_topology t) e r
 IsRun-forth t e r (inl piece) = inl (ap (λ (l : List Run). slice_get l e) (pieces-mirrored t) ∙ piece)
-IsRun-forth t e r (inr join) = inr (join.0, subst (λ (l : List Join). Contains l join.0) (sym (joins-mirrored t)) join.1, join_number-mirrored t join.0.at ∙ join.2, join.3)
+IsRun-forth t e r (inr join) = inr (
+  join.0,
+  subst (λ (l : List Join). Contains l join.0) (sym (joins-mirrored t)) join.1,
+  join_number-mirrored t join.0.at
+      ∙ join.2,
+  join.3,
+)
 
 edge_of-mirrored : (t : Topology) (r : Run) → edge_of (mirrored_topology t) r ≡ edge_of t r
 edge_of-mirrored t r =
@@ -180,7 +202,11 @@ ports_moved : (p : Ports) → IsPermutation (edges_of p) (edges_of (mirrored_por
 ports_moved (End e side) = IsPermutation-refl (e ∷ [])
 ports_moved (Joint west east) = IsPermutation-refl (west ∷ east ∷ [])
 ports_moved (Switch legs branch trunk straight diverging) = IsPermutation-refl (trunk ∷ straight ∷ diverging ∷ [])
-ports_moved (Crossing west_upper west_lower east_upper east_lower) = record { moves = (0, 1) ∷ (2, 3) ∷ []; below = (omega arith, omega arith, (omega arith, omega arith, tt)); is = refl }
+ports_moved (Crossing west_upper west_lower east_upper east_lower) = record {
+  moves = (0, 1) ∷ (2, 3) ∷ [];
+  below = (omega arith, omega arith, (omega arith, omega arith, tt));
+  is = refl;
+}
 
 at-mirrored : (g : Graph) (n : ℕ) (p : Ports) → AreAt g n p → AreAt (mirrored_graph g) n (mirrored_ports p)
 at-mirrored g n (End e East) is = is
@@ -209,13 +235,18 @@ IsTrackGraph-mirrored : (g : Graph) → IsTrackGraph g → IsTrackGraph (mirrore
 IsTrackGraph-mirrored g is =
     let count : length g.nodes ≡ length (mirrored_graph g).nodes = sym (length-map g.nodes mirrored_node) in
     record {
-      nodes = λ e within. let ends = is.nodes e within in (subst (λ (n : ℕ). (edge g e).west < n) count ends.0, subst (λ (n : ℕ). (edge g e).east < n) count ends.1);
+      nodes = λ e within. let ends = is.nodes e within in (
+        subst (λ (n : ℕ). (edge g e).west < n) count ends.0,
+        subst (λ (n : ℕ). (edge g e).east < n) count
+            ends.1,
+      );
       forward = λ e within.
           subst (λ (z : ℤ). z <ℤ mileage (mirrored_graph g) (edge g e).east) (mileage-mirrored g (edge g e).west)
           (subst (λ (z : ℤ). mileage g (edge g e).west <ℤ z) (mileage-mirrored g (edge g e).east) (is.forward e within));
       met = λ e within. let ports = is.met e within in (port-mirrored g (edge g e).west e ports.0, port-mirrored g (edge g e).east e ports.1);
       ports = λ n within.
-          subst (λ (x : Node). ArePortsOf (mirrored_graph g) n x.ports) (sym (node-mirrored g n)) (ports-mirrored g n (node g n).ports (is.ports n (subst (λ (k : ℕ). n < k) (sym count) within)));
+          subst (λ (x : Node). ArePortsOf (mirrored_graph g) n x.ports) (sym (node-mirrored g n))
+          (ports-mirrored g n (node g n).ports (is.ports n (subst (λ (k : ℕ). n < k) (sym count) within)));
     }
 
 IsStationGraph-mirrored : (g : Graph) → IsStationGraph g → IsStationGraph (mirrored_graph g)
@@ -237,7 +268,8 @@ graph-mirrored t g is = record { graph = IsGraphOf-mirrored t g is.graph; statio
 AllForward-mirrored : (t : Topology) → AllForward t → AllForward (mirrored_topology t)
 AllForward-mirrored t forward e r run = forward e r (IsRun-back t e r run)
 
-IsFirstLevel-mirrored : (t : Topology) (e : ℕ) (track : List ℕ) (mileage : ℤ) → IsFirstLevel t e track mileage → IsFirstLevel (mirrored_topology t) e track mileage
+IsFirstLevel-mirrored : (t : Topology) (e : ℕ) (track : List ℕ) (mileage : ℤ) → IsFirstLevel t e track mileage →
+    IsFirstLevel (mirrored_topology t) e track mileage
 IsFirstLevel-mirrored t e track mileage is = record {
   run = is.run;
   numbered = IsRun-forth t e is.run is.numbered;
@@ -267,8 +299,17 @@ IsFirstMismatch-mirrored t n name is = record {
 pub fault-mirrored : (t : Topology) (fault : GraphFault) → IsGraphFault t fault → IsGraphFault (mirrored_topology t) fault
 fault-mirrored t (TooManyNodes n) is = (is.0 ∙ sym (length-sites t), is.1)
 fault-mirrored t (TooManyEdges n) is = (subst (λ (k : ℕ). k ≤ MAX_NODES) (sym (length-sites t)) is.0, is.1 ∙ sym (edge_count-mirrored t), is.2)
-fault-mirrored t (NotForward e track mileage) is =
-    (subst (λ (k : ℕ). k ≤ MAX_NODES) (sym (length-sites t)) is.0, subst (λ (k : ℕ). k ≤ MAX_EDGES) (sym (edge_count-mirrored t)) is.1, IsFirstLevel-mirrored t e.0 track mileage.0 is.2)
-fault-mirrored t (SideMismatch n name) is =
-    (subst (λ (k : ℕ). k ≤ MAX_NODES) (sym (length-sites t)) is.0, subst (λ (k : ℕ). k ≤ MAX_EDGES) (sym (edge_count-mirrored t)) is.1, AllForward-mirrored t is.2, IsFirstMismatch-mirrored t n.0 name is.3)
+fault-mirrored t (NotForward e track mileage) is = (
+  subst (λ (k : ℕ). k ≤ MAX_NODES) (sym (length-sites t)) is.0,
+  subst (λ (k : ℕ). k ≤ MAX_EDGES) (sym (edge_count-mirrored t)) is.1,
+  IsFirstLevel-mirrored t
+      e.0 track mileage.0 is.2,
+)
+fault-mirrored t (SideMismatch n name) is = (
+  subst (λ (k : ℕ). k ≤ MAX_NODES) (sym (length-sites t)) is.0,
+  subst (λ (k : ℕ). k ≤ MAX_EDGES) (sym (edge_count-mirrored t)) is.1,
+  AllForward-mirrored t
+      is.2,
+  IsFirstMismatch-mirrored t n.0 name is.3,
+)
 fault-mirrored t Memory is = is

@@ -14,14 +14,16 @@ use Rattle.port_graph.specs.Ordered.{IsMismatchOf, IsMismatchFault}
 abbrev pub MatchBelow : List Edge → List Site → ℕ → Type 0
 MatchBelow edges ss i = (m : ℕ) (r : Site) → m < i → slice_get ss m ≡ Some r → IsSome (ports_of (side_at edges m) r.meets)
 
-pub match_more : (edges : List Edge) (ss : List Site) (i : ℕ) (s : Site) → i < length ss → s ≡ get_or ss i s → MatchBelow edges ss i → IsSome (ports_of (side_at edges i) s.meets) → MatchBelow edges ss (i + 1)
+pub match_more : (edges : List Edge) (ss : List Site) (i : ℕ) (s : Site) → i < length ss → s ≡ get_or ss i s → MatchBelow edges ss i →
+    IsSome (ports_of (side_at edges i) s.meets) → MatchBelow edges ss (i + 1)
 match_more edges ss i s within is below here m r less there =
     below_more (λ k. (q : Site) → slice_get ss k ≡ Some q → IsSome (ports_of (side_at edges k) q.meets)) i (λ k small q at. below k q small at)
     (λ q at. subst (λ (x : Site). IsSome (ports_of (side_at edges i) x.meets)) (is ∙ get_or_from_slice_get ss i q s at) here)
     m less r there
 
 -- the fault of the first site at which the edges don't lie as they must is that of all
-pub first_mismatch : (edges : List Edge) (ss : List Site) (i : ℕ) (s : Site) (fault : GraphFault) → i < length ss → s ≡ get_or ss i s → MatchBelow edges ss i → IsMismatchOf edges i s fault → IsMismatchFault edges ss fault
+pub first_mismatch : (edges : List Edge) (ss : List Site) (i : ℕ) (s : Site) (fault : GraphFault) → i < length ss → s ≡ get_or ss i s → MatchBelow edges ss i →
+    IsMismatchOf edges i s fault → IsMismatchFault edges ss fault
 first_mismatch edges ss i s (SideMismatch node name) within is below (at, named, none) = (
   s,
   record {

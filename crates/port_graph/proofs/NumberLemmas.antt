@@ -1,5 +1,6 @@
 -- Bounds on the numbers of edges.
-use Rattle.std.proofs.Common.{◌≡◌, ℕ, ◌+◌, ◌<◌, ◌≤◌, true, false, cond, List, [], ◌∷◌, ◌++◌, length, get_or, take, Some, ap, ◌∙◌, subst, arith, below_more, length-append}
+use Rattle.std.proofs.Common.{◌≡◌, ℕ, ◌+◌, ◌<◌, ◌≤◌, true, false, cond, List, [], ◌∷◌, ◌++◌, length, get_or, take, Some, ap, ◌∙◌, subst, arith, below_more}
+use Rattle.std.proofs.Common.{length-append}
 use Rattle.std.specs.Prelude.{min, slice_get, sum_by, unwrap_or}
 use Rattle.std.specs.List.{flat_map}
 use Rattle.std.proofs.lemmas.List.Sums.{sum_by-take-drop, sum_by-take-le, sum_by-cons, sum_by_more}
@@ -26,7 +27,8 @@ sum_with {X} f xs k x there =
     omega (arith, more, at, sum_by-take-drop f xs (k + 1))
 
 -- the number of the next track's first piece
-pub first_more : (t : Topology) (tracks : List Track) (k : ℕ) (track : Track) → tracks ≡ t.tracks → k < length tracks → track ≡ get_or tracks k track → piece_number t (k + 1) 0 ≡ piece_number t k 0 + (length track.inner + 1)
+pub first_more : (t : Topology) (tracks : List Track) (k : ℕ) (track : Track) → tracks ≡ t.tracks → k < length tracks → track ≡ get_or tracks k track →
+    piece_number t (k + 1) 0 ≡ piece_number t k 0 + (length track.inner + 1)
 first_more t tracks k track same within is =
     let more = sum_by_more piece_count t.tracks k track (subst (λ (l : List Track). k < length l) same within) in
     let here : piece_count track ≡ piece_count (get_or t.tracks k track) = ap piece_count is ∙ ap (λ (l : List Track). piece_count (get_or l k track)) same in
@@ -36,21 +38,25 @@ pub first_few : (t : Topology) (k : ℕ) → sum_by piece_count t.tracks ≤ MAX
 first_few t k few = omega (arith, sum_by-take-le piece_count t.tracks k)
 
 -- one number more is listed
-pub firsts_more : (t : Topology) (firsts new : List ℕ) (k next : ℕ) → new ≡ firsts ++ next ∷ [] → length firsts ≡ k → next ≡ piece_number t k 0 → ((j : ℕ) → j < k → get_or firsts j 0 ≡ piece_number t j 0) → (j : ℕ) → j < k + 1 → get_or new j 0 ≡ piece_number t j 0
+pub firsts_more : (t : Topology) (firsts new : List ℕ) (k next : ℕ) → new ≡ firsts ++ next ∷ [] → length firsts ≡ k → next ≡ piece_number t k 0 →
+    ((j : ℕ) → j < k → get_or firsts j 0 ≡ piece_number t j 0) → (j : ℕ) → j < k + 1 → get_or new j 0 ≡ piece_number t j 0
 firsts_more t firsts new k next pushed count here below =
     below_more (λ (j : ℕ). get_or new j 0 ≡ piece_number t j 0) k
     (λ j less. ap (λ (l : List ℕ). get_or l j 0) pushed ∙ get_or_append_left firsts (next ∷ []) 0 j (omega arith) ∙ below j less)
     (ap (λ (l : List ℕ). get_or l k 0) pushed ∙ get_or_push firsts next 0 k count ∙ here)
 
-pub piece_below : (t : Topology) (k i : ℕ) (track : Track) → slice_get t.tracks k ≡ Some track → i ≤ length track.inner → piece_number t k i < sum_by piece_count t.tracks
+pub piece_below : (t : Topology) (k i : ℕ) (track : Track) → slice_get t.tracks k ≡ Some track → i ≤ length track.inner →
+    piece_number t k i < sum_by piece_count t.tracks
 piece_below t k i track there small = let h = sum_with piece_count t.tracks k track there in omega (arith, h)
 
 -- within the limit on edges
-pub piece_few : (t : Topology) (k i : ℕ) (track : Track) → slice_get t.tracks k ≡ Some track → i ≤ length track.inner → edge_count t ≤ MAX_EDGES → piece_number t k i ≤ MAX_EDGES
+pub piece_few : (t : Topology) (k i : ℕ) (track : Track) → slice_get t.tracks k ≡ Some track → i ≤ length track.inner → edge_count t ≤ MAX_EDGES →
+    piece_number t k i ≤ MAX_EDGES
 piece_few t k i track there small few = let h = piece_below t k i track there small in omega (arith, h)
 
 -- a piece's number, counted from that of its track's first piece, or past the last track from that of all pieces
-pub piece_from : (t : Topology) (numbering : Numbering) → IsNumbering t numbering → (track piece k n first : ℕ) → k ≡ min track n → n ≡ length t.tracks → first ≡ get_or numbering.firsts.items k first → first + piece ≡ piece_number t track piece
+pub piece_from : (t : Topology) (numbering : Numbering) → IsNumbering t numbering → (track piece k n first : ℕ) → k ≡ min track n → n ≡ length t.tracks →
+    first ≡ get_or numbering.firsts.items k first → first + piece ≡ piece_number t track piece
 piece_from t numbering is track piece k n first k_is n_is read =
     let small : k ≤ length t.tracks = omega arith in
     let at : first ≡ get_or numbering.firsts.items k 0 = get_or_read numbering.firsts.items k first (omega (arith, is.count)) read 0 in
@@ -92,7 +98,8 @@ track_few t track =
       length-append (flat_map inner_elements track.inner) (end_elements track.end),
     )
 
-tracks_few : (t : Topology) (tracks : List Track) → sum_by piece_count tracks + length (flat_map (track_joins t) tracks) ≤ length (flat_map track_elements tracks)
+tracks_few : (t : Topology) (tracks : List Track) → sum_by piece_count tracks + length (flat_map (track_joins t) tracks) ≤ length
+    (flat_map track_elements tracks)
 tracks_few t [] = omega arith
 tracks_few t (track ∷ tracks) =
     omega (

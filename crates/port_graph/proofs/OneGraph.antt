@@ -47,7 +47,8 @@ same_node m n p q r =
     let F : List ℕ → ℤ → Ports → Node = λ name mileage ports. record { name = name; mileage = mileage; ports = ports } in
     ap (λ (x : List ℕ). F x m.mileage m.ports) p ∙ ap (λ (x : ℤ). F n.name x m.ports) q ∙ ap (F n.name n.mileage) r
 
-node_at : (t : Topology) (g h : Graph) (s : Site) → g.edges ≡ h.edges → IsNodeOf t g s → IsNodeOf t h s → node g (node_number t s.spot.at) ≡ node h (node_number t s.spot.at)
+node_at : (t : Topology) (g h : Graph) (s : Site) → g.edges ≡ h.edges → IsNodeOf t g s → IsNodeOf t h s →
+    node g (node_number t s.spot.at) ≡ node h (node_number t s.spot.at)
 node_at t g h s edges is is' =
     let n : ℕ = node_number t s.spot.at in
     same_node (node g n) (node h n) (is.name ∙ sym is'.name) (is.mileage ∙ sym is'.mileage)
@@ -99,7 +100,8 @@ one_join t resolved j j' there there' same =
     let i' = at_in (joins t) j' there' in
     elim (cases_eq i.0 i'.0) [
       | inl one ↦ same_Some j j' (sym i.1 ∙ ap (slice_get (joins t)) one ∙ i'.1)
-      | inr differ ↦ absurd (pairs_at (λ (a b : Join). a.at ≢ b.at) (λ a b apart e. apart (sym e)) (joins t) i.0 i'.0 j j' (join_places_differ t resolved) i.1 i'.1 differ same)
+      | inr differ ↦ absurd (pairs_at (λ (a b : Join). a.at ≢ b.at) (λ a b apart e. apart (sym e)) (joins t) i.0 i'.0 j j' (join_places_differ t resolved) i.1
+          i'.1 differ same)
     ]
 
 pub one_run : (t : Topology) → IsResolved t → (e : ℕ) (r r' : Run) → IsRun t e r → IsRun t e r' → r ≡ r'
@@ -121,7 +123,8 @@ one_run t resolved e r r' (inr join) (inr join') =
     let place : join.0.at ≡ join'.0.at = one_rank (λ (j : Join). j.at) (joins t) join.0 join'.0 there there' (omega (arith, numbers)) in
     sym join.3 ∙ ap (λ (j : Join). j.run) (one_join t resolved join.0 join'.0 there there' place) ∙ join'.3
 
-one_level : (t : Topology) (e e' : ℕ) (track track' : List ℕ) (m m' : ℤ) → IsResolved t → IsFirstLevel t e track m → IsFirstLevel t e' track' m' → (e ≡ e') × (track ≡ track') × (m ≡ m')
+one_level : (t : Topology) (e e' : ℕ) (track track' : List ℕ) (m m' : ℤ) → IsResolved t → IsFirstLevel t e track m → IsFirstLevel t e' track' m' →
+    (e ≡ e') × (track ≡ track') × (m ≡ m')
 one_level t e e' track track' m m' resolved is is' =
     elim (cases_order e e') [
       | inl same ↦
@@ -149,14 +152,16 @@ earlier_mismatch t n n' name name' resolved is is' =
           (subst (λ (l : List Edge). IsSome (ports_of (side_at l (node_number t is.site.spot.at)) is.site.meets)) (sym edges) matches)))
     ]
 
-one_mismatch : (t : Topology) (n n' : ℕ) (name name' : List ℕ) → IsResolved t → IsFirstMismatch t n name → IsFirstMismatch t n' name' → (n ≡ n') × (name ≡ name')
+one_mismatch : (t : Topology) (n n' : ℕ) (name name' : List ℕ) → IsResolved t → IsFirstMismatch t n name → IsFirstMismatch t n' name' →
+    (n ≡ n') × (name ≡ name')
 one_mismatch t n n' name name' resolved is is' =
     let low = earlier_mismatch t n n' name name' resolved is is' in
     let high = earlier_mismatch t n' n name' name resolved is' is in
     let same : n ≡ n' = omega (arith, low, high) in
     let there = in_contains (sites t) is.site is.there in
     let there' = in_contains (sites t) is'.site is'.there in
-    let place : is.site.spot.at ≡ is'.site.spot.at = one_rank (λ (s : Site). s.spot.at) (sites t) is.site is'.site there there' (is.numbered ∙ same ∙ sym is'.numbered) in
+    let place : is.site.spot.at ≡ is'.site.spot.at = one_rank (λ (s : Site). s.spot.at) (sites t) is.site is'.site there there'
+    (is.numbered ∙ same ∙ sym is'.numbered) in
     (same, is.named ∙ ap (λ (s : Site). s.id) (one_site t resolved is.site is'.site there there' place) ∙ sym is'.named)
 
 pub one_fault : (t : Topology) (f f' : GraphFault) → IsResolved t → IsGraphFault t f → IsGraphFault t f' → f ≡ f'
@@ -190,7 +195,9 @@ one_fault t f Memory resolved is is' = absurd is'
 -- ---- what is answered
 
 -- of a result that is the graph, a fault or want of memory
-pub graph_exactly : (t : Topology) (result : Result Graph GraphFault) → IsResolved t → IfOk result (IsStationGraphOf t) → IfErr result (λ fault. (fault ≡ Memory) ⊎ IsGraphFault t fault) → AnswersExactly result Memory (IsStationGraphOf t) (IsGraphFault t)
+pub graph_exactly : (t : Topology) (result : Result Graph GraphFault) → IsResolved t → IfOk result (IsStationGraphOf t) →
+    IfErr result (λ fault. (fault ≡ Memory) ⊎ IsGraphFault t fault) → AnswersExactly result Memory (IsStationGraphOf t) (IsGraphFault t)
 graph_exactly t result resolved value fault =
     answers_exactly result Memory (IsStationGraphOf t) (IsGraphFault t) value fault
-    (λ g h is is'. one_graph t g h resolved is.graph is'.graph) (λ f f' is is'. one_fault t f f' resolved is is') (λ g f is is'. graph_or_fault t g f resolved is is')
+    (λ g h is is'. one_graph t g h resolved is.graph is'.graph) (λ f f' is is'. one_fault t f f' resolved is is')
+    (λ g f is is'. graph_or_fault t g f resolved is is')

@@ -1,6 +1,7 @@
 -- How many elements of a list stand before a place: no two elements that stand apart have one such number,
 -- and each number below the length is one's. In a list in order it is the element's own place.
-use Rattle.std.proofs.Common.{◌≡◌, ◌≢◌, ℕ, ◌+◌, ◌-◌, ◌<◌, ◌≤◌, Bool, cond, List, [], ◌∷◌, length, map, get_or, refl, sym, ap, ◌∙◌, subst, inl, inr, arith, zero, suc, Some, None}
+use Rattle.std.proofs.Common.{◌≡◌, ◌≢◌, ℕ, ◌+◌, ◌-◌, ◌<◌, ◌≤◌, Bool, cond, List, [], ◌∷◌, length, map, get_or, refl, sym, ap, ◌∙◌, subst, inl, inr, arith}
+use Rattle.std.proofs.Common.{zero, suc, Some, None}
 use Rattle.std.specs.Prelude.{nat_lt, count_by, AllPairs, slice_get, All}
 use Rattle.std.proofs.lemmas.Bool.{cases_lt, cases_order, lt-ltb, le-ltb}
 use Rattle.std.proofs.lemmas.List.Elements.{All-contains, All-head, All-tail, All-map, All-cons, All-weaker}
@@ -101,7 +102,8 @@ module _ {X : Type 0} (f : X → ℕ) where
 pairs_to_image : {A B : Type 0} (R : B → B → Type 0) (f : A → B) (xs : List A) → AllPairs (λ x y. R (f x) (f y)) xs → AllPairs R (map f xs)
 pairs_to_image R f [] pairs = λ i j d less within. absurd (omega arith)
 pairs_to_image R f (x ∷ xs) pairs =
-    AllPairs-cons R (f x) (map f xs) (All-map (R (f x)) f xs (pairs_head (λ x y. R (f x) (f y)) x xs pairs)) (pairs_to_image R f xs (pairs_tail (λ x y. R (f x) (f y)) x xs pairs))
+    AllPairs-cons R (f x) (map f xs) (All-map (R (f x)) f xs (pairs_head (λ x y. R (f x) (f y)) x xs pairs))
+    (pairs_to_image R f xs (pairs_tail (λ x y. R (f x) (f y)) x xs pairs))
 
 -- where each element has less than those after it, none before it has more
 none_below : {A : Type 0} (key : A → ℕ) (k : ℕ) (xs : List A) → All (λ x. k ≤ key x) xs → count_by (λ x. nat_lt (key x) k) xs ≡ 0
@@ -113,16 +115,19 @@ none_below {A} key k (x ∷ xs) all =
 
 rank_here : {A : Type 0} (key : A → ℕ) (y : A) (xs : List A) → All (λ z. key y < key z) xs → count_by (λ z. nat_lt (key z) (key y)) (y ∷ xs) ≡ 0
 rank_here {A} key y xs over =
-    none_below key (key y) (y ∷ xs) (All-cons (λ (z : A). key y ≤ key z) y xs (omega arith) (All-weaker (λ (z : A). key y < key z) (λ (z : A). key y ≤ key z) (λ z h. omega arith) xs over))
+    none_below key (key y) (y ∷ xs) (All-cons (λ (z : A). key y ≤ key z) y xs (omega arith)
+    (All-weaker (λ (z : A). key y < key z) (λ (z : A). key y ≤ key z) (λ z h. omega arith) xs over))
 
-rank_later : {A : Type 0} (key : A → ℕ) (y x : A) (xs : List A) (n : ℕ) → key y < key x → count_by (λ z. nat_lt (key z) (key x)) xs ≡ n → count_by (λ z. nat_lt (key z) (key x)) (y ∷ xs) ≡ suc n
+rank_later : {A : Type 0} (key : A → ℕ) (y x : A) (xs : List A) (n : ℕ) → key y < key x → count_by (λ z. nat_lt (key z) (key x)) xs ≡ n →
+    count_by (λ z. nat_lt (key z) (key x)) (y ∷ xs) ≡ suc n
 rank_later {A} key y x xs n less rest =
     let first = ap {B = ℕ} (λ b. cond b 1 0) (lt-ltb (key y) (key x) less) in
     let all = sum_by-cons (λ (z : A). cond (nat_lt (key z) (key x)) 1 0) y xs in
     omega (arith, all, first, rest)
 
 -- the place of an element of a rises list
-place_is_rank : {A : Type 0} (key : A → ℕ) (xs : List A) → AllPairs (λ x y. key x < key y) xs → (n : ℕ) (x : A) → slice_get xs n ≡ Some x → count_by (λ z. nat_lt (key z) (key x)) xs ≡ n
+place_is_rank : {A : Type 0} (key : A → ℕ) (xs : List A) → AllPairs (λ x y. key x < key y) xs → (n : ℕ) (x : A) → slice_get xs n ≡ Some x →
+    count_by (λ z. nat_lt (key z) (key x)) xs ≡ n
 place_is_rank key [] rise n x is = absurd (let e : None ≡ Some x = is in cc)
 place_is_rank {A} key (y ∷ xs) rise zero x is =
     let same : y ≡ x = cc in
@@ -141,9 +146,11 @@ rises key ys up differ i j d less within =
     omega arith
 
 -- in a list that was put in order by a number, an element's place is how many of the list have less
-pub place_in_order : {A : Type 0} (key : A → ℕ) (xs ys : List A) → IsPermutation xs ys → IsNonDecreasingBy key ys → AllPairs (λ x y. key x ≢ key y) xs → (n : ℕ) (x : A) → slice_get ys n ≡ Some x → count_by (λ z. nat_lt (key z) (key x)) xs ≡ n
+pub place_in_order : {A : Type 0} (key : A → ℕ) (xs ys : List A) → IsPermutation xs ys → IsNonDecreasingBy key ys → AllPairs (λ x y. key x ≢ key y) xs →
+    (n : ℕ) (x : A) → slice_get ys n ≡ Some x → count_by (λ z. nat_lt (key z) (key x)) xs ≡ n
 place_in_order {A} key xs ys moved up differ n x is =
     sym (sum_by-IsPermutation (λ (z : A). cond (nat_lt (key z) (key x)) 1 0) xs ys moved)
     ∙ place_is_rank key ys
-    (rises key ys up (pairs_of_map (λ m k. m ≢ k) key ys (apart_moved (map key xs) (map key ys) (IsPermutation-map key xs ys moved) (pairs_to_image (λ m k. m ≢ k) key xs differ))))
+    (rises key ys up (pairs_of_map (λ m k. m ≢ k) key ys (apart_moved (map key xs) (map key ys) (IsPermutation-map key xs ys moved)
+    (pairs_to_image (λ m k. m ≢ k) key xs differ))))
     n x is

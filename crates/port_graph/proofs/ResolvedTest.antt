@@ -1,5 +1,6 @@
 -- A test by which an example is shown to be a topology as a file gives it.
-use Rattle.std.proofs.Common.{◌≡◌, ◌≢◌, ℕ, ℤ, zero, suc, ◌+◌, ◌^◌, ◌<◌, inl, inr, Bool, true, false, not, ◌&&◌, List, [], ◌∷◌, ◌++◌, length, map, Option, Some, None, refl, sym, ap, ◌∙◌, subst, arith, eqb, eqb-true, eq-eqb, ltb-true, leb-true, add-zero, zero-add, get_or}
+use Rattle.std.proofs.Common.{◌≡◌, ◌≢◌, ℕ, ℤ, zero, suc, ◌+◌, ◌^◌, ◌<◌, inl, inr, Bool, true, false, not, ◌&&◌, List, [], ◌∷◌, ◌++◌, length, map, Option, Some}
+use Rattle.std.proofs.Common.{None, refl, sym, ap, ◌∙◌, subst, arith, eqb, eqb-true, eq-eqb, ltb-true, leb-true, add-zero, zero-add, get_or}
 use Rattle.std.specs.Prelude.{nat_lt, nat_le, All, AllPairs, slice_get, neg_ℤ, ◌<ℤ◌, bytes_eq, option_to_list}
 use Rattle.std.specs.List.{flat_map, enumerate_from, list_all}
 use Rattle.std.specs.Cmp.{int_ranks}
@@ -22,7 +23,8 @@ use Rattle.plan_core.specs.declared.topology.Conn.{Conn}
 use Rattle.plan_core.specs.declared.topology.Place.{Place}
 use Rattle.plan_core.specs.declared.topology.Part.{Part}
 use Rattle.plan_core.specs.declared.topology.Part.TheVariants.{Begin, End, Branch, Incoming, Outgoing}
-use Rattle.plan_core.specs.Topology.{Element, elements, track_miles, connections, connection, LeadsBothWays, farthest, IsMileage, IsIdCharacter, IsId, IsResolved}
+use Rattle.plan_core.specs.Topology.{Element, elements, track_miles, connections, connection, LeadsBothWays, farthest, IsMileage, IsIdCharacter, IsId}
+use Rattle.plan_core.specs.Topology.{IsResolved}
 use Rattle.plan_core.proofs.PlaceFacts.{same_place}
 use Rattle.port_graph.proofs.Membership.{In, contains_in, in_left, in_right, in_map, in_numbered}
 use Rattle.port_graph.proofs.Places.{end_place, inner_place, Where, at_end, at_inner, where_is}
@@ -50,7 +52,8 @@ id_sound id is =
     record {
       some = leb-true 1 (length id) first.0;
       short = leb-true (length id) 64 second.0;
-      characters = subst (All IsIdCharacter) (sym (chars-IsAscii id ascii)) (All-weaker (λ c. id_character c ≡ true) IsIdCharacter (λ c h. (high c h, inl (low c h))) id tested);
+      characters = subst (All IsIdCharacter) (sym (chars-IsAscii id ascii)) (All-weaker (λ c. id_character c ≡ true) IsIdCharacter
+          (λ c h. (high c h, inl (low c h))) id tested);
     }
 
 -- no two are the same by a test
@@ -86,7 +89,8 @@ abbrev pub mile_test : ℤ → Bool
 mile_test m = less_test (neg_ℤ farthest) m && less_test m farthest
 
 mile_sound : (m : ℤ) → mile_test m ≡ true → IsMileage m
-mile_sound m is = let parts = and_parts (less_test (neg_ℤ farthest) m) (less_test m farthest) is in (less_sound (neg_ℤ farthest) m parts.0, less_sound m farthest parts.1)
+mile_sound m is = let parts = and_parts (less_test (neg_ℤ farthest) m) (less_test m farthest) is in
+    (less_sound (neg_ℤ farthest) m parts.0, less_sound m farthest parts.1)
 
 -- Joins.
 
@@ -146,21 +150,24 @@ leads_back p to (Some other) = same_place_test other.to p && not (same_place_tes
 abbrev pub both_ways_test : Topology → Bool
 both_ways_test t = list_all (λ (pc : Place × Conn). leads_back pc.0 pc.1.to (connection t pc.1.to)) (all_connections t)
 
-in_end : (k : ℕ) (last : Bool) (e : TrackEnd) (o : Option Conn) (c : Conn) → o ≡ Some c → In {X = Place × Conn} (end_place k last, c) (map (λ (d : Conn). (end_place k last, d)) (option_to_list o))
+in_end : (k : ℕ) (last : Bool) (e : TrackEnd) (o : Option Conn) (c : Conn) → o ≡ Some c →
+    In {X = Place × Conn} (end_place k last, c) (map (λ (d : Conn). (end_place k last, d)) (option_to_list o))
 in_end k last e None c is = absurd (let h : None ≡ Some c = is in cc)
 in_end k last e (Some d) c is = inl (ap (λ (x : Conn). (end_place k last, x)) (let h : d ≡ c = cc in h))
 
 pub in_numbers : {A : Type 0} (n : ℕ) (xs : List A) (i : ℕ) (x : A) → slice_get xs i ≡ Some x → In {X = ℕ × A} (n + i, x) (enumerate_from n xs)
 in_numbers {A} n [] i x is = absurd (let h : None ≡ Some x = is in cc)
 in_numbers {A} n (y ∷ ys) zero x is = inl (let h : y ≡ x = cc in ap (λ z. (n, z)) h ∙ ap (λ k. (k, x)) (sym (add-zero n)))
-in_numbers {A} n (y ∷ ys) (suc i) x is = inr (subst (λ k. In (k, x) (enumerate_from (n + 1) ys)) (let h : n + 1 + i ≡ n + suc i = omega arith in h) (in_numbers (n + 1) ys i x is))
+in_numbers {A} n (y ∷ ys) (suc i) x is = inr (subst (λ k. In (k, x) (enumerate_from (n + 1) ys)) (let h : n + 1 + i ≡ n + suc i = omega arith in h)
+    (in_numbers (n + 1) ys i x is))
 
 in_inner : (k i m : ℕ) (x : Inner) (c : Conn) → slice_get (connections x.what) m ≡ Some c → In {X = Place × Conn} (inner_place k x.what i m, c) (inner_at k i x)
 in_inner k i m x c is =
     in_map (λ (mc : ℕ × Conn). (inner_place k x.what i mc.0, mc.1)) (enumerate_from 0 (connections x.what)) (m, c)
     (subst (λ n. In (n, c) (enumerate_from 0 (connections x.what))) (zero-add m) (in_numbers 0 (connections x.what) m c is))
 
-on_track : (t : Topology) (p : Place) (c : Conn) → Where t p c → (track : Track) × (slice_get t.tracks p.track ≡ Some track) × In {X = Place × Conn} (p, c) (track_connections p.track track)
+on_track : (t : Topology) (p : Place) (c : Conn) → Where t p c → (track : Track) × (slice_get t.tracks p.track ≡ Some track) × In {X = Place × Conn} (p, c)
+    (track_connections p.track track)
 on_track t p c (at_end track false here on joined) = (
   track,
   here,
@@ -171,7 +178,8 @@ on_track t p c (at_end track true here on joined) = (
   track,
   here,
   subst (λ q. In (q, c) (track_connections p.track track)) (same_place (end_place p.track true) p refl (sym on))
-      (in_right (end_joins p.track false track.begin) _ _ (in_left (end_joins p.track true track.end) _ _ (in_end p.track true track.end track.end.joined c joined))),
+      (in_right (end_joins p.track false track.begin) _ _ (in_left (end_joins p.track true track.end) _ _
+      (in_end p.track true track.end track.end.joined c joined))),
 )
 on_track t p c (at_inner track i m x here at on conn) = (
   track,
@@ -199,7 +207,8 @@ back_sound p to (Some other) is =
 joins_sound : (t : Topology) → both_ways_test t ≡ true → LeadsBothWays t
 joins_sound t is =
     let tested : (p : Place) (c : Conn) → connection t p ≡ Some c → leads_back p c.to (connection t c.to) ≡ true =
-    λ p c at. All-contains (λ (pc : Place × Conn). leads_back pc.0 pc.1.to (connection t pc.1.to) ≡ true) (all_connections t) (p, c) (AllPass-from_list_all _ (all_connections t) is) (contains_in (all_connections t) (p, c) (all_listed t p c at)) in
+    λ p c at. All-contains (λ (pc : Place × Conn). leads_back pc.0 pc.1.to (connection t pc.1.to) ≡ true) (all_connections t) (p, c)
+    (AllPass-from_list_all _ (all_connections t) is) (contains_in (all_connections t) (p, c) (all_listed t p c at)) in
     record {
       back = λ p c at. (back_sound p c.to (connection t c.to) (tested p c at)).0;
       elsewhere = λ p c at. (back_sound p c.to (connection t c.to) (tested p c at)).1;
@@ -224,9 +233,13 @@ resolved_by_test t is =
     let f = and_parts (both_ways_test t) _ e.1 in
     record {
       few = ltb-true (length (elements t)) (2 ^ 32) b.0;
-      ids = All-weaker (λ (x : Element). id_test x.id ≡ true) (λ (x : Element). IsId x.id) (λ x. id_sound x.id) (elements t) (AllPass-from_list_all _ (elements t) c.0);
-      ids_differ = pairs_weaker _ (λ (x y : Element). x.id ≢ y.id) (elements t) (λ x y. not_from_Decides (bytes_eq x.id y.id) (bytes_eq-Decides x.id y.id)) (apart_sound (λ (x y : Element). bytes_eq x.id y.id) (elements t) d.0);
-      places_differ = pairs_weaker _ (λ (x y : Element). x.at ≢ y.at) (elements t) (λ x y. eqb-false x.at y.at) (apart_sound (λ (x y : Element). eqb x.at y.at) (elements t) e.0);
+      ids = All-weaker (λ (x : Element). id_test x.id ≡ true) (λ (x : Element). IsId x.id) (λ x. id_sound x.id) (elements t)
+          (AllPass-from_list_all _ (elements t) c.0);
+      ids_differ = pairs_weaker _ (λ (x y : Element). x.id ≢ y.id) (elements t) (λ x y. not_from_Decides (bytes_eq x.id y.id) (bytes_eq-Decides x.id y.id))
+          (apart_sound (λ (x y : Element). bytes_eq x.id y.id) (elements t) d.0);
+      places_differ = pairs_weaker _ (λ (x y : Element). x.at ≢ y.at) (elements t) (λ x y. eqb-false x.at y.at)
+          (apart_sound (λ (x y : Element). eqb x.at y.at) (elements t) e.0);
       joins = joins_sound t f.0;
-      miles = All-weaker (λ m. mile_test m ≡ true) IsMileage mile_sound (flat_map track_miles t.tracks) (AllPass-from_list_all mile_test (flat_map track_miles t.tracks) f.1);
+      miles = All-weaker (λ m. mile_test m ≡ true) IsMileage mile_sound (flat_map track_miles t.tracks)
+          (AllPass-from_list_all mile_test (flat_map track_miles t.tracks) f.1);
     }

@@ -1,5 +1,6 @@
 -- Both ends of a run are nodes at which it meets; and each edge that meets at a node is a run with an end there.
-use Rattle.std.proofs.Common.{◌≡◌, ◌≢◌, ℕ, zero, suc, ◌+◌, ◌<◌, Bool, true, false, not, ◌&&◌, min, length, get_or, Option, Some, None, refl, sym, ap, ◌∙◌, subst, inl, inr, arith}
+use Rattle.std.proofs.Common.{◌≡◌, ◌≢◌, ℕ, zero, suc, ◌+◌, ◌<◌, Bool, true, false, not, ◌&&◌, min, length, get_or, Option, Some, None, refl, sym, ap, ◌∙◌}
+use Rattle.std.proofs.Common.{subst, inl, inr, arith}
 use Rattle.std.specs.Prelude.{◌⊎◌, nat_lt, slice_get, unwrap_or}
 use Rattle.std.specs.Option.{option_map}
 use Rattle.std.proofs.lemmas.Bool.{false≢true, cases_lt, and_parts, ltb-true, lt-ltb, le-ltb, not-true}
@@ -21,9 +22,12 @@ use Rattle.port_graph.specs.Sites.{end_meeting, sites}
 use Rattle.port_graph.specs.Sides.{edges_met}
 use Rattle.port_graph.specs.TopologyGraph.{IsRun}
 use Rattle.port_graph.proofs.Membership.{In, contains_in, in_contains}
-use Rattle.port_graph.proofs.Places.{Where, at_end, at_inner, end_of, end_part, inner_part, end_place, inner_place, where_is, end_connection, inner_connection, end_spot_at, inner_spot_at, end_is_end, inner_is_no_end, connections_apart}
+use Rattle.port_graph.proofs.Places.{Where, at_end, at_inner, end_of, end_part, inner_part, end_place, inner_place, where_is, end_connection, inner_connection}
+use Rattle.port_graph.proofs.Places.{end_spot_at, inner_spot_at, end_is_end, inner_is_no_end, connections_apart}
 use Rattle.port_graph.proofs.RunLemmas.{spot_of_inner, spot_of_end, spot_cases, piece_at, piece_of, length-spots, join_from, IsJoin, join_of_list, join_there}
-use Rattle.port_graph.proofs.MeetingLemmas.{own, beyond_end, beyond_inner, last_is, Met, met_before, met_after, met_beyond, met_cases, before_met, after_met, connection_met, SiteOf, of_end, of_inner, site_of, node_beside_end, no_node_beside_inner, leads_own, leads_other, SiteWith, same_site_with, inner_with, leads_with}
+use Rattle.port_graph.proofs.MeetingLemmas.{own, beyond_end, beyond_inner, last_is, Met, met_before, met_after, met_beyond, met_cases, before_met, after_met}
+use Rattle.port_graph.proofs.MeetingLemmas.{connection_met, SiteOf, of_end, of_inner, site_of, node_beside_end, no_node_beside_inner, leads_own, leads_other}
+use Rattle.port_graph.proofs.MeetingLemmas.{SiteWith, same_site_with, inner_with, leads_with}
 
 -- ---- what begins a join
 
@@ -52,7 +56,8 @@ join_site_from t j join =
     (inner_with t join.k join.i join.track join.x (edge_beyond t join.c) join.here join.at_i
     (connection_met t (piece_number t join.k join.i) (piece_number t join.k (join.i + 1)) join.x.what join.m join.c join.at_m))
 
-join_to_inner : (t : Topology) (x : Inner) (c other : Conn) → begins_join t c ≡ true → connection t c.to ≡ Some other → connection t other.to ≡ Some c → is_track_end other.to.part ≡ false → Where t c.to other → SiteWith t (unwrap_or (spot_at t c.to) (inner_spot x)) (join_number t c.at)
+join_to_inner : (t : Topology) (x : Inner) (c other : Conn) → begins_join t c ≡ true → connection t c.to ≡ Some other → connection t other.to ≡ Some c →
+    is_track_end other.to.part ≡ false → Where t c.to other → SiteWith t (unwrap_or (spot_at t c.to) (inner_spot x)) (join_number t c.at)
 join_to_inner t x c other begins there back inner (at_end track2 last2 here2 on joined2) =
     absurd (false≢true (sym (begins_parts t c begins).0 ∙ ap is_track_end on ∙ end_is_end last2))
 join_to_inner t x c other begins there back inner (at_inner track2 i2 m2 x2 here2 at_i on at_m) =
@@ -81,7 +86,8 @@ join_site_to t resolved j join =
 next_number : (t : Topology) (k i : ℕ) → piece_number t k (i + 1) ≡ piece_number t k (suc i)
 next_number t k i = ap (piece_number t k) (omega arith)
 
-piece_site_from : (t : Topology) → IsResolved t → (r : Run) (k i : ℕ) (track : Track) → slice_get t.tracks k ≡ Some track → slice_get (spots_along t track) i ≡ Some r.from → slice_get (spots_along t track) (suc i) ≡ Some r.to → SiteWith t r.from (piece_number t k i)
+piece_site_from : (t : Topology) → IsResolved t → (r : Run) (k i : ℕ) (track : Track) → slice_get t.tracks k ≡ Some track →
+    slice_get (spots_along t track) i ≡ Some r.from → slice_get (spots_along t track) (suc i) ≡ Some r.to → SiteWith t r.from (piece_number t k i)
 piece_site_from t resolved r k zero track here from to =
     same_site_with t (leads_to t track.begin) r.from (piece_number t k 0) (piece_number t k 0) (same_Some (leads_to t track.begin) r.from from) refl
     (leads_with t resolved k track false here)
@@ -97,7 +103,8 @@ piece_site_from t resolved r k (suc i) track here from to =
           absurd (omega (arith, within, long, same))
     ]
 
-piece_site_to : (t : Topology) → IsResolved t → (r : Run) (k i : ℕ) (track : Track) → slice_get t.tracks k ≡ Some track → slice_get (spots_along t track) (suc i) ≡ Some r.to → SiteWith t r.to (piece_number t k i)
+piece_site_to : (t : Topology) → IsResolved t → (r : Run) (k i : ℕ) (track : Track) → slice_get t.tracks k ≡ Some track →
+    slice_get (spots_along t track) (suc i) ≡ Some r.to → SiteWith t r.to (piece_number t k i)
 piece_site_to t resolved r k i track here to =
     elim (spot_cases t track i r.to to) [
       | inl inner ↦
@@ -141,20 +148,23 @@ same_run_at t e e' spot spot' same same' r = record {
   ends = elim r.ends [ inl from ↦ inl (from ∙ same') | inr to ↦ inr (to ∙ same') ];
 }
 
-spot_there : (t : Topology) (track : Track) (i : ℕ) → i < length track.inner + 2 → slice_get (spots_along t track) i ≡ Some (get_or (spots_along t track) i (leads_to t track.begin))
+spot_there : (t : Topology) (track : Track) (i : ℕ) → i < length track.inner + 2 →
+    slice_get (spots_along t track) i ≡ Some (get_or (spots_along t track) i (leads_to t track.begin))
 spot_there t track i within =
     let long = length-spots t track in
     slice_get-get_or (spots_along t track) i (leads_to t track.begin) (omega (arith, long))
 
 -- the piece i of a track, by its two spots
-piece_from_at : (t : Topology) (k i : ℕ) (track : Track) (a : Spot) → slice_get t.tracks k ≡ Some track → slice_get (spots_along t track) i ≡ Some a → i < length track.inner + 1 → RunAt t (piece_number t k i) a
+piece_from_at : (t : Topology) (k i : ℕ) (track : Track) (a : Spot) → slice_get t.tracks k ≡ Some track → slice_get (spots_along t track) i ≡ Some a →
+    i < length track.inner + 1 → RunAt t (piece_number t k i) a
 piece_from_at t k i track a here from within = record {
   run = record { track = track.id; from = a; to = get_or (spots_along t track) (suc i) (leads_to t track.begin) };
   numbered = inl (piece_at t k i track a (get_or (spots_along t track) (suc i) (leads_to t track.begin)) here from (spot_there t track (suc i) (omega arith)));
   ends = inl refl;
 }
 
-piece_to_at : (t : Topology) (k i : ℕ) (track : Track) (b : Spot) → slice_get t.tracks k ≡ Some track → slice_get (spots_along t track) (suc i) ≡ Some b → i < length track.inner + 2 → RunAt t (piece_number t k i) b
+piece_to_at : (t : Topology) (k i : ℕ) (track : Track) (b : Spot) → slice_get t.tracks k ≡ Some track → slice_get (spots_along t track) (suc i) ≡ Some b →
+    i < length track.inner + 2 → RunAt t (piece_number t k i) b
 piece_to_at t k i track b here to within = record {
   run = record { track = track.id; from = get_or (spots_along t track) i (leads_to t track.begin); to = b };
   numbered = inl (piece_at t k i track (get_or (spots_along t track) i (leads_to t track.begin)) b here (spot_there t track i within) to);
@@ -168,7 +178,8 @@ end_run t k track true here =
     (piece_to_at t k (length track.inner) track (leads_to t track.end) here (spot_of_end t track) (omega arith))
 
 -- the edge beyond the connection of a track's end that has a node
-beside_end : (t : Topology) (k : ℕ) (track : Track) (last : Bool) (c other : Conn) → slice_get t.tracks k ≡ Some track → (end_of track last).joined ≡ Some c → has_node t (end_of track last) ≡ true → other.to ≡ end_place k last → Where t c.to other → RunAt t (edge_beyond t c) (end_spot (end_of track last))
+beside_end : (t : Topology) (k : ℕ) (track : Track) (last : Bool) (c other : Conn) → slice_get t.tracks k ≡ Some track → (end_of track last).joined ≡ Some c →
+    has_node t (end_of track last) ≡ true → other.to ≡ end_place k last → Where t c.to other → RunAt t (edge_beyond t c) (end_spot (end_of track last))
 beside_end t k track last c other here joined node back (at_inner track2 i m x here2 at_i on at_m) =
     absurd (false≢true (sym (no_node_beside_inner t (end_of track last) c joined (ap is_track_end on ∙ inner_is_no_end x.what i m)) ∙ node))
 beside_end t k track last c other here joined node back (at_end track2 last2 here2 on joined2) =
@@ -183,7 +194,9 @@ beside_end t k track last c other here joined node back (at_end track2 last2 her
     (end_run t c.to.track track2 last2 here2)
 
 -- the edge beyond a connection of a switch or crossing
-beside_inner : (t : Topology) → IsResolved t → (k i m : ℕ) (track : Track) (x : Inner) (c other : Conn) → slice_get t.tracks k ≡ Some track → slice_get track.inner i ≡ Some x → slice_get (connections x.what) m ≡ Some c → connection t c.to ≡ Some other → other.to ≡ inner_place k x.what i m → Where t c.to other → RunAt t (edge_beyond t c) (inner_spot x)
+beside_inner : (t : Topology) → IsResolved t → (k i m : ℕ) (track : Track) (x : Inner) (c other : Conn) → slice_get t.tracks k ≡ Some track →
+    slice_get track.inner i ≡ Some x → slice_get (connections x.what) m ≡ Some c → connection t c.to ≡ Some other → other.to ≡ inner_place k x.what i m →
+    Where t c.to other → RunAt t (edge_beyond t c) (inner_spot x)
 beside_inner t resolved k i m track x c other here at_i at_m there back (at_end track2 last2 here2 on joined2) =
     let e2 : TrackEnd = end_of track2 last2 in
     let here' : slice_get t.tracks other.to.track ≡ Some track = ap (λ (p : Place). slice_get t.tracks p.track) back ∙ here in
@@ -207,7 +220,13 @@ beside_inner t resolved k i m track x c other here at_i at_m there back (at_inne
           let first : c.at ≡ min c.at (joined_at t c) = omega arith in
           record {
             run = (join_from t x c).run;
-            numbered = inr (join_from t x c, contains_in (joins t) (join_from t x c) (join_there t k i m track x c here at_i at_m (begins_yes t c inner (omega arith))), ap (join_number t) first ∙ sym (beyond_inner t c inner), refl);
+            numbered = inr (
+              join_from t x c,
+              contains_in (joins t) (join_from t x c)
+                  (join_there t k i m track x c here at_i at_m (begins_yes t c inner (omega arith))),
+              ap (join_number t) first ∙ sym (beyond_inner t c inner),
+              refl,
+            );
             ends = inl refl;
           }
       | inr more ↦
@@ -215,33 +234,48 @@ beside_inner t resolved k i m track x c other here at_i at_m there back (at_inne
           let here' : slice_get t.tracks other.to.track ≡ Some track = ap (λ (q : Place). slice_get t.tracks q.track) back ∙ here in
           record {
             run = (join_from t x2 other).run;
-            numbered = inr (join_from t x2 other, contains_in (joins t) (join_from t x2 other) (join_there t c.to.track i2 m2 track2 x2 other here2 at_i2 at_m2 (begins_yes t other inner' (omega arith))), ap (join_number t) first ∙ sym (beyond_inner t c inner), refl);
-            ends = inr (ap (λ (o : Option Spot). unwrap_or o (inner_spot x2)) (inner_spot_at t other.to track i m x here' at_i (ap (λ (q : Place). q.part) back)));
+            numbered = inr (
+              join_from t x2 other,
+              contains_in (joins t) (join_from t x2 other)
+                  (join_there t c.to.track i2 m2 track2 x2 other here2 at_i2 at_m2 (begins_yes t other inner' (omega arith))),
+              ap (join_number t) first
+                  ∙ sym (beyond_inner t c inner),
+              refl,
+            );
+            ends = inr (ap (λ (o : Option Spot). unwrap_or o (inner_spot x2)) (inner_spot_at t other.to track i m x here' at_i
+                (ap (λ (q : Place). q.part) back)));
           }
     ]
 
-pub beyond_run : (t : Topology) → IsResolved t → (k i m : ℕ) (track : Track) (x : Inner) (c : Conn) → slice_get t.tracks k ≡ Some track → slice_get track.inner i ≡ Some x → slice_get (connections x.what) m ≡ Some c → RunAt t (edge_beyond t c) (inner_spot x)
+pub beyond_run : (t : Topology) → IsResolved t → (k i m : ℕ) (track : Track) (x : Inner) (c : Conn) → slice_get t.tracks k ≡ Some track →
+    slice_get track.inner i ≡ Some x → slice_get (connections x.what) m ≡ Some c → RunAt t (edge_beyond t c) (inner_spot x)
 beyond_run t resolved k i m track x c here at_i at_m =
     let p : Place = inner_place k x.what i m in
     let back = resolved.joins.back p c (inner_connection t k track i m x c here at_i at_m) in
     beside_inner t resolved k i m track x c back.0 here at_i at_m back.1 back.2 (where_is t c.to back.0 back.1)
 
-end_met : (t : Topology) → IsResolved t → (k : ℕ) (track : Track) (last : Bool) (e : ℕ) (o : Option Conn) → slice_get t.tracks k ≡ Some track → has_node t (end_of track last) ≡ true → (end_of track last).joined ≡ o → In e (edges_met (end_meeting t (own t k last) o)) → RunAt t e (end_spot (end_of track last))
+end_met : (t : Topology) → IsResolved t → (k : ℕ) (track : Track) (last : Bool) (e : ℕ) (o : Option Conn) → slice_get t.tracks k ≡ Some track →
+    has_node t (end_of track last) ≡ true → (end_of track last).joined ≡ o → In e (edges_met (end_meeting t (own t k last) o)) →
+    RunAt t e (end_spot (end_of track last))
 end_met t resolved k track last e None here node joined (inl is) =
-    same_run_at t (own t k last) e (leads_to t (end_of track last)) (end_spot (end_of track last)) is (leads_own t (end_of track last) node) (end_run t k track last here)
+    same_run_at t (own t k last) e (leads_to t (end_of track last)) (end_spot (end_of track last)) is (leads_own t (end_of track last) node)
+    (end_run t k track last here)
 end_met t resolved k track last e None here node joined (inr none) = absurd none
 end_met t resolved k track last e (Some c) here node joined (inl is) =
-    same_run_at t (own t k last) e (leads_to t (end_of track last)) (end_spot (end_of track last)) is (leads_own t (end_of track last) node) (end_run t k track last here)
+    same_run_at t (own t k last) e (leads_to t (end_of track last)) (end_spot (end_of track last)) is (leads_own t (end_of track last) node)
+    (end_run t k track last here)
 end_met t resolved k track last e (Some c) here node joined (inr (inl is)) =
     let back = resolved.joins.back (end_place k last) c (end_connection t k track last here ∙ joined) in
     same_run_at t (edge_beyond t c) e (end_spot (end_of track last)) (end_spot (end_of track last)) is refl
     (beside_end t k track last c back.0 here joined node back.2 (where_is t c.to back.0 back.1))
 end_met t resolved k track last e (Some c) here node joined (inr (inr none)) = absurd none
 
-inner_met : (t : Topology) → IsResolved t → (k i : ℕ) (track : Track) (x : Inner) (e : ℕ) → slice_get t.tracks k ≡ Some track → slice_get track.inner i ≡ Some x → Met t (piece_number t k i) (piece_number t k (i + 1)) x.what e → RunAt t e (inner_spot x)
+inner_met : (t : Topology) → IsResolved t → (k i : ℕ) (track : Track) (x : Inner) (e : ℕ) → slice_get t.tracks k ≡ Some track →
+    slice_get track.inner i ≡ Some x → Met t (piece_number t k i) (piece_number t k (i + 1)) x.what e → RunAt t e (inner_spot x)
 inner_met t resolved k i track x e here at_i (met_before is) =
     let within = slice_get_within track.inner i x at_i in
-    same_run_at t (piece_number t k i) e (inner_spot x) (inner_spot x) is refl (piece_to_at t k i track (inner_spot x) here (spot_of_inner t track i x at_i) (omega (arith, within)))
+    same_run_at t (piece_number t k i) e (inner_spot x) (inner_spot x) is refl (piece_to_at t k i track (inner_spot x) here (spot_of_inner t track i x at_i)
+    (omega (arith, within)))
 inner_met t resolved k i track x e here at_i (met_after is) =
     let within = slice_get_within track.inner i x at_i in
     same_run_at t (piece_number t k (suc i)) e (inner_spot x) (inner_spot x) (sym (next_number t k i) ∙ is) refl
@@ -255,7 +289,8 @@ run_at t resolved s e (of_end k track last here node is) met =
     (end_met t resolved k track last e (end_of track last).joined here node refl (subst (λ (s : Site). In e (edges_met s.meets)) (sym is) met))
 run_at t resolved s e (of_inner k i track x here at_i is) met =
     subst (λ (spot : Spot). RunAt t e spot) (ap (λ (s : Site). s.spot) is)
-    (inner_met t resolved k i track x e here at_i (met_cases t (piece_number t k i) (piece_number t k (i + 1)) x.what e (subst (λ (s : Site). In e (edges_met s.meets)) (sym is) met)))
+    (inner_met t resolved k i track x e here at_i (met_cases t (piece_number t k i) (piece_number t k (i + 1)) x.what e
+    (subst (λ (s : Site). In e (edges_met s.meets)) (sym is) met)))
 
 pub met_run : (t : Topology) → IsResolved t → (s : Site) (e : ℕ) → In s (sites t) → In e (edges_met s.meets) → RunAt t e s.spot
 met_run t resolved s e there met = run_at t resolved s e (site_of t s there) met

@@ -1,5 +1,6 @@
 -- The pieces and the joins of a topology, by their numbers.
-use Rattle.std.proofs.Common.{◌≡◌, ℕ, zero, suc, ◌+◌, ◌-◌, ◌<◌, Bool, true, false, cond, List, [], ◌∷◌, ◌++◌, length, map, take, Option, Some, refl, sym, ap, ◌∙◌, subst, inl, inr, arith}
+use Rattle.std.proofs.Common.{◌≡◌, ℕ, zero, suc, ◌+◌, ◌-◌, ◌<◌, Bool, true, false, cond, List, [], ◌∷◌, ◌++◌, length, map, take, Option, Some, refl, sym, ap}
+use Rattle.std.proofs.Common.{◌∙◌, subst, inl, inr, arith}
 use Rattle.std.specs.Prelude.{◌⊎◌, sum_by, slice_get, unwrap_or}
 use Rattle.std.specs.List.{flat_map}
 use Rattle.std.proofs.lemmas.Bool.{cases_lt}
@@ -15,7 +16,8 @@ use Rattle.port_graph.specs.declared.runs.Spot.{Spot}
 use Rattle.port_graph.specs.declared.runs.Run.{Run}
 use Rattle.port_graph.specs.declared.runs.Join.{Join}
 use Rattle.port_graph.specs.Spots.{inner_spot, spot_at, leads_to}
-use Rattle.port_graph.specs.Runs.{spots_along, runs_between, track_pieces, pieces_of_tracks, piece_count, piece_number, begins_join, begun_join, inner_joins, track_joins, joins}
+use Rattle.port_graph.specs.Runs.{spots_along, runs_between, track_pieces, pieces_of_tracks, piece_count, piece_number, begins_join, begun_join, inner_joins}
+use Rattle.port_graph.specs.Runs.{track_joins, joins}
 use Rattle.port_graph.proofs.Membership.{In, in_at, in_flat, flat_in}
 
 -- ---- lists of parts, by numbers
@@ -32,7 +34,8 @@ append_right (x ∷ xs) ys (suc n) i is = append_right xs ys n i (omega arith)
 
 module _ {X Y : Type 0} (f : X → List Y) (g : X → ℕ) (long : (x : X) → length (f x) ≡ g x) where
   -- the i-th element of the k-th part
-  pub flat_at : (xs : List X) (k i n : ℕ) (x : X) → slice_get xs k ≡ Some x → i < length (f x) → n ≡ sum_by g (take k xs) + i → slice_get (flat_map f xs) n ≡ slice_get (f x) i
+  pub flat_at : (xs : List X) (k i n : ℕ) (x : X) → slice_get xs k ≡ Some x → i < length (f x) → n ≡ sum_by g (take k xs) + i →
+  slice_get (flat_map f xs) n ≡ slice_get (f x) i
   flat_at [] k i n x here within is = absurd (none-some x here)
   flat_at (z ∷ zs) zero i n x here within is =
       let one : z ≡ x = same_Some z x here in
@@ -45,7 +48,8 @@ module _ {X Y : Type 0} (f : X → List Y) (g : X → ℕ) (long : (x : X) → l
       ∙ flat_at zs k i (sum_by g (take k zs) + i) x here within refl
 
   -- the part in which the n-th element stands, and where
-  pub at_flat : (xs : List X) (n : ℕ) (y : Y) → slice_get (flat_map f xs) n ≡ Some y → (k : ℕ) × (i : ℕ) × (x : X) × (slice_get xs k ≡ Some x) × (slice_get (f x) i ≡ Some y) × (n ≡ sum_by g (take k xs) + i)
+  pub at_flat : (xs : List X) (n : ℕ) (y : Y) → slice_get (flat_map f xs) n ≡ Some y →
+  (k : ℕ) × (i : ℕ) × (x : X) × (slice_get xs k ≡ Some x) × (slice_get (f x) i ≡ Some y) × (n ≡ sum_by g (take k xs) + i)
   at_flat [] n y is = absurd (none-some y is)
   at_flat (z ∷ zs) n y is =
       elim (cases_lt n (length (f z))) [
@@ -59,7 +63,8 @@ module _ {X Y : Type 0} (f : X → List Y) (g : X → ℕ) (long : (x : X) → l
       ]
 
 -- a number has one part and one place in it
-pub one_place : {X : Type 0} (g : X → ℕ) (xs : List X) (k k' i i' : ℕ) (x x' : X) → slice_get xs k ≡ Some x → slice_get xs k' ≡ Some x' → i < g x → i' < g x' → sum_by g (take k xs) + i ≡ sum_by g (take k' xs) + i' → (k ≡ k') × (i ≡ i')
+pub one_place : {X : Type 0} (g : X → ℕ) (xs : List X) (k k' i i' : ℕ) (x x' : X) → slice_get xs k ≡ Some x → slice_get xs k' ≡ Some x' → i < g x → i' < g x' →
+    sum_by g (take k xs) + i ≡ sum_by g (take k' xs) + i' → (k ≡ k') × (i ≡ i')
 one_place g [] k k' i i' x x' here here' within within' is = absurd (none-some x here)
 one_place g (z ∷ zs) zero zero i i' x x' here here' within within' is = (refl, omega arith)
 one_place g (z ∷ zs) zero (suc k') i i' x x' here here' within within' is =
@@ -79,7 +84,8 @@ one_place g (z ∷ zs) (suc k) (suc k') i i' x x' here here' within within' is =
 -- ---- runs between spots
 
 -- the run i goes from the spot i to the next
-pub runs_spots : (name : List ℕ) (spots : List Spot) (i : ℕ) (r : Run) → slice_get (runs_between name spots) i ≡ Some r → (slice_get spots i ≡ Some r.from) × (slice_get spots (suc i) ≡ Some r.to)
+pub runs_spots : (name : List ℕ) (spots : List Spot) (i : ℕ) (r : Run) → slice_get (runs_between name spots) i ≡ Some r →
+    (slice_get spots i ≡ Some r.from) × (slice_get spots (suc i) ≡ Some r.to)
 runs_spots name [] i r is = absurd (none-some r is)
 runs_spots name (a ∷ []) i r is = absurd (none-some r is)
 runs_spots name (a ∷ b ∷ rest) zero r is =
@@ -88,7 +94,8 @@ runs_spots name (a ∷ b ∷ rest) zero r is =
     (ap (λ (r : Run). Some r.from) same, ap (λ (r : Run). Some r.to) same)
 runs_spots name (a ∷ b ∷ rest) (suc i) r is = runs_spots name (b ∷ rest) i r is
 
-pub spots_run : (name : List ℕ) (spots : List Spot) (i : ℕ) (a b : Spot) → slice_get spots i ≡ Some a → slice_get spots (suc i) ≡ Some b → slice_get (runs_between name spots) i ≡ Some (record { track = name; from = a; to = b })
+pub spots_run : (name : List ℕ) (spots : List Spot) (i : ℕ) (a b : Spot) → slice_get spots i ≡ Some a → slice_get spots (suc i) ≡ Some b →
+    slice_get (runs_between name spots) i ≡ Some (record { track = name; from = a; to = b })
 spots_run name [] i a b is is' = absurd (none-some a is)
 spots_run name (c ∷ []) zero a b is is' = absurd (none-some b is')
 spots_run name (c ∷ []) (suc i) a b is is' = absurd (none-some a is)
@@ -119,7 +126,8 @@ length-pieces t = counts_from t t.tracks
 
 -- ---- the spots along a track
 
-pub spot_of_inner : (t : Topology) (track : Track) (i : ℕ) (x : Inner) → slice_get track.inner i ≡ Some x → slice_get (spots_along t track) (suc i) ≡ Some (inner_spot x)
+pub spot_of_inner : (t : Topology) (track : Track) (i : ℕ) (x : Inner) → slice_get track.inner i ≡ Some x →
+    slice_get (spots_along t track) (suc i) ≡ Some (inner_spot x)
 spot_of_inner t track i x is = mid track.inner i is
   where
     mid : (xs : List Inner) (i : ℕ) → slice_get xs i ≡ Some x → slice_get (map inner_spot xs ++ leads_to t track.end ∷ []) i ≡ Some (inner_spot x)
@@ -135,10 +143,12 @@ spot_of_end t track = last track.inner
     last (y ∷ ys) = last ys
 
 -- a spot after the first is that of a switch or crossing, or the last
-pub spot_cases : (t : Topology) (track : Track) (i : ℕ) (s : Spot) → slice_get (spots_along t track) (suc i) ≡ Some s → ((x : Inner) × (slice_get track.inner i ≡ Some x) × (inner_spot x ≡ s)) ⊎ ((i ≡ length track.inner) × (leads_to t track.end ≡ s))
+pub spot_cases : (t : Topology) (track : Track) (i : ℕ) (s : Spot) → slice_get (spots_along t track) (suc i) ≡ Some s →
+    ((x : Inner) × (slice_get track.inner i ≡ Some x) × (inner_spot x ≡ s)) ⊎ ((i ≡ length track.inner) × (leads_to t track.end ≡ s))
 spot_cases t track i s is = mid track.inner i is
   where
-    mid : (xs : List Inner) (i : ℕ) → slice_get (map inner_spot xs ++ leads_to t track.end ∷ []) i ≡ Some s → ((x : Inner) × (slice_get xs i ≡ Some x) × (inner_spot x ≡ s)) ⊎ ((i ≡ length xs) × (leads_to t track.end ≡ s))
+    mid : (xs : List Inner) (i : ℕ) → slice_get (map inner_spot xs ++ leads_to t track.end ∷ []) i ≡ Some s →
+    ((x : Inner) × (slice_get xs i ≡ Some x) × (inner_spot x ≡ s)) ⊎ ((i ≡ length xs) × (leads_to t track.end ≡ s))
     mid [] zero is = inr (refl, same_Some (leads_to t track.end) s is)
     mid [] (suc i) is = absurd (none-some s is)
     mid (y ∷ ys) zero is = inl (y, refl, same_Some (inner_spot y) s is)
@@ -146,10 +156,14 @@ spot_cases t track i s is = mid track.inner i is
 
 -- ---- pieces
 
-pub piece_at : (t : Topology) (k i : ℕ) (track : Track) (a b : Spot) → slice_get t.tracks k ≡ Some track → slice_get (spots_along t track) i ≡ Some a → slice_get (spots_along t track) (suc i) ≡ Some b → slice_get (pieces_of_tracks t) (piece_number t k i) ≡ Some (record { track = track.id; from = a; to = b })
+pub piece_at : (t : Topology) (k i : ℕ) (track : Track) (a b : Spot) → slice_get t.tracks k ≡ Some track → slice_get (spots_along t track) i ≡ Some a →
+    slice_get (spots_along t track) (suc i) ≡ Some b → slice_get (pieces_of_tracks t) (piece_number t k i) ≡ Some (record {
+    track = track.id; from = a; to = b
+    })
 piece_at t k i track a b here is is' =
     let run = spots_run track.id (spots_along t track) i a b is is' in
-    flat_at (track_pieces t) piece_count (length-track_pieces t) t.tracks k i (piece_number t k i) track here (slice_get_within (track_pieces t track) i (record { track = track.id; from = a; to = b }) run) refl ∙ run
+    flat_at (track_pieces t) piece_count (length-track_pieces t) t.tracks k i (piece_number t k i) track here
+    (slice_get_within (track_pieces t track) i (record { track = track.id; from = a; to = b }) run) refl ∙ run
 
 -- the run e is piece i of track k
 pub record IsPiece (t : Topology) (e : ℕ) (r : Run) : Type 0 where
@@ -207,7 +221,8 @@ join_of_list t j h =
     let e = begun (begins_join t d.1) j (join_from t b.1 d.1) d.3 in
     record { k = a.0; i = b.0; m = d.0; track = a.1; x = b.1; c = d.1; here = a.2; at_i = b.2; at_m = d.2; begins = e.0; is = e.1 }
 
-pub join_there : (t : Topology) (k i m : ℕ) (track : Track) (x : Inner) (c : Conn) → slice_get t.tracks k ≡ Some track → slice_get track.inner i ≡ Some x → slice_get (connections x.what) m ≡ Some c → begins_join t c ≡ true → In (join_from t x c) (joins t)
+pub join_there : (t : Topology) (k i m : ℕ) (track : Track) (x : Inner) (c : Conn) → slice_get t.tracks k ≡ Some track → slice_get track.inner i ≡ Some x →
+    slice_get (connections x.what) m ≡ Some c → begins_join t c ≡ true → In (join_from t x c) (joins t)
 join_there t k i m track x c here at_i at_m begins =
     in_flat (track_joins t) t.tracks track (join_from t x c) (in_at t.tracks k track here)
     (in_flat (inner_joins t) track.inner x (join_from t x c) (in_at track.inner i x at_i)

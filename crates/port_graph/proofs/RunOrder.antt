@@ -21,12 +21,15 @@ abbrev run_of : Join → Run
 run_of j = j.run
 
 -- the place of a join in order is its number after the pieces
-join_place : (t : Topology) (js : List Join) → IsResolved t → IsPermutation (joins t) js → IsNonDecreasingBy (λ (j : Join). j.at) js → (n : ℕ) (j : Join) → slice_get js n ≡ Some j → length (pieces_of_tracks t) + n ≡ join_number t j.at
+join_place : (t : Topology) (js : List Join) → IsResolved t → IsPermutation (joins t) js → IsNonDecreasingBy (λ (j : Join). j.at) js → (n : ℕ) (j : Join) →
+    slice_get js n ≡ Some j → length (pieces_of_tracks t) + n ≡ join_number t j.at
 join_place t js resolved moved up n j is =
-    let rank : count_by (λ (i : Join). nat_lt i.at j.at) (joins t) ≡ n = place_in_order (λ (i : Join). i.at) (joins t) js moved up (join_places_differ t resolved) n j is in
+    let rank : count_by (λ (i : Join). nat_lt i.at j.at) (joins t) ≡ n = place_in_order (λ (i : Join). i.at) (joins t) js moved up
+    (join_places_differ t resolved) n j is in
     omega (arith, rank, length-pieces t)
 
-each_at : (t : Topology) (js : List Join) → IsResolved t → IsPermutation (joins t) js → IsNonDecreasingBy (λ (j : Join). j.at) js → (e : ℕ) (r : Run) → IsRun t e r → slice_get (pieces_of_tracks t ++ map run_of js) e ≡ Some r
+each_at : (t : Topology) (js : List Join) → IsResolved t → IsPermutation (joins t) js → IsNonDecreasingBy (λ (j : Join). j.at) js → (e : ℕ) (r : Run) →
+    IsRun t e r → slice_get (pieces_of_tracks t ++ map run_of js) e ≡ Some r
 each_at t js resolved moved up e r (inl piece) = get_front (pieces_of_tracks t) (map run_of js) e r piece
 each_at t js resolved moved up e r (inr (j, there, number, run)) =
     let at = place_of js j (Contains-permutation (joins t) js j moved there) in
@@ -36,7 +39,8 @@ each_at t js resolved moved up e r (inr (j, there, number, run)) =
     ∙ place_map run_of js at.0 j at.1
     ∙ ap Some run
 
-only_at : (t : Topology) (js : List Join) → IsResolved t → IsPermutation (joins t) js → IsNonDecreasingBy (λ (j : Join). j.at) js → (e : ℕ) (r : Run) → slice_get (pieces_of_tracks t ++ map run_of js) e ≡ Some r → IsRun t e r
+only_at : (t : Topology) (js : List Join) → IsResolved t → IsPermutation (joins t) js → IsNonDecreasingBy (λ (j : Join). j.at) js → (e : ℕ) (r : Run) →
+    slice_get (pieces_of_tracks t ++ map run_of js) e ≡ Some r → IsRun t e r
 only_at t js resolved moved up e r is = elim (place_cases (pieces_of_tracks t) (map run_of js) e r is) [
   | inl piece ↦ inl piece
   | inr later ↦
@@ -50,7 +54,8 @@ only_at t js resolved moved up e r is = elim (place_cases (pieces_of_tracks t) (
       )
 ]
 
-pub runs_in_order : (t : Topology) (js : List Join) → IsResolved t → IsPermutation (joins t) js → IsNonDecreasingBy (λ (j : Join). j.at) js → AreRunsOf t (pieces_of_tracks t ++ map (λ (j : Join). j.run) js)
+pub runs_in_order : (t : Topology) (js : List Join) → IsResolved t → IsPermutation (joins t) js → IsNonDecreasingBy (λ (j : Join). j.at) js →
+    AreRunsOf t (pieces_of_tracks t ++ map (λ (j : Join). j.run) js)
 runs_in_order t js resolved moved up = record {
   count = omega (arith, length-append (pieces_of_tracks t) (map run_of js), length-map js run_of, length_permutation (joins t) js moved, length-pieces t);
   each = each_at t js resolved moved up;

@@ -31,35 +31,41 @@ between_named : (name : List ℕ) (from : Spot) (spots : List Spot) → IsId nam
 between_named name from [] is = All-nil (λ (r : Run). IsId r.track)
 between_named name from (to ∷ spots) is = All-cons (λ (r : Run). IsId r.track) _ _ is (between_named name to spots is)
 
-pieces_named : (t : Topology) (tracks : List Track) → All (λ (e : Element). IsId e.id) (flat_map track_elements tracks) → All (λ (r : Run). IsId r.track) (flat_map (track_pieces t) tracks)
+pieces_named : (t : Topology) (tracks : List Track) → All (λ (e : Element). IsId e.id) (flat_map track_elements tracks) →
+    All (λ (r : Run). IsId r.track) (flat_map (track_pieces t) tracks)
 pieces_named t [] all = All-nil (λ (r : Run). IsId r.track)
 pieces_named t (track ∷ tracks) all =
     let own = all_front (λ (e : Element). IsId e.id) (track_elements track) (flat_map track_elements tracks) all in
     let rest = all_back (λ (e : Element). IsId e.id) (track_elements track) (flat_map track_elements tracks) all in
     All-append (λ (r : Run). IsId r.track) (track_pieces t track) (flat_map (track_pieces t) tracks)
-    (between_named track.id _ _ (All-head (λ (e : Element). IsId e.id) (track_element track) (end_elements track.begin ++ (flat_map inner_elements track.inner ++ end_elements track.end)) own)) (pieces_named t tracks rest)
+    (between_named track.id _ _ (All-head (λ (e : Element). IsId e.id) (track_element track)
+    (end_elements track.begin ++ (flat_map inner_elements track.inner ++ end_elements track.end)) own)) (pieces_named t tracks rest)
 
 joins_named : (t : Topology) → IsResolved t → All (λ (j : Join). IsId j.run.track) (joins t)
 joins_named t resolved =
-    all_mapped (λ (e : Element). IsId e.id) join_element (joins t) (sublist-All (λ (e : Element). IsId e.id) (map join_element (joins t)) (elements t) (joins_from_file t) resolved.ids)
+    all_mapped (λ (e : Element). IsId e.id) join_element (joins t) (sublist-All (λ (e : Element). IsId e.id) (map join_element (joins t)) (elements t)
+    (joins_from_file t) resolved.ids)
 
 run_named : (t : Topology) → IsResolved t → (e : ℕ) (r : Run) → IsRun t e r → IsId r.track
 run_named t resolved e r (inl piece) =
-    subst (λ (q : Run). IsId q.track) (get_or_from_slice_get (pieces_of_tracks t) e r r piece) (pieces_named t t.tracks resolved.ids e r (slice_get_within (pieces_of_tracks t) e r piece))
+    subst (λ (q : Run). IsId q.track) (get_or_from_slice_get (pieces_of_tracks t) e r r piece)
+    (pieces_named t t.tracks resolved.ids e r (slice_get_within (pieces_of_tracks t) e r piece))
 run_named t resolved e r (inr (j, there, number, run)) =
     subst (λ (q : Run). IsId q.track) (ap (λ (i : Join). i.run) there.2 ∙ run) (joins_named t resolved there.0 j there.1)
 
 runs_named : (t : Topology) (runs : List Run) → IsResolved t → AreRunsOf t runs → All (λ (r : Run). IsId r.track) runs
 runs_named t runs resolved in_order i d within = run_named t resolved i (get_or runs i d) (in_order.only i (get_or runs i d) (slice_get-get_or runs i d within))
 
-edges_named : (t : Topology) (runs : List Run) (edges : List Edge) → IsResolved t → AreRunsOf t runs → edges ≡ map (edge_of t) runs → All (λ (e : Edge). IsId e.track) edges
+edges_named : (t : Topology) (runs : List Run) (edges : List Edge) → IsResolved t → AreRunsOf t runs → edges ≡ map (edge_of t) runs →
+    All (λ (e : Edge). IsId e.track) edges
 edges_named t runs edges resolved in_order is =
     subst (All (λ (e : Edge). IsId e.track)) (sym is) (All-map (λ (e : Edge). IsId e.track) (edge_of t) runs (runs_named t runs resolved in_order))
 
 -- Names and mileages of nodes.
 
 -- what holds of each site's node
-all_nodes : (P : Node → Type 0) (edges : List Edge) (ss : List Site) (nodes : List Node) → map Some nodes ≡ nodes_among edges ss → ((n : ℕ) (s : Site) (m : Node) → slice_get ss n ≡ Some s → Becomes edges n s m → P m) → All P nodes
+all_nodes : (P : Node → Type 0) (edges : List Edge) (ss : List Site) (nodes : List Node) → map Some nodes ≡ nodes_among edges ss →
+    ((n : ℕ) (s : Site) (m : Node) → slice_get ss n ≡ Some s → Becomes edges n s m → P m) → All P nodes
 all_nodes P edges ss nodes all each i d within =
     let there : i < length ss = let e = nodes_count edges ss nodes all in omega (arith, e) in
     let at = get_within ss i there in
@@ -68,11 +74,13 @@ all_nodes P edges ss nodes all each i d within =
 
 site_ids : (t : Topology) → IsResolved t → All (λ (s : Site). IsId s.id) (sites t)
 site_ids t resolved =
-    all_mapped (λ (e : Element). IsId e.id) site_element (sites t) (sublist-All (λ (e : Element). IsId e.id) (map site_element (sites t)) (elements t) (sites_from_file t) resolved.ids)
+    all_mapped (λ (e : Element). IsId e.id) site_element (sites t) (sublist-All (λ (e : Element). IsId e.id) (map site_element (sites t)) (elements t)
+    (sites_from_file t) resolved.ids)
 
 site_miles : (t : Topology) → IsResolved t → All (λ (s : Site). IsMileage s.spot.mile.0) (sites t)
 site_miles t resolved =
-    all_mapped IsMileage site_mile (sites t) (sublist-All IsMileage (map site_mile (sites t)) (flat_map track_miles t.tracks) (miles_from_file t) resolved.miles)
+    all_mapped IsMileage site_mile (sites t) (sublist-All IsMileage (map site_mile (sites t)) (flat_map track_miles t.tracks) (miles_from_file t)
+    resolved.miles)
 
 names_differ_apart : (t : Topology) → IsResolved t → AllPairs (λ (r s : Site). r.id ≢ s.id) (sites t)
 names_differ_apart t resolved =
@@ -92,7 +100,8 @@ one_name t resolved r s (i, within_i, is_r) (j, within_j, is_s) same =
       | inr (inr more) ↦ absurd (apart j i s more within_i (ap id is_s ∙ sym same ∙ sym (ap id at_r)))
     ]
 
-names_differ : (t : Topology) (ss : List Site) (edges : List Edge) (nodes : List Node) → IsResolved t → AreInOrder t ss → map Some nodes ≡ nodes_among edges ss → AllPairs (λ (m n : Node). m.name ≢ n.name) nodes
+names_differ : (t : Topology) (ss : List Site) (edges : List Edge) (nodes : List Node) → IsResolved t → AreInOrder t ss →
+    map Some nodes ≡ nodes_among edges ss → AllPairs (λ (m n : Node). m.name ≢ n.name) nodes
 names_differ t ss edges nodes resolved order all i j d less within same =
     let count = nodes_count edges ss nodes all in
     let at = get_within ss i (omega (arith, count)) in
@@ -108,7 +117,8 @@ names_differ t ss edges nodes resolved order all i j d less within same =
     omega arith
 
 -- a track graph that is made of a topology's runs and sites in order is that of a station
-pub is_station : (t : Topology) (runs : List Run) (ss : List Site) (g : Graph) → IsResolved t → HasFewNodes t → HasFewEdges t → AreRunsOf t runs → AreInOrder t ss → g.edges ≡ map (edge_of t) runs → map Some g.nodes ≡ nodes_among g.edges ss → IsTrackGraph g → IsStationGraph g
+pub is_station : (t : Topology) (runs : List Run) (ss : List Site) (g : Graph) → IsResolved t → HasFewNodes t → HasFewEdges t → AreRunsOf t runs →
+    AreInOrder t ss → g.edges ≡ map (edge_of t) runs → map Some g.nodes ≡ nodes_among g.edges ss → IsTrackGraph g → IsStationGraph g
 is_station t runs ss g resolved nodes edges in_order order made all track_graph = record {
   track_graph = track_graph;
   few_nodes = omega (arith, nodes_count g.edges ss g.nodes all, length_permutation (sites t) ss order.same, nodes);
@@ -118,5 +128,6 @@ is_station t runs ss g resolved nodes edges in_order order made all track_graph 
   names_differ = names_differ t ss g.edges g.nodes resolved order all;
   track_names = edges_named t runs g.edges resolved in_order made;
   mileages = all_nodes (λ (n : Node). IsMileage n.mileage) g.edges ss g.nodes all
-      (λ n s m at made. subst IsMileage (sym made.mileage) (All-contains (λ (r : Site). IsMileage r.spot.mile.0) (sites t) s (site_miles t resolved) (site_there t ss order n s at)));
+      (λ n s m at made. subst IsMileage (sym made.mileage) (All-contains (λ (r : Site). IsMileage r.spot.mile.0) (sites t) s (site_miles t resolved)
+      (site_there t ss order n s at)));
 }

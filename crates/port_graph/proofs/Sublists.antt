@@ -43,14 +43,16 @@ sublist-length xs (y ∷ ys) (inr (rest, is, p)) = let h = sublist-length rest y
 pub sublist-All : {A : Type 0} (P : A → Type 0) (xs ys : List A) → IsSublist xs ys → All P ys → All P xs
 sublist-All P xs [] p all = subst (All P) (sym p) (All-nil P)
 sublist-All P xs (y ∷ ys) (inl p) all = sublist-All P xs ys p (All-tail P y ys all)
-sublist-All P xs (y ∷ ys) (inr (rest, is, p)) all = subst (All P) (sym is) (All-cons P y rest (All-head P y ys all) (sublist-All P rest ys p (All-tail P y ys all)))
+sublist-All P xs (y ∷ ys) (inr (rest, is, p)) all = subst (All P) (sym is) (All-cons P y rest (All-head P y ys all)
+    (sublist-All P rest ys p (All-tail P y ys all)))
 
 -- what holds of each two elements holds of those
 pub sublist-AllPairs : {A : Type 0} (R : A → A → Type 0) (xs ys : List A) → IsSublist xs ys → AllPairs R ys → AllPairs R xs
 sublist-AllPairs R xs [] p pairs = λ i j d less within. absurd (let e = ap length p in omega (arith, e))
 sublist-AllPairs R xs (y ∷ ys) (inl p) pairs = sublist-AllPairs R xs ys p (pairs_tail R y ys pairs)
 sublist-AllPairs R xs (y ∷ ys) (inr (rest, is, p)) pairs =
-    subst (AllPairs R) (sym is) (AllPairs-cons R y rest (sublist-All (R y) rest ys p (pairs_head R y ys pairs)) (sublist-AllPairs R rest ys p (pairs_tail R y ys pairs)))
+    subst (AllPairs R) (sym is) (AllPairs-cons R y rest (sublist-All (R y) rest ys p (pairs_head R y ys pairs))
+    (sublist-AllPairs R rest ys p (pairs_tail R y ys pairs)))
 
 -- what holds of each two images holds of each two
 pub pairs_of_map : {X Y : Type 0} (R : Y → Y → Type 0) (f : X → Y) (xs : List X) → AllPairs R (map f xs) → AllPairs (λ (x y : X). R (f x) (f y)) xs

@@ -61,7 +61,8 @@ edge_is t edges e r are run = get_or_from_slice_get edges e (edge_of t r) no_edg
 
 pub west_cases : (r : Run) → ((west_of r ≡ r.from) × (east_of r ≡ r.to)) ⊎ ((west_of r ≡ r.to) × (east_of r ≡ r.from))
 west_cases r =
-    elim (int_lt r.from.mile.0 r.to.mile.0) as (λ b. ((cond b r.from r.to ≡ r.from) × (cond b r.to r.from ≡ r.to)) ⊎ ((cond b r.from r.to ≡ r.to) × (cond b r.to r.from ≡ r.from))) [
+    elim (int_lt r.from.mile.0 r.to.mile.0) as (λ b. ((cond b r.from r.to ≡ r.from) × (cond b r.to r.from ≡ r.to)) ⊎
+    ((cond b r.from r.to ≡ r.to) × (cond b r.to r.from ≡ r.from))) [
       | true ↦ inl (refl, refl)
       | false ↦ inr (refl, refl)
     ]
@@ -91,7 +92,8 @@ goes_east r forward =
     ] (int_ranks a b)
 
 -- the node at a spot is an end of an edge that has the spot at one of its ends
-pub end_at : (t : Topology) (edges : List Edge) (e : ℕ) (spot : Spot) → AreEdgesOf t edges → RunAt t e spot → ((get_or edges e no_edge).west ≡ node_number t spot.at) ⊎ ((get_or edges e no_edge).east ≡ node_number t spot.at)
+pub end_at : (t : Topology) (edges : List Edge) (e : ℕ) (spot : Spot) → AreEdgesOf t edges → RunAt t e spot →
+    ((get_or edges e no_edge).west ≡ node_number t spot.at) ⊎ ((get_or edges e no_edge).east ≡ node_number t spot.at)
 end_at t edges e spot are r =
     let is = edge_is t edges e r.run are r.numbered in
     let west : (get_or edges e no_edge).west ≡ node_number t (west_of r.run).at = ap (λ (x : Edge). x.west) is in
@@ -129,14 +131,17 @@ module _ (t : Topology) (g : Graph) (resolved : IsResolved t) (forward : AllForw
   with_port : (spot : Spot) (e : ℕ) → SiteWith t spot e → IsPortOf g (node_number t spot.at) e
   with_port spot e s =
       subst (λ (p : Spot). IsPortOf g (node_number t p.at) e) s.at
-      (is_port (side_at g.edges (node_number t s.site.spot.at)) s.site.meets (node g (node_number t s.site.spot.at)).ports e (node_of s.site s.there).ports (contains_in (edges_met s.site.meets) e s.met))
+      (is_port (side_at g.edges (node_number t s.site.spot.at)) s.site.meets (node g (node_number t s.site.spot.at)).ports e (node_of s.site s.there).ports
+      (contains_in (edges_met s.site.meets) e s.met))
 
   ports_of_site : (s : Site) → In s (sites t) → ArePortsOf g (node_number t s.spot.at) (node g (node_number t s.spot.at)).ports
   ports_of_site s there =
       are_ports g (node_number t s.spot.at) s.meets (node g (node_number t s.spot.at)).ports
-      (all_of (λ (e : ℕ). e < length g.edges) (edges_met s.meets) (λ e met. let r = met_run t resolved s e there met in edge_within t g.edges e r.run is.edges r.numbered))
+      (all_of (λ (e : ℕ). e < length g.edges) (edges_met s.meets) (λ e met. let r = met_run t resolved s e there met in edge_within t g.edges e r.run is.edges
+      r.numbered))
       (met_apart t resolved forward s there)
-      (all_of (λ (e : ℕ). IsEndOf g e (node_number t s.spot.at)) (edges_met s.meets) (λ e met. end_at t g.edges e s.spot is.edges (met_run t resolved s e there met)))
+      (all_of (λ (e : ℕ). IsEndOf g e (node_number t s.spot.at)) (edges_met s.meets)
+      (λ e met. end_at t g.edges e s.spot is.edges (met_run t resolved s e there met)))
       (node_of s there).ports
 
   pub track_graph : IsTrackGraph g
@@ -152,7 +157,8 @@ module _ (t : Topology) (g : Graph) (resolved : IsResolved t) (forward : AllForw
         let at_e = edge_is t g.edges e r.0 is.edges r.1 in
         let west = ap (mileage g) (ap (λ (x : Edge). x.west) at_e) ∙ with_mileage (west_of r.0) e (west_with t resolved e r.0 r.1) in
         let east = ap (mileage g) (ap (λ (x : Edge). x.east) at_e) ∙ with_mileage (east_of r.0) e (east_with t resolved e r.0 r.1) in
-        subst (λ (z : ℤ). z <ℤ mileage g (edge g e).east) (sym west) (subst (λ (z : ℤ). (west_of r.0).mile.0 <ℤ z) (sym east) (goes_east r.0 (forward e r.0 r.1)));
+        subst (λ (z : ℤ). z <ℤ mileage g (edge g e).east) (sym west) (subst (λ (z : ℤ). (west_of r.0).mile.0 <ℤ z) (sym east)
+        (goes_east r.0 (forward e r.0 r.1)));
     met = λ e within.
         let r = run_of e within in
         let at_e = edge_is t g.edges e r.0 is.edges r.1 in (

@@ -21,15 +21,20 @@ back_rises xs pairs i j d less within =
     let long : length (map neg_ℤ xs) ≡ length xs = length-map xs neg_ℤ in
     let within' : j < length xs = omega (arith, length-reverse (map neg_ℤ xs)) in
     let first : get_or (reverse (map neg_ℤ xs)) i d ≡ neg_ℤ (get_or xs (length xs - 1 - i) d) =
-    get_or-reverse (map neg_ℤ xs) i d (omega arith) ∙ ap (λ (n : ℕ). get_or (map neg_ℤ xs) (n - 1 - i) d) long ∙ get_or-map neg_ℤ xs (length xs - 1 - i) d d (omega arith) in
+    get_or-reverse (map neg_ℤ xs) i d (omega arith) ∙ ap (λ (n : ℕ). get_or (map neg_ℤ xs) (n - 1 - i) d) long
+    ∙ get_or-map neg_ℤ xs (length xs - 1 - i) d d (omega arith) in
     let second : get_or (reverse (map neg_ℤ xs)) j d ≡ neg_ℤ (get_or xs (length xs - 1 - j) d) =
-    get_or-reverse (map neg_ℤ xs) j d (omega arith) ∙ ap (λ (n : ℕ). get_or (map neg_ℤ xs) (n - 1 - j) d) long ∙ get_or-map neg_ℤ xs (length xs - 1 - j) d d (omega arith) in
-    let below : get_or xs (length xs - 1 - j) d <ℤ get_or xs (length xs - 1 - i) d = pairs (length xs - 1 - j) (length xs - 1 - i) d (omega arith) (omega arith) in
+    get_or-reverse (map neg_ℤ xs) j d (omega arith) ∙ ap (λ (n : ℕ). get_or (map neg_ℤ xs) (n - 1 - j) d) long
+    ∙ get_or-map neg_ℤ xs (length xs - 1 - j) d d (omega arith) in
+    let below : get_or xs (length xs - 1 - j) d <ℤ get_or xs (length xs - 1 - i) d = pairs (length xs - 1 - j) (length xs - 1 - i) d (omega arith)
+    (omega arith) in
     subst (λ (z : ℤ). z <ℤ get_or (reverse (map neg_ℤ xs)) j d) (sym first)
-    (subst (λ (z : ℤ). neg_ℤ (get_or xs (length xs - 1 - i) d) <ℤ z) (sym second) (neg_less (get_or xs (length xs - 1 - j) d) (get_or xs (length xs - 1 - i) d) below))
+    (subst (λ (z : ℤ). neg_ℤ (get_or xs (length xs - 1 - i) d) <ℤ z) (sym second)
+    (neg_less (get_or xs (length xs - 1 - j) d) (get_or xs (length xs - 1 - i) d) below))
 
 same_test : (a b c d : ℤ) → (a ≡ b → c ≡ d) → (c ≡ d → a ≡ b) → int_eq a b ≡ int_eq c d
-same_test a b c d f g = same_when (int_eq a b) (int_eq c d) (λ e. (Decides-int_eq c d).1 (f ((Decides-int_eq a b).0 e))) (λ e. (Decides-int_eq a b).1 (g ((Decides-int_eq c d).0 e)))
+same_test a b c d f g = same_when (int_eq a b) (int_eq c d) (λ e. (Decides-int_eq c d).1 (f ((Decides-int_eq a b).0 e)))
+    (λ e. (Decides-int_eq a b).1 (g ((Decides-int_eq c d).0 e)))
 
 is_in-negated : (q : ℤ) (xs : List ℤ) → is_in q (map neg_ℤ xs) ≡ is_in (neg_ℤ q) xs
 is_in-negated q [] = refl
@@ -53,7 +58,8 @@ pub columns_of-turned : (g : Graph) → columns_of (turned_graph g) ≡ reverse 
 unfolding columns_of
 columns_of-turned g = ap rising (mileages-turned g.nodes) ∙ rising-negated (mileages g)
 
-pub opposite_column : (g : Graph) (n i : ℕ) → n < length g.nodes → slice_get (columns_of g) i ≡ Some (mileage g n) → slice_get (columns_of (turned_graph g)) (length (columns_of g) - 1 - i) ≡ Some (mileage (turned_graph g) n)
+pub opposite_column : (g : Graph) (n i : ℕ) → n < length g.nodes → slice_get (columns_of g) i ≡ Some (mileage g n) →
+    slice_get (columns_of (turned_graph g)) (length (columns_of g) - 1 - i) ≡ Some (mileage (turned_graph g) n)
 opposite_column g n i within is =
     let cs : List ℤ = columns_of g in
     let d : ℤ = mileage g n in

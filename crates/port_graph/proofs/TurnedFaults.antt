@@ -21,7 +21,8 @@ use Rattle.port_graph.specs.Turned.{turned_topology, turned_ports, turned_edge, 
 use Rattle.port_graph.proofs.Membership.{in_contains}
 use Rattle.port_graph.proofs.TurnedGraph.{site_twice, contains_back, IsRun-turned, AreEdgesOf-turned}
 use Rattle.port_graph.proofs.TurnedNodes.{site_ports-turned}
-use Rattle.port_graph.proofs.TurnedTopology.{turned_run, turned_join, turned_site, pieces-turned, joins-turned, join_number-turned, edge_count-turned, sites-turned, node_number-turned}
+use Rattle.port_graph.proofs.TurnedTopology.{turned_run, turned_join, turned_site, pieces-turned, joins-turned, join_number-turned, edge_count-turned}
+use Rattle.port_graph.proofs.TurnedTopology.{sites-turned, node_number-turned}
 
 length-sites : (t : Topology) → length (sites (turned_topology t)) ≡ length (sites t)
 length-sites t = ap (λ (l : List Site). length l) (sites-turned t) ∙ length-map (sites t) turned_site
@@ -31,7 +32,13 @@ IsRun-forth : (t : Topology) (e : ℕ) (r : Run) → IsRun t e r → IsRun (turn
 IsRun-forth t e r (inl piece) =
     inl (ap (λ (l : List Run). slice_get l e) (pieces-turned t) ∙ slice_get-map turned_run (pieces_of_tracks t) e ∙ ap (option_map turned_run) piece)
 IsRun-forth t e r (inr join) =
-    inr (turned_join join.0, subst (λ (l : List Join). Contains l (turned_join join.0)) (sym (joins-turned t)) (Contains-map turned_join (joins t) join.0 join.1), join_number-turned t join.0.at ∙ join.2, ap turned_run join.3)
+    inr (
+      turned_join join.0,
+      subst (λ (l : List Join). Contains l (turned_join join.0)) (sym (joins-turned t))
+          (Contains-map turned_join (joins t) join.0 join.1),
+      join_number-turned t join.0.at ∙ join.2,
+      ap turned_run join.3,
+    )
 
 forward-turned : (r : Run) → IsForward (turned_run r) → IsForward r
 forward-turned r forward same = forward (ap neg_ℤ same)
@@ -39,7 +46,8 @@ forward-turned r forward same = forward (ap neg_ℤ same)
 pub AllForward-turned : (t : Topology) → AllForward t → AllForward (turned_topology t)
 AllForward-turned t forward e r run = forward-turned r (forward e (turned_run r) (IsRun-turned t e r run))
 
-IsFirstLevel-turned : (t : Topology) (e : ℕ) (track : List ℕ) (mileage : ℤ) → IsFirstLevel t e track mileage → IsFirstLevel (turned_topology t) e track (neg_ℤ mileage)
+IsFirstLevel-turned : (t : Topology) (e : ℕ) (track : List ℕ) (mileage : ℤ) → IsFirstLevel t e track mileage →
+    IsFirstLevel (turned_topology t) e track (neg_ℤ mileage)
 IsFirstLevel-turned t e track mileage is = record {
   run = turned_run is.run;
   numbered = IsRun-forth t e is.run is.numbered;
@@ -53,7 +61,8 @@ pub some_map : {X Y : Type 0} (f : X → Y) (o : Option X) → IsSome o → IsSo
 some_map f None is = is
 some_map f (Some x) is = refl
 
-IsFirstMismatch-turned : (t : Topology) (n : ℕ) (name : List ℕ) → IsResolved t → AllForward t → IsFirstMismatch t n name → IsFirstMismatch (turned_topology t) n name
+IsFirstMismatch-turned : (t : Topology) (n : ℕ) (name : List ℕ) → IsResolved t → AllForward t → IsFirstMismatch t n name →
+    IsFirstMismatch (turned_topology t) n name
 IsFirstMismatch-turned t n name resolved forward is =
     let number : n ≡ node_number t is.site.spot.at = sym is.numbered in
     record {
@@ -79,8 +88,16 @@ pub IsGraphFault-turned : (t : Topology) (fault : GraphFault) → IsResolved t �
 IsGraphFault-turned t (TooManyNodes n) resolved is = (is.0 ∙ sym (length-sites t), is.1)
 IsGraphFault-turned t (TooManyEdges n) resolved is =
     (subst (λ (k : ℕ). k ≤ MAX_NODES) (sym (length-sites t)) is.0, is.1 ∙ sym (edge_count-turned t), is.2)
-IsGraphFault-turned t (NotForward e track mileage) resolved is =
-    (subst (λ (k : ℕ). k ≤ MAX_NODES) (sym (length-sites t)) is.0, subst (λ (k : ℕ). k ≤ MAX_EDGES) (sym (edge_count-turned t)) is.1, IsFirstLevel-turned t e.0 track mileage.0 is.2)
-IsGraphFault-turned t (SideMismatch n name) resolved is =
-    (subst (λ (k : ℕ). k ≤ MAX_NODES) (sym (length-sites t)) is.0, subst (λ (k : ℕ). k ≤ MAX_EDGES) (sym (edge_count-turned t)) is.1, AllForward-turned t is.2, IsFirstMismatch-turned t n.0 name resolved is.2 is.3)
+IsGraphFault-turned t (NotForward e track mileage) resolved is = (
+  subst (λ (k : ℕ). k ≤ MAX_NODES) (sym (length-sites t)) is.0,
+  subst (λ (k : ℕ). k ≤ MAX_EDGES) (sym (edge_count-turned t)) is.1,
+  IsFirstLevel-turned t e.0
+      track mileage.0 is.2,
+)
+IsGraphFault-turned t (SideMismatch n name) resolved is = (
+  subst (λ (k : ℕ). k ≤ MAX_NODES) (sym (length-sites t)) is.0,
+  subst (λ (k : ℕ). k ≤ MAX_EDGES) (sym (edge_count-turned t)) is.1,
+  AllForward-turned t is.2,
+  IsFirstMismatch-turned t n.0 name resolved is.2 is.3,
+)
 IsGraphFault-turned t Memory resolved is = is

@@ -1,5 +1,6 @@
 -- The track graph of a station seen from its other end.
-use Rattle.std.proofs.Common.{◌≡◌, ◌≢◌, ℕ, ◌<◌, ℤ, Bool, true, false, cond, eqb, eq-eqb, List, length, map, get_or, Option, Some, None, refl, sym, ap, ◌∙◌, subst, inl, inr, arith}
+use Rattle.std.proofs.Common.{◌≡◌, ◌≢◌, ℕ, ◌<◌, ℤ, Bool, true, false, cond, eqb, eq-eqb, List, length, map, get_or, Option, Some, None, refl, sym, ap, ◌∙◌}
+use Rattle.std.proofs.Common.{subst, inl, inr, arith}
 use Rattle.std.specs.Prelude.{◌⊎◌, ◌<ℤ◌, int_lt, neg_ℤ, slice_get, All, Contains}
 use Rattle.std.specs.Option.{option_map}
 use Rattle.std.specs.Ordering.{int_cmp, MatchOrdering}
@@ -29,7 +30,8 @@ use Rattle.port_graph.specs.Sides.{edges_met}
 use Rattle.port_graph.specs.TopologyGraph.{west_of, east_of, edge_of, IsRun, AreEdgesOf, side_at, IsForward, AllForward}
 use Rattle.port_graph.specs.Turned.{turned_mile, turned_topology, turned_ports, turned_edge}
 use Rattle.port_graph.proofs.MileLemmas.{less_true, less_false, neg_less}
-use Rattle.port_graph.proofs.TurnedTopology.{turned_spot, turned_run, turned_join, turned_site, pieces-turned, joins-turned, join_number-turned, edge_count-turned, node_number-turned}
+use Rattle.port_graph.proofs.TurnedTopology.{turned_spot, turned_run, turned_join, turned_site, pieces-turned, joins-turned, join_number-turned}
+use Rattle.port_graph.proofs.TurnedTopology.{edge_count-turned, node_number-turned}
 
 -- ---- turned twice, a thing is as it was
 
@@ -80,7 +82,8 @@ pub west_of-turned : (r : Run) → IsForward r → west_of (turned_run r) ≡ tu
 west_of-turned r forward =
     let a : ℤ = r.from.mile.0 in
     let b : ℤ = r.to.mile.0 in
-    elim (int_cmp a b) as (λ o. MatchOrdering o (a <ℤ b) (a ≡ b) (b <ℤ a) → cond (int_lt (neg_ℤ a) (neg_ℤ b)) (turned_spot r.from) (turned_spot r.to) ≡ turned_spot (cond (int_lt a b) r.to r.from)) [
+    elim (int_cmp a b) as (λ o. MatchOrdering o (a <ℤ b) (a ≡ b) (b <ℤ a) → cond (int_lt (neg_ℤ a) (neg_ℤ b)) (turned_spot r.from) (turned_spot r.to)
+    ≡ turned_spot (cond (int_lt a b) r.to r.from)) [
       | Less ↦ λ less.
           ap (λ (t : Bool). cond t (turned_spot r.from) (turned_spot r.to)) (less_false (neg_ℤ b) (neg_ℤ a) (neg_less a b less))
           ∙ sym (ap (λ (t : Bool). turned_spot (cond t r.to r.from)) (less_true a b less))
@@ -94,7 +97,8 @@ pub east_of-turned : (r : Run) → IsForward r → east_of (turned_run r) ≡ tu
 east_of-turned r forward =
     let a : ℤ = r.from.mile.0 in
     let b : ℤ = r.to.mile.0 in
-    elim (int_cmp a b) as (λ o. MatchOrdering o (a <ℤ b) (a ≡ b) (b <ℤ a) → cond (int_lt (neg_ℤ a) (neg_ℤ b)) (turned_spot r.to) (turned_spot r.from) ≡ turned_spot (cond (int_lt a b) r.from r.to)) [
+    elim (int_cmp a b) as (λ o. MatchOrdering o (a <ℤ b) (a ≡ b) (b <ℤ a) → cond (int_lt (neg_ℤ a) (neg_ℤ b)) (turned_spot r.to) (turned_spot r.from)
+    ≡ turned_spot (cond (int_lt a b) r.from r.to)) [
       | Less ↦ λ less.
           ap (λ (t : Bool). cond t (turned_spot r.to) (turned_spot r.from)) (less_false (neg_ℤ b) (neg_ℤ a) (neg_less a b less))
           ∙ sym (ap (λ (t : Bool). turned_spot (cond t r.from r.to)) (less_true a b less))
@@ -141,7 +145,8 @@ joint-turned first other East West = refl
 joint-turned first other West West = refl
 joint-turned first other East East = refl
 
-switch-turned : (hand : Hand) (t s d : ℕ) (a b c : Compass) → switch_ports hand t s d (opposite a) (opposite b) (opposite c) ≡ option_map turned_ports (switch_ports hand t s d a b c)
+switch-turned : (hand : Hand) (t s d : ℕ) (a b c : Compass) → switch_ports hand t s d (opposite a) (opposite b) (opposite c) ≡ option_map turned_ports
+    (switch_ports hand t s d a b c)
 switch-turned Left t s d West East East = refl
 switch-turned Right t s d West East East = refl
 switch-turned Left t s d East West West = refl
@@ -153,7 +158,8 @@ switch-turned hand t s d East East East = refl
 switch-turned hand t s d East East West = refl
 switch-turned hand t s d East West East = refl
 
-crossing-turned : (hand : Hand) (b a i o : ℕ) (p q r s : Compass) → crossing_ports hand b a i o (opposite p) (opposite q) (opposite r) (opposite s) ≡ option_map turned_ports (crossing_ports hand b a i o p q r s)
+crossing-turned : (hand : Hand) (b a i o : ℕ) (p q r s : Compass) →
+    crossing_ports hand b a i o (opposite p) (opposite q) (opposite r) (opposite s) ≡ option_map turned_ports (crossing_ports hand b a i o p q r s)
 crossing-turned Left b a i o West East West East = refl
 crossing-turned Right b a i o West East West East = refl
 crossing-turned Left b a i o East West East West = refl
@@ -165,7 +171,8 @@ crossing-turned hand b a i o West East East s = refl
 crossing-turned hand b a i o East West East East = refl
 crossing-turned hand b a i o East West West s = refl
 
-switch_flips : (hand : Hand) (t s d : ℕ) (side side' : ℕ → Compass) → side' t ≡ opposite (side t) → side' s ≡ opposite (side s) → side' d ≡ opposite (side d) → switch_ports hand t s d (side' t) (side' s) (side' d) ≡ option_map turned_ports (switch_ports hand t s d (side t) (side s) (side d))
+switch_flips : (hand : Hand) (t s d : ℕ) (side side' : ℕ → Compass) → side' t ≡ opposite (side t) → side' s ≡ opposite (side s) → side' d ≡ opposite (side d) →
+    switch_ports hand t s d (side' t) (side' s) (side' d) ≡ option_map turned_ports (switch_ports hand t s d (side t) (side s) (side d))
 switch_flips hand t s d side side' p q r =
     ap (λ (c : Compass). switch_ports hand t s d c (side' s) (side' d)) p
     ∙ ap (λ (c : Compass). switch_ports hand t s d (opposite (side t)) c (side' d)) q
@@ -173,7 +180,8 @@ switch_flips hand t s d side side' p q r =
     ∙ switch-turned hand t s d (side t) (side s) (side d)
 
 -- where each edge that meets lies on the opposite side, the ports are the turned ones, if there are any
-pub ports_of-turned : (side side' : ℕ → Compass) (meets : Meeting) → All (λ (e : ℕ). side' e ≡ opposite (side e)) (edges_met meets) → ports_of side' meets ≡ option_map turned_ports (ports_of side meets)
+pub ports_of-turned : (side side' : ℕ → Compass) (meets : Meeting) → All (λ (e : ℕ). side' e ≡ opposite (side e)) (edges_met meets) →
+    ports_of side' meets ≡ option_map turned_ports (ports_of side meets)
 ports_of-turned side side' (meeting.End e) flips = ap (λ (c : Compass). Some (End e.0 c)) (flips 0 0 (omega arith))
 ports_of-turned side side' (meeting.Joint first other) flips =
     ap (λ (c : Compass). joint_ports first.0 other.0 c (side' other.0)) (flips 0 0 (omega arith))
@@ -188,14 +196,19 @@ ports_of-turned side side' (meeting.Switch false hand true before after branch) 
 ports_of-turned side side' (meeting.Switch false hand false before after branch) flips =
     switch_flips hand after.0 before.0 branch.0 side side' (flips 1 0 (omega arith)) (flips 0 0 (omega arith)) (flips 2 0 (omega arith))
 ports_of-turned side side' (meeting.Crossing hand before after incoming outgoing) flips =
-    ap (λ (c : Compass). crossing_ports hand before.0 after.0 incoming.0 outgoing.0 c (side' after.0) (side' incoming.0) (side' outgoing.0)) (flips 0 0 (omega arith))
-    ∙ ap (λ (c : Compass). crossing_ports hand before.0 after.0 incoming.0 outgoing.0 (opposite (side before.0)) c (side' incoming.0) (side' outgoing.0)) (flips 1 0 (omega arith))
-    ∙ ap (λ (c : Compass). crossing_ports hand before.0 after.0 incoming.0 outgoing.0 (opposite (side before.0)) (opposite (side after.0)) c (side' outgoing.0)) (flips 2 0 (omega arith))
-    ∙ ap (λ (c : Compass). crossing_ports hand before.0 after.0 incoming.0 outgoing.0 (opposite (side before.0)) (opposite (side after.0)) (opposite (side incoming.0)) c) (flips 3 0 (omega arith))
+    ap (λ (c : Compass). crossing_ports hand before.0 after.0 incoming.0 outgoing.0 c (side' after.0) (side' incoming.0) (side' outgoing.0))
+    (flips 0 0 (omega arith))
+    ∙ ap (λ (c : Compass). crossing_ports hand before.0 after.0 incoming.0 outgoing.0 (opposite (side before.0)) c (side' incoming.0) (side' outgoing.0))
+    (flips 1 0 (omega arith))
+    ∙ ap (λ (c : Compass). crossing_ports hand before.0 after.0 incoming.0 outgoing.0 (opposite (side before.0)) (opposite (side after.0)) c (side' outgoing.0))
+    (flips 2 0 (omega arith))
+    ∙ ap (λ (c : Compass). crossing_ports hand before.0 after.0 incoming.0 outgoing.0 (opposite (side before.0)) (opposite (side after.0))
+    (opposite (side incoming.0)) c) (flips 3 0 (omega arith))
     ∙ crossing-turned hand before.0 after.0 incoming.0 outgoing.0 (side before.0) (side after.0) (side incoming.0) (side outgoing.0)
 
 -- the side of an edge that has the node at one end, and another node at the other
-pub side-turned : (edges : List Edge) (n e : ℕ) → e < length edges → ((get_or edges e no_edge).west ≡ n) ⊎ ((get_or edges e no_edge).east ≡ n) → (get_or edges e no_edge).west ≢ (get_or edges e no_edge).east → side_at (map turned_edge edges) n e ≡ opposite (side_at edges n e)
+pub side-turned : (edges : List Edge) (n e : ℕ) → e < length edges → ((get_or edges e no_edge).west ≡ n) ⊎ ((get_or edges e no_edge).east ≡ n) →
+    (get_or edges e no_edge).west ≢ (get_or edges e no_edge).east → side_at (map turned_edge edges) n e ≡ opposite (side_at edges n e)
 side-turned edges n e within ends differ =
     let x : Edge = get_or edges e no_edge in
     ap (λ (y : Edge). cond (eqb y.west n) East West) (get_or-map turned_edge edges e no_edge no_edge within)

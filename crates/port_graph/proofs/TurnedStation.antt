@@ -13,8 +13,10 @@ use Rattle.plan_core.specs.declared.limits.TheConstants.{MAX_NODES, MAX_EDGES}
 use Rattle.plan_core.specs.declared.topology.Topology.{Topology}
 use Rattle.plan_core.specs.declared.topology.Track.{Track}
 use Rattle.plan_core.specs.declared.topology.Inner.{Inner}
-use Rattle.plan_core.specs.Graph.{Graph, Node, Edge, Ports, End, Joint, Switch, Crossing, node, edge, no_edge, mileage, edges_of, opposite, LiesOn, AreAt, IsPortOf, ArePortsOf, IsTrackGraph}
-use Rattle.plan_core.specs.Topology.{Element, elements, track_elements, inner_elements, end_elements, track_element, track_miles, IsMileage, farthest, IsId, IsResolved}
+use Rattle.plan_core.specs.Graph.{Graph, Node, Edge, Ports, End, Joint, Switch, Crossing, node, edge, no_edge, mileage, edges_of, opposite, LiesOn, AreAt}
+use Rattle.plan_core.specs.Graph.{IsPortOf, ArePortsOf, IsTrackGraph}
+use Rattle.plan_core.specs.Topology.{Element, elements, track_elements, inner_elements, end_elements, track_element, track_miles, IsMileage, farthest, IsId}
+use Rattle.plan_core.specs.Topology.{IsResolved}
 use Rattle.port_graph.specs.StationGraph.{IsStationGraph}
 use Rattle.port_graph.specs.Turned.{turned_inner, turned_track, turned_topology, turned_ports, turned_node, turned_edge, turned_graph}
 use Rattle.port_graph.proofs.PortLemmas.{apart_moved}
@@ -28,7 +30,8 @@ use Rattle.port_graph.proofs.TurnedTopology.{connection-turned}
 elements-turned : (t : Topology) → elements (turned_topology t) ≡ elements t
 elements-turned t =
     flat_alike turned_track track_elements track_elements
-    (λ track. ap (λ (l : List Element). track_element track ∷ (end_elements track.begin ++ (l ++ end_elements track.end))) (flat_alike turned_inner inner_elements inner_elements (λ x. refl) track.inner))
+    (λ track. ap (λ (l : List Element). track_element track ∷ (end_elements track.begin ++ (l ++ end_elements track.end)))
+    (flat_alike turned_inner inner_elements inner_elements (λ x. refl) track.inner))
     t.tracks
 
 track_miles-turned : (track : Track) → track_miles (turned_track track) ≡ map neg_ℤ (track_miles track)
@@ -54,7 +57,8 @@ IsResolved-turned t resolved = record {
   };
   miles =
       subst (λ (l : List ℤ). All IsMileage l) (sym (flat_turned turned_track track_miles neg_ℤ track_miles track_miles-turned t.tracks))
-      (All-map IsMileage neg_ℤ (flat_map track_miles t.tracks) (All-weaker IsMileage (λ (m : ℤ). IsMileage (neg_ℤ m)) IsMileage-negated (flat_map track_miles t.tracks) resolved.miles));
+      (All-map IsMileage neg_ℤ (flat_map track_miles t.tracks) (All-weaker IsMileage (λ (m : ℤ). IsMileage (neg_ℤ m)) IsMileage-negated
+      (flat_map track_miles t.tracks) resolved.miles));
 }
 
 -- ---- graphs
@@ -63,7 +67,11 @@ ports_moved : (p : Ports) → IsPermutation (edges_of p) (edges_of (turned_ports
 ports_moved (End e side) = IsPermutation-refl (e ∷ [])
 ports_moved (Joint west east) = record { moves = (0, 1) ∷ []; below = (omega arith, omega arith, tt); is = refl }
 ports_moved (Switch legs branch trunk straight diverging) = IsPermutation-refl (trunk ∷ straight ∷ diverging ∷ [])
-ports_moved (Crossing west_upper west_lower east_upper east_lower) = record { moves = (1, 2) ∷ (0, 3) ∷ []; below = (omega arith, omega arith, (omega arith, omega arith, tt)); is = refl }
+ports_moved (Crossing west_upper west_lower east_upper east_lower) = record {
+  moves = (1, 2) ∷ (0, 3) ∷ [];
+  below = (omega arith, omega arith, (omega arith, omega arith, tt));
+  is = refl;
+}
 
 edge-turned : (g : Graph) (e : ℕ) → e < length g.edges → edge (turned_graph g) e ≡ turned_edge (edge g e)
 edge-turned g e within = get_or-map turned_edge g.edges e no_edge no_edge within
@@ -75,16 +83,30 @@ lies-turned g n e West within is = ap (λ (x : Edge). x.west) (edge-turned g e w
 at-turned : (g : Graph) (n : ℕ) (p : Ports) → All (λ (e : ℕ). e < length g.edges) (edges_of p) → AreAt g n p → AreAt (turned_graph g) n (turned_ports p)
 at-turned g n (End e side) there is = lies-turned g n e side (there 0 0 (omega arith)) is
 at-turned g n (Joint west east) there is = (lies-turned g n east East (there 1 0 (omega arith)) is.1, lies-turned g n west West (there 0 0 (omega arith)) is.0)
-at-turned g n (Switch East branch trunk straight diverging) there is =
-    (lies-turned g n trunk West (there 0 0 (omega arith)) is.0, lies-turned g n straight East (there 1 0 (omega arith)) is.1, lies-turned g n diverging East (there 2 0 (omega arith)) is.2)
-at-turned g n (Switch West branch trunk straight diverging) there is =
-    (lies-turned g n trunk East (there 0 0 (omega arith)) is.0, lies-turned g n straight West (there 1 0 (omega arith)) is.1, lies-turned g n diverging West (there 2 0 (omega arith)) is.2)
-at-turned g n (Crossing west_upper west_lower east_upper east_lower) there is =
-    (lies-turned g n east_lower East (there 3 0 (omega arith)) is.3, lies-turned g n east_upper East (there 2 0 (omega arith)) is.2, lies-turned g n west_lower West (there 1 0 (omega arith)) is.1, lies-turned g n west_upper West (there 0 0 (omega arith)) is.0)
+at-turned g n (Switch East branch trunk straight diverging) there is = (
+  lies-turned g n trunk West (there 0 0 (omega arith)) is.0,
+  lies-turned g n straight East (there 1 0 (omega arith)) is.1,
+  lies-turned g n diverging East
+      (there 2 0 (omega arith)) is.2,
+)
+at-turned g n (Switch West branch trunk straight diverging) there is = (
+  lies-turned g n trunk East (there 0 0 (omega arith)) is.0,
+  lies-turned g n straight West (there 1 0 (omega arith)) is.1,
+  lies-turned g n diverging West
+      (there 2 0 (omega arith)) is.2,
+)
+at-turned g n (Crossing west_upper west_lower east_upper east_lower) there is = (
+  lies-turned g n east_lower East (there 3 0 (omega arith)) is.3,
+  lies-turned g n east_upper East (there 2 0 (omega arith)) is.2,
+  lies-turned g n west_lower
+      West (there 1 0 (omega arith)) is.1,
+  lies-turned g n west_upper West (there 0 0 (omega arith)) is.0,
+)
 
 ports-turned : (g : Graph) (n : ℕ) (p : Ports) → ArePortsOf g n p → ArePortsOf (turned_graph g) n (turned_ports p)
 ports-turned g n p is = record {
-  there = subst (λ (k : ℕ). All (λ (e : ℕ). e < k) (edges_of (turned_ports p))) (sym (length-map g.edges turned_edge)) (All-permutation (λ (e : ℕ). e < length g.edges) (edges_of p) (edges_of (turned_ports p)) (ports_moved p) is.there);
+  there = subst (λ (k : ℕ). All (λ (e : ℕ). e < k) (edges_of (turned_ports p))) (sym (length-map g.edges turned_edge))
+      (All-permutation (λ (e : ℕ). e < length g.edges) (edges_of p) (edges_of (turned_ports p)) (ports_moved p) is.there);
   apart = apart_moved (edges_of p) (edges_of (turned_ports p)) (ports_moved p) is.apart;
   placed = at-turned g n p is.there is.placed;
 }
@@ -109,16 +131,21 @@ module _ (g : Graph) (is : IsTrackGraph g) where
     nodes = λ e within.
         let here = edge_there e within in
         let ends = is.nodes e here in (
-          subst (λ (n : ℕ). n < length (turned_graph g).nodes) (sym (ap (λ (x : Edge). x.west) (edge-turned g e here))) (subst (λ (n : ℕ). (edge g e).east < n) node_count ends.1),
-          subst (λ (n : ℕ). n < length (turned_graph g).nodes) (sym (ap (λ (x : Edge). x.east) (edge-turned g e here))) (subst (λ (n : ℕ). (edge g e).west < n) node_count ends.0),
+          subst (λ (n : ℕ). n < length (turned_graph g).nodes) (sym (ap (λ (x : Edge). x.west) (edge-turned g e here)))
+              (subst (λ (n : ℕ). (edge g e).east < n) node_count ends.1),
+          subst (λ (n : ℕ). n < length (turned_graph g).nodes) (sym (ap (λ (x : Edge). x.east) (edge-turned g e here)))
+              (subst (λ (n : ℕ). (edge g e).west < n) node_count ends.0),
         );
     forward = λ e within.
         let here = edge_there e within in
         let ends = is.nodes e here in
-        let west : mileage (turned_graph g) (edge (turned_graph g) e).west ≡ neg_ℤ (mileage g (edge g e).east) = ap (λ (x : Edge). mileage (turned_graph g) x.west) (edge-turned g e here) ∙ mileage-turned g (edge g e).east ends.1 in
-        let east : mileage (turned_graph g) (edge (turned_graph g) e).east ≡ neg_ℤ (mileage g (edge g e).west) = ap (λ (x : Edge). mileage (turned_graph g) x.east) (edge-turned g e here) ∙ mileage-turned g (edge g e).west ends.0 in
+        let west : mileage (turned_graph g) (edge (turned_graph g) e).west ≡ neg_ℤ (mileage g (edge g e).east) = ap
+        (λ (x : Edge). mileage (turned_graph g) x.west) (edge-turned g e here) ∙ mileage-turned g (edge g e).east ends.1 in
+        let east : mileage (turned_graph g) (edge (turned_graph g) e).east ≡ neg_ℤ (mileage g (edge g e).west) = ap
+        (λ (x : Edge). mileage (turned_graph g) x.east) (edge-turned g e here) ∙ mileage-turned g (edge g e).west ends.0 in
         subst (λ (z : ℤ). z <ℤ mileage (turned_graph g) (edge (turned_graph g) e).east) (sym west)
-        (subst (λ (z : ℤ). neg_ℤ (mileage g (edge g e).east) <ℤ z) (sym east) (neg_less (mileage g (edge g e).west) (mileage g (edge g e).east) (is.forward e here)));
+        (subst (λ (z : ℤ). neg_ℤ (mileage g (edge g e).east) <ℤ z) (sym east) (neg_less (mileage g (edge g e).west) (mileage g (edge g e).east)
+        (is.forward e here)));
     met = λ e within.
         let here = edge_there e within in
         let ends = is.nodes e here in
@@ -145,5 +172,6 @@ IsStationGraph-turned g is = record {
   names = All-map (λ (n : Node). IsId n.name) turned_node g.nodes is.names;
   names_differ = pairs_map (λ (m n : Node). m.name ≢ n.name) turned_node g.nodes is.names_differ;
   track_names = All-map (λ (e : Edge). IsId e.track) turned_edge g.edges is.track_names;
-  mileages = All-map (λ (n : Node). IsMileage n.mileage) turned_node g.nodes (All-weaker (λ (n : Node). IsMileage n.mileage) (λ (n : Node). IsMileage (neg_ℤ n.mileage)) (λ n. IsMileage-negated n.mileage) g.nodes is.mileages);
+  mileages = All-map (λ (n : Node). IsMileage n.mileage) turned_node g.nodes (All-weaker (λ (n : Node). IsMileage n.mileage)
+      (λ (n : Node). IsMileage (neg_ℤ n.mileage)) (λ n. IsMileage-negated n.mileage) g.nodes is.mileages);
 }

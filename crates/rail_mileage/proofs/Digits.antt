@@ -40,7 +40,8 @@ pub record OneMore (digits : List ℕ) (number i : ℕ) : Type 0 where
   pub last : get_or digits i 0 ≤ 57
   pub value : number * 10 + (get_or digits i 0 - 48) ≡ digits_value 10 (take (i + 1) digits)
 
-pub one_more : (digits : List ℕ) (number i : ℕ) → AllOfClass is_ascii_digit digits → length digits ≤ 9 → i < length digits → number ≡ digits_value 10 (take i digits) → OneMore digits number i
+pub one_more : (digits : List ℕ) (number i : ℕ) → AllOfClass is_ascii_digit digits → length digits ≤ 9 → i < length digits →
+    number ≡ digits_value 10 (take i digits) → OneMore digits number i
 one_more digits number i h few lt e =
     let at = passes-at is_ascii_digit digits i lt h in
     let range = digit_range (get_or digits i 0) at in
@@ -66,7 +67,8 @@ pub digits_below : (digits : List ℕ) (k : ℕ) → AllOfClass is_ascii_digit d
 digits_below digits k h few = digits_value_short own digits k h few
 
 -- a size of at most nine whole digits and six after the point
-pub size_below : (whole fraction : List ℕ) → AllOfClass is_ascii_digit whole → AllOfClass is_ascii_digit fraction → length whole ≤ 9 → length fraction ≤ 6 → micrometres whole fraction < 10 ^ 15
+pub size_below : (whole fraction : List ℕ) → AllOfClass is_ascii_digit whole → AllOfClass is_ascii_digit fraction → length whole ≤ 9 → length fraction ≤ 6 →
+    micrometres whole fraction < 10 ^ 15
 size_below whole fraction h k few short =
     let metres = digits_below whole 9 h few in
     let rest = scaled (length fraction) (digits_value 10 fraction) short (digits_below fraction (length fraction) k (omega arith)) in

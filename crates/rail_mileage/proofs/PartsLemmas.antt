@@ -43,7 +43,8 @@ blank_no_point b h = grind (arith, nat_tests)
 abbrev pub number_text : Sign → List ℕ → Option (List ℕ) → List ℕ → List ℕ
 number_text sign whole fraction after = sign_text sign ++ (whole ++ (fraction_text fraction ++ after))
 
-no_blank : (sign : Sign) (whole : List ℕ) (fraction : Option (List ℕ)) (after : List ℕ) → AllOfClass is_ascii_digit whole → 1 ≤ length whole + length (fraction_digits fraction) → Stops is_blank (number_text sign whole fraction after)
+no_blank : (sign : Sign) (whole : List ℕ) (fraction : Option (List ℕ)) (after : List ℕ) → AllOfClass is_ascii_digit whole →
+    1 ≤ length whole + length (fraction_digits fraction) → Stops is_blank (number_text sign whole fraction after)
 no_blank plus whole fraction after h some = refl
 no_blank minus whole fraction after h some = refl
 no_blank unsigned (d ∷ whole) fraction after h some = digit_no_blank d h.0
@@ -55,7 +56,8 @@ abbrev pub NoSign : List ℕ → Type 0
 NoSign [] = Unit {0}
 NoSign (b ∷ bytes) = ((b == 43) ≡ false) × ((b == 45) ≡ false)
 
-no_sign : (whole : List ℕ) (fraction : Option (List ℕ)) (after : List ℕ) → AllOfClass is_ascii_digit whole → 1 ≤ length whole + length (fraction_digits fraction) → NoSign (whole ++ (fraction_text fraction ++ after))
+no_sign : (whole : List ℕ) (fraction : Option (List ℕ)) (after : List ℕ) → AllOfClass is_ascii_digit whole →
+    1 ≤ length whole + length (fraction_digits fraction) → NoSign (whole ++ (fraction_text fraction ++ after))
 no_sign (d ∷ whole) fraction after h some = digit_no_sign d h.0
 no_sign [] (Some digits) after h some = (refl, refl)
 no_sign [] None after h some = absurd (omega arith)
@@ -71,8 +73,12 @@ no_digit (Some digits) after h = refl
 no_digit None [] h = tt
 no_digit None (b ∷ after) h = blank_no_digit b h.0
 
-fraction_again : (fraction : Option (List ℕ)) (after : List ℕ) → AllOfClass is_ascii_digit (fraction_digits fraction) → AllOfClass is_blank after → (fraction_at (fraction_text fraction ++ after) ≡ fraction) × (past_fraction (fraction_text fraction ++ after) ≡ after)
-fraction_again (Some digits) after h k = let stop = no_digit None after k in (ap (λ (ds : List ℕ). Some ds) (front_run is_ascii_digit digits after h stop), past_run is_ascii_digit digits after h stop)
+fraction_again : (fraction : Option (List ℕ)) (after : List ℕ) → AllOfClass is_ascii_digit (fraction_digits fraction) → AllOfClass is_blank after →
+    (fraction_at (fraction_text fraction ++ after) ≡ fraction) × (past_fraction (fraction_text fraction ++ after) ≡ after)
+fraction_again (Some digits) after h k = let stop = no_digit None after k in (
+  ap (λ (ds : List ℕ). Some ds) (front_run is_ascii_digit digits after h stop),
+  past_run is_ascii_digit digits after h stop,
+)
 fraction_again None [] h k = (refl, refl)
 fraction_again None (b ∷ after) h k = (rw (blank_no_point b k.0) refl, rw (blank_no_point b k.0) refl)
 
@@ -91,11 +97,15 @@ parts_again text parts m =
     let sign = sign_again parts.sign unsigned_start (no_sign parts.whole parts.fraction parts.after m.digits_before m.some_digit) in
     let behind_sign : past_start text ≡ unsigned_start = ap past_sign behind ∙ sign.1 in
     let digits_stop = no_digit parts.fraction parts.after m.blank_after in
-    let whole : front is_ascii_digit (past_start text) ≡ parts.whole = ap (front is_ascii_digit) behind_sign ∙ front_run is_ascii_digit parts.whole _ m.digits_before digits_stop in
-    let behind_whole : past_whole text ≡ fraction_text parts.fraction ++ parts.after = ap (past is_ascii_digit) behind_sign ∙ past_run is_ascii_digit parts.whole _ m.digits_before digits_stop in
+    let whole : front is_ascii_digit (past_start text) ≡ parts.whole = ap (front is_ascii_digit) behind_sign
+    ∙ front_run is_ascii_digit parts.whole _ m.digits_before digits_stop in
+    let behind_whole : past_whole text ≡ fraction_text parts.fraction ++ parts.after = ap (past is_ascii_digit) behind_sign
+    ∙ past_run is_ascii_digit parts.whole _ m.digits_before digits_stop in
     let fraction = fraction_again parts.fraction parts.after m.digits_after m.blank_after in
-    ap (λ (x : List ℕ). made x (sign_at (past is_blank text)) (front is_ascii_digit (past_start text)) (fraction_at (past_whole text)) (past_fraction (past_whole text))) before
-    ∙ ap (λ (x : Sign). made parts.before x (front is_ascii_digit (past_start text)) (fraction_at (past_whole text)) (past_fraction (past_whole text))) (ap sign_at behind ∙ sign.0)
+    ap (λ (x : List ℕ). made x (sign_at (past is_blank text)) (front is_ascii_digit (past_start text)) (fraction_at (past_whole text))
+    (past_fraction (past_whole text))) before
+    ∙ ap (λ (x : Sign). made parts.before x (front is_ascii_digit (past_start text)) (fraction_at (past_whole text)) (past_fraction (past_whole text)))
+    (ap sign_at behind ∙ sign.0)
     ∙ ap (λ (x : List ℕ). made parts.before parts.sign x (fraction_at (past_whole text)) (past_fraction (past_whole text))) whole
     ∙ ap (λ (x : Option (List ℕ)). made parts.before parts.sign parts.whole x (past_fraction (past_whole text))) (ap fraction_at behind_whole ∙ fraction.0)
     ∙ ap (λ (x : List ℕ). made parts.before parts.sign parts.whole parts.fraction x) (ap past_fraction behind_whole ∙ fraction.1)
@@ -116,7 +126,13 @@ passes_all p (b ∷ bytes) h = let k = and_parts (p b) (list_all p bytes) h in (
 pub accepted : (text : List ℕ) (parts : MetresParts) → IsMetres text parts → are_metres parts ≡ true
 accepted text parts m =
     let digits = fraction_digits parts.fraction in
-    rw (all_blank parts.after m.blank_after, le-leb (length parts.whole) 9 m.whole_limit, le-leb (length digits) 6 m.fraction_limit, le-leb 1 (length parts.whole + length digits) m.some_digit) refl
+    rw (
+      all_blank parts.after m.blank_after,
+      le-leb (length parts.whole) 9 m.whole_limit,
+      le-leb (length digits) 6 m.fraction_limit,
+      le-leb 1
+          (length parts.whole + length digits) m.some_digit,
+    ) refl
 
 -- ---- the parts spell the text
 
@@ -126,10 +142,12 @@ sign_whole (b ∷ text) = grind (arith, nat_tests)
 
 fraction_whole : (text : List ℕ) → fraction_text (fraction_at text) ++ past_fraction text ≡ text
 fraction_whole [] = refl
-fraction_whole (b ∷ text) = elim (b == 46) as (λ v. (b == 46) ≡ v → fraction_text (cond v (Some (front is_ascii_digit text)) None) ++ cond v (past is_ascii_digit text) (b ∷ text) ≡ b ∷ text) [
-  | true ↦ λ e. let point : 46 ≡ b = grind (arith, nat_tests) in ap (λ (t : List ℕ). 46 ∷ t) (front-past is_ascii_digit text) ∙ ap (λ (x : ℕ). x ∷ text) point
-  | false ↦ λ e. refl
-] refl
+fraction_whole (b ∷ text) = elim (b == 46) as (λ v. (b == 46) ≡ v → fraction_text (cond v (Some (front is_ascii_digit text)) None) ++ cond v
+    (past is_ascii_digit text) (b ∷ text) ≡ b ∷ text) [
+      | true ↦ λ e. let point : 46 ≡ b = grind (arith, nat_tests) in ap (λ (t : List ℕ). 46 ∷ t) (front-past is_ascii_digit text)
+          ∙ ap (λ (x : ℕ). x ∷ text) point
+      | false ↦ λ e. refl
+    ] refl
 
 fraction_passes : (text : List ℕ) → AllOfClass is_ascii_digit (fraction_digits (fraction_at text))
 fraction_passes [] = tt
@@ -153,7 +171,10 @@ are_parts text h =
       whole_limit = leb-true _ _ few.1;
       fraction_limit = leb-true _ _ short.1;
       some_digit = leb-true _ _ some.1;
-      spelled = sym (front-past is_blank text) ∙ ap (λ (t : List ℕ). front is_blank text ++ t) (sym (sign_whole (past is_blank text)) ∙ ap (λ (t : List ℕ). sign_text (sign_at (past is_blank text)) ++ t) (sym (front-past is_ascii_digit (past_start text)) ∙ ap (λ (t : List ℕ). front is_ascii_digit (past_start text) ++ t) (sym (fraction_whole (past_whole text)))));
+      spelled = sym (front-past is_blank text) ∙ ap (λ (t : List ℕ). front is_blank text ++ t)
+          (sym (sign_whole (past is_blank text)) ∙ ap (λ (t : List ℕ). sign_text (sign_at (past is_blank text)) ++ t)
+          (sym (front-past is_ascii_digit (past_start text)) ∙ ap (λ (t : List ℕ). front is_ascii_digit (past_start text) ++ t)
+          (sym (fraction_whole (past_whole text)))));
     }
 
 -- ---- the two public clauses, from the private one
@@ -161,11 +182,13 @@ are_parts text h =
 pub reads : (text : List ℕ) (parts : MetresParts) → IsMetres text parts → reading_of (parts_of text) ≡ Some (mileage_told parts)
 reads text parts m = ap reading_of (parts_again text parts m) ∙ rw (accepted text parts m) refl
 
-pub only : (text : List ℕ) (r : Option Micro) → r ≡ reading_of (parts_of text) → IfSome r (λ m. (parts : MetresParts) × IsMetres text parts × (m ≡ mileage_told parts))
-only text r e = rw e (elim (are_metres (parts_of text)) as (λ v. are_metres (parts_of text) ≡ v → IfSome (cond {A = Option Micro} v (Some (mileage_told (parts_of text))) None) (λ m. (parts : MetresParts) × IsMetres text parts × (m ≡ mileage_told parts))) [
-  | true ↦ λ h. (parts_of text, are_parts text h, refl)
-  | false ↦ λ h. tt
-] refl)
+pub only : (text : List ℕ) (r : Option Micro) → r ≡ reading_of (parts_of text) →
+    IfSome r (λ m. (parts : MetresParts) × IsMetres text parts × (m ≡ mileage_told parts))
+only text r e = rw e (elim (are_metres (parts_of text)) as (λ v. are_metres (parts_of text) ≡ v → IfSome
+    (cond {A = Option Micro} v (Some (mileage_told (parts_of text))) None) (λ m. (parts : MetresParts) × IsMetres text parts × (m ≡ mileage_told parts))) [
+      | true ↦ λ h. (parts_of text, are_parts text h, refl)
+      | false ↦ λ h. tt
+    ] refl)
 
 -- the run at the front of a text, and what is past it
 pub ruleset front_and_past = (take_front, past_no_longer, front_passes)

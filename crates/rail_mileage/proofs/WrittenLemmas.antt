@@ -20,7 +20,16 @@ last_digit_passes : (n : ℕ) → is_ascii_digit (last_digit n) ≡ true
 last_digit_passes n = grind (arith, nat_tests)
 
 six_pass : (n : ℕ) → AllOfClass is_ascii_digit (six_digits n)
-six_pass n = (last_digit_passes (n / 100000), (last_digit_passes (n / 10000), (last_digit_passes (n / 1000), (last_digit_passes (n / 100), (last_digit_passes (n / 10), (last_digit_passes n, tt))))))
+six_pass n = (
+  last_digit_passes (n / 100000),
+  (
+    last_digit_passes (n / 10000),
+    (
+      last_digit_passes (n / 1000),
+      (last_digit_passes (n / 100), (last_digit_passes (n / 10), (last_digit_passes n, tt))),
+    ),
+  ),
+)
 
 -- the same without a test
 pub six_are_digits : (n : ℕ) → AllByRecursion IsAsciiDigit (six_digits n)
@@ -50,7 +59,15 @@ last_six : (n : ℕ) → n / 100000 % 10 * 100000 + n % 100000 ≡ n % 1000000
 last_six n = omega arith
 
 six_value : (n : ℕ) → digits_value 10 (six_digits n) ≡ n % 1000000
-six_value n = rw (last_digit_value (n / 100000), last_digit_value (n / 10000), last_digit_value (n / 1000), last_digit_value (n / 100), last_digit_value (n / 10), last_digit_value n) (omega (arith, last_two n, last_three n, last_four n, last_five n, last_six n))
+six_value n = rw (
+  last_digit_value (n / 100000),
+  last_digit_value (n / 10000),
+  last_digit_value (n / 1000),
+  last_digit_value (n / 100),
+  last_digit_value
+      (n / 10),
+  last_digit_value n,
+) (omega (arith, last_two n, last_three n, last_four n, last_five n, last_six n))
 
 abbrev written_parts : Sign → ℕ → MetresParts
 written_parts sign n = record { before = []; sign = sign; whole = decimal (n / 1000000); fraction = Some (six_digits n); after = [] }
@@ -70,12 +87,19 @@ written_is_metres sign n small = record {
   whole_limit = length-decimal-le 9 (n / 1000000) (omega arith) (omega arith) (omega arith);
   fraction_limit = omega arith;
   some_digit = omega arith;
-  spelled = ap (λ (t : List ℕ). sign_text sign ++ t) (append_assoc (decimal (n / 1000000)) (46 ∷ []) (six_digits n) ∙ ap (λ (t : List ℕ). decimal (n / 1000000) ++ (46 ∷ t)) (sym (append-nil (six_digits n))));
+  spelled = ap (λ (t : List ℕ). sign_text sign ++ t) (append_assoc (decimal (n / 1000000)) (46 ∷ []) (six_digits n)
+      ∙ ap (λ (t : List ℕ). decimal (n / 1000000) ++ (46 ∷ t)) (sym (append-nil (six_digits n))));
 }
 
 pub written_is_read : (z : ℤ) → unsigned_abs z < 10 ^ 15 → (parts : MetresParts) × IsMetres (metres_text z) parts × (mileage_told parts ≡ record { 0 = z })
 written_is_read (pos n) small = (written_parts unsigned n, written_is_metres unsigned n small, ap (λ (k : ℕ). record { 0 = pos k }) (size_is n small))
-written_is_read (negsuc n) small = (written_parts minus (suc n), written_is_metres minus (suc n) small, ap (λ (k : ℕ). record { 0 = neg_ℤ (pos k) }) (size_is (suc n) small))
+written_is_read (negsuc n) small = (
+  written_parts minus (suc n),
+  written_is_metres minus (suc n) small,
+  ap (λ (k : ℕ). record {
+    0 = neg_ℤ (pos k);
+  }) (size_is (suc n) small),
+)
 
 pub reads_again : (text : List ℕ) (z : ℤ) → unsigned_abs z < 10 ^ 15 → text ≡ metres_text z → reading_of (parts_of text) ≡ Some (record { 0 = z })
 reads_again text z small e =

@@ -50,19 +50,25 @@ all_mapped P f (x ∷ xs) h = (h.0, all_mapped P f xs h.1)
 
 -- ---- joining
 
-pub stands_joined : {X : Type 0} (R : X → X → Type 0) (xs ys : List X) → Stands R xs → Stands R ys → AllByRecursion (λ x. AllByRecursion (R x) ys) xs → Stands R (xs ++ ys)
+pub stands_joined : {X : Type 0} (R : X → X → Type 0) (xs ys : List X) → Stands R xs → Stands R ys → AllByRecursion (λ x. AllByRecursion (R x) ys) xs →
+    Stands R (xs ++ ys)
 stands_joined R [] ys h k across = k
 stands_joined R (x ∷ xs) ys h k across = (all_joined (R x) xs ys h.0 across.0, stands_joined R xs ys h.1 k across.1)
 
 -- items of which one has P and the other Q
-pub across : {X Y : Type 0} (P : X → Type 0) (Q : Y → Type 0) (R : X → Y → Type 0) → ((x : X) (y : Y) → P x → Q y → R x y) → (xs : List X) (ys : List Y) → AllByRecursion P xs → AllByRecursion Q ys → AllByRecursion (λ x. AllByRecursion (R x) ys) xs
+pub across : {X Y : Type 0} (P : X → Type 0) (Q : Y → Type 0) (R : X → Y → Type 0) → ((x : X) (y : Y) → P x → Q y → R x y) → (xs : List X) (ys : List Y) →
+    AllByRecursion P xs → AllByRecursion Q ys → AllByRecursion (λ x. AllByRecursion (R x) ys) xs
 across P Q R differ [] ys h k = tt
 across P Q R differ (x ∷ xs) ys h k = (all_more Q (R x) (λ y q. differ x y h.0 q) ys k, across P Q R differ xs ys h.1 k)
 
-pub stands_mapped : {X Y : Type 0} (P : X → Type 0) (R : X → X → Type 0) (S : Y → Y → Type 0) (f : X → Y) → ((x y : X) → P x → P y → R x y → S (f x) (f y)) → (xs : List X) → AllByRecursion P xs → Stands R xs → Stands S (map f xs)
+pub stands_mapped : {X Y : Type 0} (P : X → Type 0) (R : X → X → Type 0) (S : Y → Y → Type 0) (f : X → Y) → ((x y : X) → P x → P y → R x y → S (f x) (f y)) →
+    (xs : List X) → AllByRecursion P xs → Stands R xs → Stands S (map f xs)
 stands_mapped P R S f keeps [] h k = tt
-stands_mapped P R S f keeps (x ∷ xs) h k =
-    (all_mapped (S (f x)) f xs (all_more (λ y. P y × R x y) (λ y. S (f x) (f y)) (λ y e. keeps x y h.0 e.0 e.1) xs (all_both P (R x) xs h.1 k.0)), stands_mapped P R S f keeps xs h.1 k.1)
+stands_mapped P R S f keeps (x ∷ xs) h k = (
+  all_mapped (S (f x)) f xs (all_more (λ y. P y × R x y) (λ y. S (f x) (f y)) (λ y e. keeps x y h.0 e.0 e.1) xs (all_both P (R x) xs h.1 k.0)),
+  stands_mapped
+      P R S f keeps xs h.1 k.1,
+)
 
 pub stands_weaker : {X : Type 0} (R S : X → X → Type 0) → ((x y : X) → R x y → S x y) → (xs : List X) → Stands R xs → Stands S xs
 stands_weaker R S weaker [] h = tt
@@ -110,7 +116,8 @@ covers_none e G = record { ks = []; same = refl; good = tt; apart = tt }
 pub covers_weaker : {E : Type 0} (e : ℕ → E) (G H : ℕ → Type 0) (es : List E) → ((k : ℕ) → G k → H k) → Covers e G es → Covers e H es
 covers_weaker e G H es weaker c = record { ks = c.ks; same = c.same; good = all_more G H weaker c.ks c.good; apart = c.apart }
 
-pub covers_joined : {E : Type 0} (e : ℕ → E) (F G H : ℕ → Type 0) (es fs : List E) → ((k : ℕ) → F k → H k) → ((k : ℕ) → G k → H k) → ((k l : ℕ) → F k → G l → k ≢ l) → Covers e F es → Covers e G fs → Covers e H (es ++ fs)
+pub covers_joined : {E : Type 0} (e : ℕ → E) (F G H : ℕ → Type 0) (es fs : List E) → ((k : ℕ) → F k → H k) → ((k : ℕ) → G k → H k) →
+    ((k l : ℕ) → F k → G l → k ≢ l) → Covers e F es → Covers e G fs → Covers e H (es ++ fs)
 covers_joined {E} e F G H es fs left right differ c d = record {
   ks = c.ks ++ d.ks;
   same = ap (λ (v : List E). v ++ fs) c.same ∙ (ap (λ (v : List E). map e c.ks ++ v) d.same ∙ sym (map-append e c.ks d.ks));
@@ -119,7 +126,8 @@ covers_joined {E} e F G H es fs left right differ c d = record {
 }
 
 -- groups, each with an owner of its own
-pub covers_groups : {E X : Type 0} (e : ℕ → E) (owner : ℕ → ℕ) (G : ℕ → Type 0) (g : X → List E) (ss : List ℕ) (xs : List X) → AllZip (λ s x. Covers e (λ k. G k × (owner k ≡ s)) (g x)) ss xs → Apart ss → Covers e (λ k. G k × Among ss (owner k)) (flat_map g xs)
+pub covers_groups : {E X : Type 0} (e : ℕ → E) (owner : ℕ → ℕ) (G : ℕ → Type 0) (g : X → List E) (ss : List ℕ) (xs : List X) →
+    AllZip (λ s x. Covers e (λ k. G k × (owner k ≡ s)) (g x)) ss xs → Apart ss → Covers e (λ k. G k × Among ss (owner k)) (flat_map g xs)
 covers_groups e owner G g [] [] h a = covers_none e (λ k. G k × Among [] (owner k))
 covers_groups e owner G g [] (x ∷ xs) h a = absurd h
 covers_groups e owner G g (s ∷ ss) [] h a = absurd h

@@ -1,5 +1,6 @@
 -- Ids that are listed, and told apart once they are sorted.
-use Rattle.std.proofs.Common.{◌≡◌, ◌⊎◌, ℕ, suc, zero, ◌+◌, ◌<◌, ◌≤◌, List, [], ◌∷◌, length, Option, Some, None, get_or, refl, sym, ◌∙◌, ap, subst, inl, inr, arith}
+use Rattle.std.proofs.Common.{◌≡◌, ◌⊎◌, ℕ, suc, zero, ◌+◌, ◌<◌, ◌≤◌, List, [], ◌∷◌, length, Option, Some, None, get_or, refl, sym, ◌∙◌, ap, subst, inl, inr}
+use Rattle.std.proofs.Common.{arith}
 use Rattle.std.specs.Prelude.{Contains}
 use Rattle.std.specs.Cmp.Lexicographic.{slice_cmp}
 use Rattle.std.specs.List.{AllAdjacentBelow}
@@ -20,16 +21,23 @@ use Rattle.railml_faults.proofs.IdLemmas.{row_at, last_has, earlier_has, owns}
 
 -- ---- ids that are listed
 
-pub lists_more : (rows : List Elem) (n : ℕ) (row : Elem) (old new : List ListedId) → ListsIds rows n old → n < length rows → row ≡ get_or rows n row → ListsOneMore old new (own_id row) n → ListsIds rows (n + 1) new
+pub lists_more : (rows : List Elem) (n : ℕ) (row : Elem) (old new : List ListedId) → ListsIds rows n old → n < length rows → row ≡ get_or rows n row →
+    ListsOneMore old new (own_id row) n → ListsIds rows (n + 1) new
 lists_more rows n row old new listed within is more j id h = by (cases_lt j n)
   where
     kept : (o : Option (List ℕ)) → ListsOneMore old new o n → IsListedAs old id j → IsListedAs new id j
     kept None same l = subst (λ ids. IsListedAs ids id j) (sym same) l
-    kept (Some own) added l = record { one = l.one; there = subst (λ ids. Contains ids l.one) (sym added.1) (Contains-append_left old (added.0 ∷ []) l.one l.there); text = l.text; numbered = l.numbered }
+    kept (Some own) added l = record {
+    one = l.one; there = subst (λ ids. Contains ids l.one) (sym added.1) (Contains-append_left old (added.0 ∷ []) l.one l.there); text = l.text;
+    numbered = l.numbered
+    }
 
     here : (o : Option (List ℕ)) → own_id row ≡ o → ListsOneMore old new o n → own_id row ≡ Some id → IsListedAs new id n
     here None e same own = absurd (none-some id (sym e ∙ own))
-    here (Some own) e added is_id = record { one = added.0; there = subst (λ ids. Contains ids added.0) (sym added.1) (Contains-push old added.0); text = added.2 ∙ same_Some own id (sym e ∙ is_id); numbered = added.3 }
+    here (Some own) e added is_id = record {
+    one = added.0; there = subst (λ ids. Contains ids added.0) (sym added.1) (Contains-push old added.0); text = added.2
+    ∙ same_Some own id (sym e ∙ is_id); numbered = added.3
+    }
 
     by : (j < n) ⊎ (n ≤ j) → IsListedAs new id j
     by (inl before) = kept (own_id row) more (listed j id (earlier_has own_id rows n j id h before))
@@ -43,24 +51,31 @@ lists_more rows n row old new listed within is more j id h = by (cases_lt j n)
 abbrev pub Rises : ListedId → ListedId → Type 0
 Rises a b = slice_cmp nat_cmp (text_of a) (text_of b) ≡ Less
 
-rises_next : (ids : List ListedId) (i j : ℕ) (d : ListedId) → Rises (get_or ids j d) (get_or ids (suc j) d) → (i < j → Rises (get_or ids i d) (get_or ids j d)) → i ≤ j → (i < j) ⊎ (j ≤ i) → Rises (get_or ids i d) (get_or ids (suc j) d)
-rises_next ids i j d next far below (inl before) = nat_list_cmp_total.trans (text_of (get_or ids i d)) (text_of (get_or ids j d)) (text_of (get_or ids (suc j) d)) (far before) next
+rises_next : (ids : List ListedId) (i j : ℕ) (d : ListedId) → Rises (get_or ids j d) (get_or ids (suc j) d) →
+    (i < j → Rises (get_or ids i d) (get_or ids j d)) → i ≤ j → (i < j) ⊎ (j ≤ i) → Rises (get_or ids i d) (get_or ids (suc j) d)
+rises_next ids i j d next far below (inl before) = nat_list_cmp_total.trans (text_of (get_or ids i d)) (text_of (get_or ids j d))
+    (text_of (get_or ids (suc j) d)) (far before) next
 rises_next ids i j d next far below (inr from) = let same : j ≡ i = omega arith in subst (λ k. Rises (get_or ids k d) (get_or ids (suc j) d)) same next
 
-rises_far : (ids : List ListedId) (i j : ℕ) (d : ListedId) → AllAdjacentBelow Rises ids (length ids) → i < j → j < length ids → Rises (get_or ids i d) (get_or ids j d)
+rises_far : (ids : List ListedId) (i j : ℕ) (d : ListedId) → AllAdjacentBelow Rises ids (length ids) → i < j → j < length ids →
+    Rises (get_or ids i d) (get_or ids j d)
 rises_far ids i zero d rise less within = absurd (omega arith)
-rises_far ids i (suc j) d rise less within = rises_next ids i j d (let after : j + 1 ≡ suc j = omega arith in subst (λ k. Rises (get_or ids j d) (get_or ids k d)) after (rise j d (omega arith))) (λ before. rises_far ids i j d rise before (omega arith)) (omega arith) (cases_lt i j)
+rises_far ids i (suc j) d rise less within = rises_next ids i j d (let after : j + 1 ≡ suc j = omega arith in subst
+    (λ k. Rises (get_or ids j d) (get_or ids k d)) after (rise j d (omega arith))) (λ before. rises_far ids i j d rise before (omega arith)) (omega arith)
+    (cases_lt i j)
 
 less_isnt_equal : Less ≡ Equal → ⊥
 less_isnt_equal e = cc
 
 pub distinct_texts : (ids : List ListedId) → AllAdjacentBelow Rises ids (length ids) → AreTextsDistinct ids
 distinct_texts ids rise i j d less within same =
-    less_isnt_equal (sym (rises_far ids i j d rise less within) ∙ ap (λ text. slice_cmp nat_cmp (text_of (get_or ids i d)) text) (sym same) ∙ tied_itself nat_list_cmp_total (text_of (get_or ids i d)))
+    less_isnt_equal (sym (rises_far ids i j d rise less within) ∙ ap (λ text. slice_cmp nat_cmp (text_of (get_or ids i d)) text) (sym same)
+    ∙ tied_itself nat_list_cmp_total (text_of (get_or ids i d)))
 
 -- ---- rows whose ids are listed
 
-pub distinct_ids : (rows : List Elem) (ids sorted : List ListedId) → ListsIds rows (length rows) ids → IsPermutation ids sorted → AreTextsDistinct sorted → AreIdsDistinct rows
+pub distinct_ids : (rows : List Elem) (ids sorted : List ListedId) → ListsIds rows (length rows) ids → IsPermutation ids sorted → AreTextsDistinct sorted →
+    AreIdsDistinct rows
 distinct_ids rows ids sorted listed moved apart i repeated = by (cases_order p.0 q.0)
   where
     id : List ℕ
@@ -91,7 +106,8 @@ distinct_ids rows ids sorted listed moved apart i repeated = by (cases_order p.0
     second = ap text_of (get_or_default sorted q.0 a.one b.one q.1 ∙ q.2) ∙ b.text
 
     one : p.0 ≡ q.0 → i ≡ j
-    one same = sym a.numbered ∙ ap (λ (l : ListedId). l.2) (sym p.2 ∙ ap (λ k. get_or sorted k a.one) same ∙ get_or_default sorted q.0 a.one b.one q.1 ∙ q.2) ∙ b.numbered
+    one same = sym a.numbered ∙ ap (λ (l : ListedId). l.2) (sym p.2 ∙ ap (λ k. get_or sorted k a.one) same ∙ get_or_default sorted q.0 a.one b.one q.1 ∙ q.2)
+    ∙ b.numbered
 
     by : (p.0 ≡ q.0) ⊎ ((p.0 < q.0) ⊎ (q.0 < p.0)) → ⊥
     by (inl same) = let e : i ≡ j = one same in let before : j < i = repeated.1.before in omega arith

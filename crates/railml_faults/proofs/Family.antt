@@ -1,5 +1,6 @@
 -- Rows by number: which rows pass, a row's children and its parent.
-use Rattle.std.proofs.Common.{◌≡◌, ℕ, suc, zero, ◌+◌, Bool, true, false, cond, Option, Some, None, List, [], ◌∷◌, slice_get, refl, sym, ap, ◌∙◌, subst, inl, inr, zero-add, arith, ◌<◌, length}
+use Rattle.std.proofs.Common.{◌≡◌, ℕ, suc, zero, ◌+◌, Bool, true, false, cond, Option, Some, None, List, [], ◌∷◌, slice_get, refl, sym, ap, ◌∙◌, subst, inl}
+use Rattle.std.proofs.Common.{inr, zero-add, arith, ◌<◌, length}
 use Rattle.std.proofs.lemmas.Option.{same_Some, slice_get_within}
 use Rattle.std.specs.List.{filter, Contains}
 use Rattle.std.proofs.lemmas.Bool.{eq-eqb, eqb-true}
@@ -69,28 +70,33 @@ pub record Passes (p : Elem → Bool) (rows : List Elem) (j : ℕ) : Type 0 wher
   pub is : slice_get rows j ≡ Some row
   pub passes : p row ≡ true
 
-later : (p : Elem → Bool) (n k : ℕ) (row : Elem) (rows : List Elem) → (j : ℕ) × (k ≡ suc n + j) × Passes p rows j → (j : ℕ) × (k ≡ n + j) × Passes p (row ∷ rows) j
+later : (p : Elem → Bool) (n k : ℕ) (row : Elem) (rows : List Elem) → (j : ℕ) × (k ≡ suc n + j) × Passes p rows j →
+    (j : ℕ) × (k ≡ n + j) × Passes p (row ∷ rows) j
 later p n k row rows (j, e, h) = (suc j, omega arith, record { row = h.row; is = h.is; passes = h.passes })
 
 pub numbered : (p : Elem → Bool) (n : ℕ) (rows : List Elem) (k : ℕ) → Among (numbers_from p n rows) k → (j : ℕ) × (k ≡ n + j) × Passes p rows j
 numbered p n [] k a = absurd a
 numbered p n (row ∷ rows) k a = choose (p row) refl a (numbered p (suc n) rows k)
   where
-    choose : (v : Bool) → p row ≡ v → Among (cond v (n ∷ numbers_from p (suc n) rows) (numbers_from p (suc n) rows)) k → (Among (numbers_from p (suc n) rows) k → (j : ℕ) × (k ≡ suc n + j) × Passes p rows j) → (j : ℕ) × (k ≡ n + j) × Passes p (row ∷ rows) j
+    choose : (v : Bool) → p row ≡ v → Among (cond v (n ∷ numbers_from p (suc n) rows) (numbers_from p (suc n) rows)) k →
+    (Among (numbers_from p (suc n) rows) k → (j : ℕ) × (k ≡ suc n + j) × Passes p rows j) → (j : ℕ) × (k ≡ n + j) × Passes p (row ∷ rows) j
     choose true e (inl here) ih = (0, omega arith, record { row = row; is = refl; passes = e })
     choose true e (inr there) ih = later p n k row rows (ih there)
     choose false e there ih = later p n k row rows (ih there)
 
-pub has_number : (p : Elem → Bool) (n : ℕ) (rows : List Elem) (j : ℕ) (row : Elem) → slice_get rows j ≡ Some row → p row ≡ true → Among (numbers_from p n rows) (n + j)
+pub has_number : (p : Elem → Bool) (n : ℕ) (rows : List Elem) (j : ℕ) (row : Elem) → slice_get rows j ≡ Some row → p row ≡ true →
+    Among (numbers_from p n rows) (n + j)
 has_number p n [] j row e h = absurd cc
 has_number p n (r ∷ rows) zero row e h =
     let same : p r ≡ true = subst (λ (v : Elem). p v ≡ true) (grind arith) h in
     rw same (inl (omega arith))
 has_number p n (r ∷ rows) (suc j) row e h =
-    let rest : Among (numbers_from p (suc n) rows) (n + suc j) = subst (λ (v : ℕ). Among (numbers_from p (suc n) rows) v) (omega arith) (has_number p (suc n) rows j row e h) in
+    let rest : Among (numbers_from p (suc n) rows) (n + suc j) = subst (λ (v : ℕ). Among (numbers_from p (suc n) rows) v) (omega arith)
+    (has_number p (suc n) rows j row e h) in
     choose (p r) rest
   where
-    choose : (v : Bool) → Among (numbers_from p (suc n) rows) (n + suc j) → Among (cond v (n ∷ numbers_from p (suc n) rows) (numbers_from p (suc n) rows)) (n + suc j)
+    choose : (v : Bool) → Among (numbers_from p (suc n) rows) (n + suc j) →
+    Among (cond v (n ∷ numbers_from p (suc n) rows) (numbers_from p (suc n) rows)) (n + suc j)
     choose true rest = inr rest
     choose false rest = rest
 
@@ -100,7 +106,8 @@ pub among_filtered : (q : ℕ → Bool) (xs : List ℕ) (k : ℕ) → Among (fil
 among_filtered q [] k a = absurd a
 among_filtered q (x ∷ xs) k a = choose (q x) refl a (among_filtered q xs k)
   where
-    choose : (v : Bool) → q x ≡ v → Among (cond v (x ∷ filter q xs) (filter q xs)) k → (Among (filter q xs) k → Among xs k × (q k ≡ true)) → Among (x ∷ xs) k × (q k ≡ true)
+    choose : (v : Bool) → q x ≡ v → Among (cond v (x ∷ filter q xs) (filter q xs)) k → (Among (filter q xs) k → Among xs k × (q k ≡ true)) →
+    Among (x ∷ xs) k × (q k ≡ true)
     choose true e (inl here) ih = (inl here, ap q here ∙ e)
     choose true e (inr there) ih = let r = ih there in (inr r.0, r.1)
     choose false e there ih = let r = ih there in (inr r.0, r.1)
@@ -144,7 +151,8 @@ child rows i kind k a =
 
 pub has_child : (rows : List Elem) (i : ℕ) (kind : ElemKind) (k : ℕ) → IsChild rows i kind k → Among (children rows i kind) k
 has_child rows i kind k c =
-    filtered_among (is_of_kind rows kind) (all_children rows i) k (subst (λ (v : ℕ). Among (all_children rows i) v) (zero-add k) (has_number (is_child_of i) 0 rows k c.row c.is (test_from_parent i c.row c.parent_is)))
+    filtered_among (is_of_kind rows kind) (all_children rows i) k (subst (λ (v : ℕ). Among (all_children rows i) v) (zero-add k)
+    (has_number (is_child_of i) 0 rows k c.row c.is (test_from_parent i c.row c.parent_is)))
     (subst (λ (v : ElemKind). is_of_kind rows v k ≡ true) c.kind_is (is_of_its_kind rows k c.row c.is))
 
 -- the only child is the one
@@ -152,4 +160,5 @@ pub only_child : (rows : List Elem) (i : ℕ) (kind : ElemKind) (k : ℕ) → ch
 only_child rows i kind k e = child rows i kind k (rw e (inl refl))
 
 pub is_only : (rows : List Elem) (i : ℕ) (kind : ElemKind) (k j : ℕ) → children rows i kind ≡ k ∷ [] → IsChild rows i kind j → j ≡ k
-is_only rows i kind k j e c = elim (let a : Among (k ∷ []) j = subst (λ (v : List ℕ). Among v j) e (has_child rows i kind j c) in a) [ inl same ↦ same | inr none ↦ absurd none ]
+is_only rows i kind k j e c = elim (let a : Among (k ∷ []) j = subst (λ (v : List ℕ). Among v j) e (has_child rows i kind j c) in a)
+    [ inl same ↦ same | inr none ↦ absurd none ]

@@ -1,5 +1,6 @@
 -- Faults by their numbers, and the order in which they are looked for.
-use Rattle.std.proofs.Common.{◌≡◌, ◌⊎◌, ℕ, suc, zero, ◌<◌, ◌≤◌, ◌+◌, ◌==◌, Bool, true, false, List, [], ◌∷◌, length, Option, Some, None, slice_get, get_or, refl, sym, ◌∙◌, ap, subst, inl, inr, arith, if◌then◌else◌}
+use Rattle.std.proofs.Common.{◌≡◌, ◌⊎◌, ℕ, suc, zero, ◌<◌, ◌≤◌, ◌+◌, ◌==◌, Bool, true, false, List, [], ◌∷◌, length, Option, Some, None, slice_get, get_or}
+use Rattle.std.proofs.Common.{refl, sym, ◌∙◌, ap, subst, inl, inr, arith, if◌then◌else◌}
 use Rattle.std.proofs.lemmas.Bool.{cases_eq}
 use Rattle.std.specs.List.{range_with_len}
 use Rattle.std.proofs.lemmas.List.{get_or-map}
@@ -11,10 +12,12 @@ use Rattle.railml_read.specs.declared.rows.Elem.{Elem}
 use Rattle.railml_read.specs.declared.rows.ElemKind.TheVariants as kinds
 use Rattle.railml_faults.specs.declared.attributes.Attribute.{Attribute}
 use Rattle.railml_faults.specs.declared.fault.TopologyWhat.{TopologyWhat}
-use Rattle.railml_faults.specs.declared.fault.TopologyWhat.TheVariants.{NoTracks, TooMany, Missing, Id, RepeatedId, Number, UnknownRef, NotMutual, SelfRef, EndKind, Course, Orientation, OutsideTrack}
+use Rattle.railml_faults.specs.declared.fault.TopologyWhat.TheVariants.{NoTracks, TooMany, Missing, Id, RepeatedId, Number, UnknownRef, NotMutual, SelfRef}
+use Rattle.railml_faults.specs.declared.fault.TopologyWhat.TheVariants.{EndKind, Course, Orientation, OutsideTrack}
 use Rattle.railml_faults.specs.declared.finding.TheConstants.{IN_ORDER}
 use Rattle.railml_faults.specs.Rows.{same_kind, numbers_from, track_rows, attribute_name, id_of}
-use Rattle.railml_faults.specs.Faults.{Lacks, HasBadId, Repeats, HasNoNumber, RefersToNone, IsNotReferredBack, RefersToItself, LacksItsParts, HasBadCourse, HasBadOrientation, LiesOutside, number_of, AreIdsDistinct}
+use Rattle.railml_faults.specs.Faults.{Lacks, HasBadId, Repeats, HasNoNumber, RefersToNone, IsNotReferredBack, RefersToItself, LacksItsParts, HasBadCourse}
+use Rattle.railml_faults.specs.Faults.{HasBadOrientation, LiesOutside, number_of, AreIdsDistinct}
 use Rattle.plan_core.specs.Searching.{NoneBefore, FindsFirst}
 use Rattle.railml_faults.specs.Telling.{HasKind, HasNoneBelow}
 
@@ -74,10 +77,12 @@ pub none_yet : (rows : List Elem) → HasNoneBelow rows 1
 none_yet rows = record { none = λ what below. (let from = numbers_from_one what in absurd (omega arith)) }
 
 -- one more kind that no row has
-pub none_of_more : {rows : List Elem} (what : TopologyWhat) → HasNoneBelow rows (number_of what) → NoneBefore (HasKind rows what) rows (length rows) → HasNoneBelow rows (number_of what + 1)
+pub none_of_more : {rows : List Elem} (what : TopologyWhat) → HasNoneBelow rows (number_of what) → NoneBefore (HasKind rows what) rows (length rows) →
+    HasNoneBelow rows (number_of what + 1)
 none_of_more {rows} what none here = record { none = λ other below. by other below (cases_eq (number_of other) (number_of what)) }
   where
-    by : (other : TopologyWhat) → number_of other < number_of what + 1 → (number_of other ≡ number_of what) ⊎ (number_of other ≡ number_of what → ⊥) → NoneBefore (HasKind rows other) rows (length rows)
+    by : (other : TopologyWhat) → number_of other < number_of what + 1 → (number_of other ≡ number_of what) ⊎ (number_of other ≡ number_of what → ⊥) →
+    NoneBefore (HasKind rows other) rows (length rows)
     by other below (inl same) = subst (λ (k : TopologyWhat). NoneBefore (HasKind rows k) rows (length rows)) (sym (one_kind other what same)) here
     by other below (inr differ) = none.none other (omega (arith, differ))
 
@@ -88,12 +93,14 @@ number_in_order i d within =
     omega (arith, read, get_or-range_with_len 1 13 i 0 within)
 
 -- nor does one have the kind that was looked for next
-pub none_at_next : (rows : List Elem) (what : TopologyWhat) (found : Option ℕ) → FindsFirst (HasKind rows what) rows found → found ≡ None → (n : ℕ) → number_of what ≡ n → HasNoneBelow rows n → HasNoneBelow rows (n + 1)
+pub none_at_next : (rows : List Elem) (what : TopologyWhat) (found : Option ℕ) → FindsFirst (HasKind rows what) rows found → found ≡ None → (n : ℕ) →
+    number_of what ≡ n → HasNoneBelow rows n → HasNoneBelow rows (n + 1)
 none_at_next rows what found finds is n number none =
     let here : NoneBefore (HasKind rows what) rows (length rows) = subst (λ (r : Option ℕ). FindsFirst (HasKind rows what) rows r) is finds in
     subst (λ m. HasNoneBelow rows (m + 1)) number (none_of_more what (subst (HasNoneBelow rows) (sym number) none) here)
 
-pub of_this_kind : (rows : List Elem) (what kind : TopologyWhat) (r : Option ℕ) → what ≡ kind → FindsFirst (HasKind rows kind) rows r → FindsFirst (HasKind rows what) rows r
+pub of_this_kind : (rows : List Elem) (what kind : TopologyWhat) (r : Option ℕ) → what ≡ kind → FindsFirst (HasKind rows kind) rows r →
+    FindsFirst (HasKind rows what) rows r
 of_this_kind rows what kind r same h = subst (λ (w : TopologyWhat). FindsFirst (HasKind rows w) rows r) (sym same) h
 
 module _ {P Q : ℕ → Elem → Type 0} (to : (i : ℕ) (row : Elem) → P i row → Q i row) (from : (i : ℕ) (row : Elem) → Q i row → P i row) (rows : List Elem) where
@@ -106,7 +113,8 @@ module _ {P Q : ℕ → Elem → Type 0} (to : (i : ℕ) (row : Elem) → P i ro
 
 module _ (rows : List Elem) (r : Option ℕ) where
   pub finds_missing : FindsFirst (λ _ row. (a : Attribute) × Lacks rows row a) rows r → FindsFirst (HasKind rows Missing) rows r
-  finds_missing = finds_as {P = λ _ row. (a : Attribute) × Lacks rows row a} {Q = HasKind rows Missing} (λ i row h. (attribute_name h.0, [], (h.0, h.1, refl, refl))) (λ i row h. (h.2.0, h.2.1)) rows r
+  finds_missing = finds_as {P = λ _ row. (a : Attribute) × Lacks rows row a} {Q = HasKind rows Missing}
+  (λ i row h. (attribute_name h.0, [], (h.0, h.1, refl, refl))) (λ i row h. (h.2.0, h.2.1)) rows r
 
   pub finds_bad_id : FindsFirst (λ _ row. HasBadId row) rows r → FindsFirst (HasKind rows Id) rows r
   finds_bad_id = finds_as {P = λ _ row. HasBadId row} {Q = HasKind rows Id} (λ i row h. ([], [], (h, refl, refl))) (λ i row h. h.2.0) rows r
@@ -115,28 +123,34 @@ module _ (rows : List Elem) (r : Option ℕ) where
   finds_repeated = finds_as {P = λ i _. Repeats rows i} {Q = HasKind rows RepeatedId} (λ i row h. (h.0, [], (h.1, refl))) (λ i row h. (h.0, h.2.0)) rows r
 
   pub finds_bad_number : FindsFirst (λ _ row. (a : Attribute) × HasNoNumber row a) rows r → FindsFirst (HasKind rows Number) rows r
-  finds_bad_number = finds_as {P = λ _ row. (a : Attribute) × HasNoNumber row a} {Q = HasKind rows Number} (λ i row h. (id_of row, attribute_name h.0, (h.0, h.1, refl, refl))) (λ i row h. (h.2.0, h.2.1)) rows r
+  finds_bad_number = finds_as {P = λ _ row. (a : Attribute) × HasNoNumber row a} {Q = HasKind rows Number}
+  (λ i row h. (id_of row, attribute_name h.0, (h.0, h.1, refl, refl))) (λ i row h. (h.2.0, h.2.1)) rows r
 
   pub finds_unknown_ref : FindsFirst (λ _ row. RefersToNone rows row) rows r → FindsFirst (HasKind rows UnknownRef) rows r
-  finds_unknown_ref = finds_as {P = λ _ row. RefersToNone rows row} {Q = HasKind rows UnknownRef} (λ i row h. (id_of row, [], (h, refl, refl))) (λ i row h. h.2.0) rows r
+  finds_unknown_ref = finds_as {P = λ _ row. RefersToNone rows row} {Q = HasKind rows UnknownRef} (λ i row h. (id_of row, [], (h, refl, refl)))
+  (λ i row h. h.2.0) rows r
 
   pub finds_not_mutual : FindsFirst (λ _ row. (name : List ℕ) × IsNotReferredBack rows row name) rows r → FindsFirst (HasKind rows NotMutual) rows r
-  finds_not_mutual = finds_as {P = λ _ row. (name : List ℕ) × IsNotReferredBack rows row name} {Q = HasKind rows NotMutual} (λ i row h. (id_of row, h.0, (h.1, refl))) (λ i row h. (h.1, h.2.0)) rows r
+  finds_not_mutual = finds_as {P = λ _ row. (name : List ℕ) × IsNotReferredBack rows row name} {Q = HasKind rows NotMutual}
+  (λ i row h. (id_of row, h.0, (h.1, refl))) (λ i row h. (h.1, h.2.0)) rows r
 
   pub finds_self_ref : FindsFirst (λ _ row. RefersToItself row) rows r → FindsFirst (HasKind rows SelfRef) rows r
   finds_self_ref = finds_as {P = λ _ row. RefersToItself row} {Q = HasKind rows SelfRef} (λ i row h. (id_of row, [], (h, refl, refl))) (λ i row h. h.2.0) rows r
 
   pub finds_end_kind : FindsFirst (λ i row. LacksItsParts rows i row) rows r → FindsFirst (HasKind rows EndKind) rows r
-  finds_end_kind = finds_as {P = λ i row. LacksItsParts rows i row} {Q = HasKind rows EndKind} (λ i row h. (id_of row, [], (h, refl, refl))) (λ i row h. h.2.0) rows r
+  finds_end_kind = finds_as {P = λ i row. LacksItsParts rows i row} {Q = HasKind rows EndKind} (λ i row h. (id_of row, [], (h, refl, refl))) (λ i row h. h.2.0)
+  rows r
 
   pub finds_course : FindsFirst (λ _ row. HasBadCourse rows row) rows r → FindsFirst (HasKind rows Course) rows r
   finds_course = finds_as {P = λ _ row. HasBadCourse rows row} {Q = HasKind rows Course} (λ i row h. (id_of row, [], (h, refl, refl))) (λ i row h. h.2.0) rows r
 
   pub finds_orientation : FindsFirst (λ _ row. HasBadOrientation rows row) rows r → FindsFirst (HasKind rows Orientation) rows r
-  finds_orientation = finds_as {P = λ _ row. HasBadOrientation rows row} {Q = HasKind rows Orientation} (λ i row h. (id_of row, [], (h, refl, refl))) (λ i row h. h.2.0) rows r
+  finds_orientation = finds_as {P = λ _ row. HasBadOrientation rows row} {Q = HasKind rows Orientation} (λ i row h. (id_of row, [], (h, refl, refl)))
+  (λ i row h. h.2.0) rows r
 
   pub finds_outside : FindsFirst (λ _ row. LiesOutside rows row row.kind) rows r → FindsFirst (HasKind rows OutsideTrack) rows r
-  finds_outside = finds_as {P = λ _ row. LiesOutside rows row row.kind} {Q = HasKind rows OutsideTrack} (λ i row h. (id_of row, [], (h, refl, refl))) (λ i row h. h.2.0) rows r
+  finds_outside = finds_as {P = λ _ row. LiesOutside rows row row.kind} {Q = HasKind rows OutsideTrack} (λ i row h. (id_of row, [], (h, refl, refl)))
+  (λ i row h. h.2.0) rows r
 
 -- ---- too many tracks
 
@@ -144,7 +158,8 @@ numbers_within : (p : Elem → Bool) (n : ℕ) (rows : List Elem) (k m : ℕ) �
 numbers_within p n [] k m h = absurd (none-some m h)
 numbers_within p n (row ∷ rows) k m h = by (p row) k h (λ j at. numbers_within p (suc n) rows j m at)
   where
-    by : (b : Bool) (k : ℕ) → slice_get (if b then n ∷ numbers_from p (suc n) rows else numbers_from p (suc n) rows) k ≡ Some m → ((j : ℕ) → slice_get (numbers_from p (suc n) rows) j ≡ Some m → m < suc n + length rows) → m < n + length (row ∷ rows)
+    by : (b : Bool) (k : ℕ) → slice_get (if b then n ∷ numbers_from p (suc n) rows else numbers_from p (suc n) rows) k ≡ Some m →
+    ((j : ℕ) → slice_get (numbers_from p (suc n) rows) j ≡ Some m → m < suc n + length rows) → m < n + length (row ∷ rows)
     by true zero h rest = let same : n ≡ m = same_Some n m h in omega arith
     by true (suc k) h rest = let less = rest k h in omega arith
     by false k h rest = let less = rest k h in omega arith

@@ -1,5 +1,6 @@
 -- Ids by their numbers, a row at a time.
-use Rattle.std.proofs.Common.{◌≡◌, ◌⊎◌, ℕ, ◌<◌, ◌≤◌, ◌+◌, Bool, true, false, true≢false, List, [], length, Option, Some, None, slice_get, get_or, refl, sym, ◌∙◌, ap, subst, inl, inr, arith, if◌then◌else◌}
+use Rattle.std.proofs.Common.{◌≡◌, ◌⊎◌, ℕ, ◌<◌, ◌≤◌, ◌+◌, Bool, true, false, true≢false, List, [], length, Option, Some, None, slice_get, get_or, refl, sym}
+use Rattle.std.proofs.Common.{◌∙◌, ap, subst, inl, inr, arith, if◌then◌else◌}
 use Rattle.std.proofs.lemmas.Bool.{cases_lt}
 use Rattle.std.proofs.lemmas.Option.{slice_get_read, same_Some, none-some}
 use Rattle.std.proofs.lemmas.Slice.Eq.{bytes_eq-Decides}
@@ -31,14 +32,16 @@ later : (id_at : Elem → Option (List ℕ)) (rows : List Elem) (n j : ℕ) (id 
 later id_at rows n j id h = record { row = h.row; before = (let b = h.before in omega arith); is = h.is; has = h.has }
 
 -- what a row has is what it has as the last of the rows
-pub last_has : (id_at : Elem → Option (List ℕ)) (rows : List Elem) (n : ℕ) (row : Elem) → slice_get rows n ≡ Some row → (j : ℕ) (id : List ℕ) → HasIdAt id_at rows (n + 1) j id → n ≤ j → id_at row ≡ Some id
+pub last_has : (id_at : Elem → Option (List ℕ)) (rows : List Elem) (n : ℕ) (row : Elem) → slice_get rows n ≡ Some row → (j : ℕ) (id : List ℕ) →
+    HasIdAt id_at rows (n + 1) j id → n ≤ j → id_at row ≡ Some id
 last_has id_at rows n row at j id h from =
     let before : j < n + 1 = h.before in
     let same : j ≡ n = omega arith in
     ap id_at (one_row rows n row h.row at (subst (λ k. slice_get rows k ≡ Some h.row) same h.is)) ∙ h.has
 
 -- any other has it among those before
-pub earlier_has : (id_at : Elem → Option (List ℕ)) (rows : List Elem) (n j : ℕ) (id : List ℕ) → HasIdAt id_at rows (n + 1) j id → j < n → HasIdAt id_at rows n j id
+pub earlier_has : (id_at : Elem → Option (List ℕ)) (rows : List Elem) (n j : ℕ) (id : List ℕ) → HasIdAt id_at rows (n + 1) j id → j < n →
+    HasIdAt id_at rows n j id
 earlier_has id_at rows n j id h before = record { row = h.row; before = before; is = h.is; has = h.has }
 
 module _ (id_at : Elem → Option (List ℕ)) (rows : List Elem) where
@@ -51,7 +54,8 @@ module _ (id_at : Elem → Option (List ℕ)) (rows : List Elem) where
       none : (id : List ℕ) → number_in numbers id ≡ None
       none id = ap (lookup (is_at (λ (k : Bor (List ℕ)). slice_cmp nat_cmp id k.now))) empty
 
-  pub keeps_more : (n : ℕ) (row : Elem) (old new : BTreeMap (Bor (List ℕ)) ℕ) → KeepsIds id_at rows n old → n < length rows → row ≡ get_or rows n row → AddsId old new (id_at row) n → KeepsIds id_at rows (n + 1) new
+  pub keeps_more : (n : ℕ) (row : Elem) (old new : BTreeMap (Bor (List ℕ)) ℕ) → KeepsIds id_at rows n old → n < length rows → row ≡ get_or rows n row →
+  AddsId old new (id_at row) n → KeepsIds id_at rows (n + 1) new
   keeps_more n row old new kept within is adds = by (id_at row) refl adds
     where
       at : slice_get rows n ≡ Some row
@@ -77,16 +81,19 @@ module _ (id_at : Elem → Option (List ℕ)) (rows : List Elem) where
         missed = λ id j gone has. missed_by (bytes_eq own id) id j refl (sym (numbers id) ∙ gone) has (cases_lt j n);
       }
         where
-          found_by : (b : Bool) (id : List ℕ) (j : ℕ) → bytes_eq own id ≡ b → (if bytes_eq own id then Some n else number_in old id) ≡ Some j → HasIdAt id_at rows (n + 1) j id
+          found_by : (b : Bool) (id : List ℕ) (j : ℕ) → bytes_eq own id ≡ b → (if bytes_eq own id then Some n else number_in old id) ≡ Some j →
+          HasIdAt id_at rows (n + 1) j id
           found_by true id j t there =
               let same : n ≡ j = same_Some n j (sym (ap (λ c. if c then Some n else number_in old id) t) ∙ there) in
               let own_is : own ≡ id = (bytes_eq-Decides own id).0 t in
               record { row = row; before = omega arith; is = subst (λ k. slice_get rows k ≡ Some row) same at; has = e ∙ ap (λ i. Some i) own_is }
           found_by false id j t there = later id_at rows n j id (kept.found id j (sym (ap (λ c. if c then Some n else number_in old id) t) ∙ there))
 
-          missed_by : (b : Bool) (id : List ℕ) (j : ℕ) → bytes_eq own id ≡ b → (if bytes_eq own id then Some n else number_in old id) ≡ None → HasIdAt id_at rows (n + 1) j id → (j < n) ⊎ (n ≤ j) → ⊥
+          missed_by : (b : Bool) (id : List ℕ) (j : ℕ) → bytes_eq own id ≡ b → (if bytes_eq own id then Some n else number_in old id) ≡ None →
+          HasIdAt id_at rows (n + 1) j id → (j < n) ⊎ (n ≤ j) → ⊥
           missed_by true id j t gone has order = none-some n (sym gone ∙ ap (λ c. if c then Some n else number_in old id) t)
-          missed_by false id j t gone has (inl before) = kept.missed id j (sym (ap (λ c. if c then Some n else number_in old id) t) ∙ gone) (earlier j id has before)
+          missed_by false id j t gone has (inl before) = kept.missed id j (sym (ap (λ c. if c then Some n else number_in old id) t)
+          ∙ gone) (earlier j id has before)
           missed_by false id j t gone has (inr from) =
               let own_is : own ≡ id = same_Some own id (sym e ∙ here j id has from) in
               true≢false (sym ((bytes_eq-Decides own id).1 own_is) ∙ t)
@@ -99,7 +106,8 @@ bears rows n j id h = let parts = under (bears_id h.row.kind) h.row.attrs.id id 
 pub owns : (rows : List Elem) (j : ℕ) (id : List ℕ) (h : BearsId rows j id) → own_id h.row ≡ Some id
 owns rows j id h = ap (λ b. if b then h.row.attrs.id else None) h.bears ∙ h.has
 
-module _ (rows : List Elem) (n : ℕ) (row : Elem) (old : BTreeMap (Bor (List ℕ)) ℕ) (kept : KeepsIds own_id rows n old) (within : n < length rows) (is : row ≡ get_or rows n row) where
+module _ (rows : List Elem) (n : ℕ) (row : Elem) (old : BTreeMap (Bor (List ℕ)) ℕ) (kept : KeepsIds own_id rows n old) (within : n < length rows)
+    (is : row ≡ get_or rows n row) where
   pub repeats_again : IsKnownId old (own_id row) → Repeats rows n
   repeats_again again = by (own_id row) refl again
     where

@@ -7,7 +7,8 @@ use Rattle.railml_read.specs.Formed.{AreFormed}
 use Rattle.railml_faults.specs.declared.attributes.Attribute.{Attribute}
 use Rattle.railml_faults.specs.declared.attributes.Attribute.TheVariants as attributes
 use Rattle.railml_faults.specs.declared.fault.TopologyWhat.{TopologyWhat}
-use Rattle.railml_faults.specs.declared.fault.TopologyWhat.TheVariants.{NoTracks, TooMany, Missing, Id, RepeatedId, Number, UnknownRef, NotMutual, SelfRef, EndKind, Course, Orientation, OutsideTrack}
+use Rattle.railml_faults.specs.declared.fault.TopologyWhat.TheVariants.{NoTracks, TooMany, Missing, Id, RepeatedId, Number, UnknownRef, NotMutual, SelfRef}
+use Rattle.railml_faults.specs.declared.fault.TopologyWhat.TheVariants.{EndKind, Course, Orientation, OutsideTrack}
 use Rattle.railml_faults.specs.Rows.{attribute_name, BearsId}
 use Rattle.railml_faults.specs.Faults.{HasNoNumber, HasTopologyFault, HasFaultAt, HasNoTracks, IsTopologyFault, IsFirstTopologyFault, number_of}
 use Rattle.railml_faults.proofs.IdLemmas.{one_row}
@@ -43,7 +44,8 @@ module _ (rows : List Elem) (i : ℕ) (row : Elem) (first second one other : Lis
   both : {x y : List ℕ} → (first ≡ x) → (second ≡ y) → (one ≡ x) → (other ≡ y) → (first ≡ one) × (second ≡ other)
   both f s g t = (f ∙ sym g, s ∙ sym t)
 
-  one_telling : (what : TopologyWhat) → HasTopologyFault rows what i row first second → HasTopologyFault rows what i row one other → (first ≡ one) × (second ≡ other)
+  one_telling : (what : TopologyWhat) → HasTopologyFault rows what i row first second → HasTopologyFault rows what i row one other →
+  (first ≡ one) × (second ≡ other)
   one_telling NoTracks h k = absurd h
   one_telling TooMany h k = both h.1 h.2 k.1 k.2
   one_telling Missing h k =
@@ -75,7 +77,8 @@ module _ (rows : List Elem) (at : ℕ) (first second one other : List ℕ) (form
       let number : k.number ≡ h.number = one_place rows k.number h.number k.row h.row formed k.is h.is (sym k.place ∙ h.place) in
       let here : slice_get rows h.number ≡ Some k.row = subst (λ j. slice_get rows j ≡ Some k.row) number k.is in
       let row : k.row ≡ h.row = one_row rows h.number k.row h.row here h.is in
-      one_telling rows h.number h.row first second one other what h.fault (subst (λ (e : Elem). HasTopologyFault rows what h.number e one other) row (subst (λ j. HasTopologyFault rows what j k.row one other) number k.fault))
+      one_telling rows h.number h.row first second one other what h.fault (subst (λ (e : Elem). HasTopologyFault rows what h.number e one other) row
+      (subst (λ j. HasTopologyFault rows what j k.row one other) number k.fault))
 
   same_texts : (what : TopologyWhat) → IsTopologyFault rows what at first second → IsTopologyFault rows what at one other → (first ≡ one) × (second ≡ other)
   same_texts what h k = by (fault_at rows at first second what h) (fault_at rows at one other what k)
@@ -84,7 +87,8 @@ module _ (rows : List Elem) (at : ℕ) (first second one other : List ℕ) (form
       of_no_row : (a b : List ℕ) → HasFaultAt rows what at a b → what ≡ NoTracks → ⊥
       of_no_row a b k none = subst (λ (w : TopologyWhat). HasTopologyFault rows w k.number k.row a b) none k.fault
 
-      by : ((what ≡ NoTracks) × HasNoTracks rows at first second) ⊎ HasFaultAt rows what at first second → ((what ≡ NoTracks) × HasNoTracks rows at one other) ⊎ HasFaultAt rows what at one other → (first ≡ one) × (second ≡ other)
+      by : ((what ≡ NoTracks) × HasNoTracks rows at first second) ⊎ HasFaultAt rows what at first second →
+      ((what ≡ NoTracks) × HasNoTracks rows at one other) ⊎ HasFaultAt rows what at one other → (first ≡ one) × (second ≡ other)
       by (inl h) (inl k) = (h.1.no_first ∙ sym k.1.no_first, h.1.no_second ∙ sym k.1.no_second)
       by (inl h) (inr k) = absurd (of_no_row one other k h.0)
       by (inr h) (inl k) = absurd (of_no_row first second h k.0)
@@ -99,10 +103,12 @@ level m n below above = by (cases_lt m n) (cases_lt n m)
     by (inr from) (inl less) = absurd (above less)
     by (inr from) (inr to) = omega arith
 
-pub one_first_fault : (rows : List Elem) (a b : TopologyWhat) (at place : ℕ) (first second one other : List ℕ) → AreFormed rows → IsFirstTopologyFault rows a at first second → IsFirstTopologyFault rows b place one other
+pub one_first_fault : (rows : List Elem) (a b : TopologyWhat) (at place : ℕ) (first second one other : List ℕ) → AreFormed rows →
+    IsFirstTopologyFault rows a at first second → IsFirstTopologyFault rows b place one other
     → (a ≡ b) × (at ≡ place) × (first ≡ one) × (second ≡ other)
 one_first_fault rows a b at place first second one other formed h k =
-    let kind : b ≡ a = one_kind b a (level (number_of b) (number_of a) (λ less. h.lowest b place one other less k.holds) (λ less. k.lowest a at first second less h.holds)) in
+    let kind : b ≡ a = one_kind b a (level (number_of b) (number_of a) (λ less. h.lowest b place one other less k.holds)
+    (λ less. k.lowest a at first second less h.holds)) in
     let k' : IsFirstTopologyFault rows a place one other = subst (λ (what : TopologyWhat). IsFirstTopologyFault rows what place one other) kind k in
     let spot : place ≡ at = level place at (λ less. h.least place one other less k'.holds) (λ less. k'.least at first second less h.holds) in
     let texts = same_texts rows at first second one other formed a h.holds (subst (λ n. IsTopologyFault rows a n one other) spot k'.holds) in

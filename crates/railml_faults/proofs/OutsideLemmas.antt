@@ -13,14 +13,16 @@ use Rattle.railml_read.specs.Formed.{AreFormed}
 use Rattle.railml_faults.specs.declared.tables.Tables.{Tables}
 use Rattle.railml_faults.specs.Rows.{children, HasPosition, HasOnBeside}
 use Rattle.railml_faults.specs.Faults.{IsBeforeBegin, IsBehindEnd, LiesOutside}
-use Rattle.railml_faults.specs.Tables.{IsPositionOf, HasPositions, HasOnlyChildren, AreTablesOf, IsLess, entry_in, beside_in, IsBeforeBeginBy, IsBehindEndBy, LiesOutsideBy}
+use Rattle.railml_faults.specs.Tables.{IsPositionOf, HasPositions, HasOnlyChildren, AreTablesOf, IsLess, entry_in, beside_in, IsBeforeBeginBy, IsBehindEndBy}
+use Rattle.railml_faults.specs.Tables.{LiesOutsideBy}
 use Rattle.railml_faults.proofs.ChildLemmas.{parent_earlier}
 use Rattle.railml_faults.proofs.PartLemmas.{entry_at, child_within, only_child, only_child_entry}
 
 -- ---- positions by the table
 
 -- row i's own position
-own_position : (rows : List Elem) (table : List (Option Micro)) (i : ℕ) (row : Elem) → HasPositions rows table → slice_get rows i ≡ Some row → IsPositionOf row (entry_in table i)
+own_position : (rows : List Elem) (table : List (Option Micro)) (i : ℕ) (row : Elem) → HasPositions rows table → slice_get rows i ≡ Some row →
+    IsPositionOf row (entry_in table i)
 own_position rows table i row has at =
     let h = entry_at (λ j (p : Option Micro). (e : Elem) → slice_get rows j ≡ Some e → IsPositionOf e p) rows table i has (slice_get_within rows i row at) in
     subst (IsPositionOf row) (sym (ap (option_and_then (λ x. x)) h.1)) (h.2 row at)
@@ -43,17 +45,20 @@ module _ (rows : List Elem) (kind : ElemKind) (only : List (Option ℕ)) (positi
   beside_is : (m : Micro) → beside_in only positions row ≡ Some m → (other : Elem) × HasOnBeside rows row kind other × HasPosition other m.0
   beside_is m h = by (row.parent) refl h
     where
-      last : (t c : ℕ) → row.parent ≡ Some t → children rows t kind ≡ c ∷ [] → (o : Option (Option Micro)) → slice_get positions c ≡ o → option_and_then (λ x. x) o ≡ Some m → (other : Elem) × HasOnBeside rows row kind other × HasPosition other m.0
+      last : (t c : ℕ) → row.parent ≡ Some t → children rows t kind ≡ c ∷ [] → (o : Option (Option Micro)) → slice_get positions c ≡ o →
+      option_and_then (λ x. x) o ≡ Some m → (other : Elem) × HasOnBeside rows row kind other × HasPosition other m.0
       last t c inside one None e h = absurd (none-some m h)
       last t c inside one (Some p) e h =
           let other = get_within rows c (child_within rows kind t c one) in
           (other.0, record { topology = t; number = c; inside = inside; only = one; is = other.1 }, kept_is other.0 p m (has.entry c p e other.0 other.1) h)
 
-      second : (t : ℕ) → row.parent ≡ Some t → (o : Option ℕ) → entry_in only t ≡ o → option_and_then (entry_in positions) o ≡ Some m → (other : Elem) × HasOnBeside rows row kind other × HasPosition other m.0
+      second : (t : ℕ) → row.parent ≡ Some t → (o : Option ℕ) → entry_in only t ≡ o → option_and_then (entry_in positions) o ≡ Some m →
+      (other : Elem) × HasOnBeside rows row kind other × HasPosition other m.0
       second t inside None e h = absurd (none-some m h)
       second t inside (Some c) e h = last t c inside (only_child rows kind only t c has_only (topology_within t inside) e) (slice_get positions c) refl h
 
-      by : (o : Option ℕ) → row.parent ≡ o → option_and_then (entry_in positions) (option_and_then (entry_in only) o) ≡ Some m → (other : Elem) × HasOnBeside rows row kind other × HasPosition other m.0
+      by : (o : Option ℕ) → row.parent ≡ o → option_and_then (entry_in positions) (option_and_then (entry_in only) o) ≡ Some m →
+      (other : Elem) × HasOnBeside rows row kind other × HasPosition other m.0
       by None e h = absurd (none-some m h)
       by (Some t) e h = second t e (entry_in only t) refl h
 
@@ -61,7 +66,8 @@ module _ (rows : List Elem) (kind : ElemKind) (only : List (Option ℕ)) (positi
   is_beside other z b p =
       let kept = is_kept other (entry_in positions b.number) z (own_position rows positions b.number other has b.is) p in
       let one = only_child_entry rows kind only b.topology b.number has_only (topology_within b.topology b.inside) b.only in
-      (kept.0, ap (λ o. option_and_then (entry_in positions) (option_and_then (entry_in only) o)) b.inside ∙ (ap (option_and_then (entry_in positions)) one ∙ kept.1), kept.2)
+      (kept.0, ap (λ o. option_and_then (entry_in positions) (option_and_then (entry_in only) o)) b.inside
+      ∙ (ap (option_and_then (entry_in positions)) one ∙ kept.1), kept.2)
 
 -- ---- the two ways to lie outside
 
@@ -86,7 +92,9 @@ module _ (rows : List Elem) (t : Tables) (i : ℕ) (row : Elem) (formed : AreFor
       let beside = beside_in t.begins.items t.positions.items row in
       let both = less_both here beside h in
       let begin = beside_is rows Begin t.begins.items t.positions.items i row formed tables.begins tables.positions at both.2 both.3 in
-      (begin.0, begin.1, record { from = both.0.0; to = both.2.0; a_at = kept_is row here both.0 own both.1; b_at = begin.2; less = less_some here beside h both.0 both.2 both.1 both.3 })
+      (begin.0, begin.1, record {
+      from = both.0.0; to = both.2.0; a_at = kept_is row here both.0 own both.1; b_at = begin.2; less = less_some here beside h both.0 both.2 both.1 both.3
+      })
 
   before_begin_by : IsBeforeBegin rows row → IsBeforeBeginBy t i row
   before_begin_by h =
@@ -103,7 +111,9 @@ module _ (rows : List Elem) (t : Tables) (i : ℕ) (row : Elem) (formed : AreFor
       let beside = beside_in t.ends.items t.positions.items row in
       let both = less_both beside here h in
       let end = beside_is rows End t.ends.items t.positions.items i row formed tables.ends tables.positions at both.0 both.1 in
-      (end.0, end.1, record { from = both.0.0; to = both.2.0; a_at = end.2; b_at = kept_is row here both.2 own both.3; less = less_some beside here h both.0 both.2 both.1 both.3 })
+      (end.0, end.1, record {
+      from = both.0.0; to = both.2.0; a_at = end.2; b_at = kept_is row here both.2 own both.3; less = less_some beside here h both.0 both.2 both.1 both.3
+      })
 
   behind_end_by : IsBehindEnd rows row → IsBehindEndBy t i row
   behind_end_by h =

@@ -1,5 +1,6 @@
 -- Parts of elements, by the tables.
-use Rattle.std.proofs.Common.{◌≡◌, ◌⊎◌, inl, inr, ℕ, ◌<◌, ◌==◌, Bool, true, false, true≢false, List, [], ◌∷◌, length, filter, Option, Some, None, is_some, slice_get, refl, sym, ◌∙◌, ap, subst, arith, if◌then◌else◌}
+use Rattle.std.proofs.Common.{◌≡◌, ◌⊎◌, inl, inr, ℕ, ◌<◌, ◌==◌, Bool, true, false, true≢false, List, [], ◌∷◌, length, filter, Option, Some, None, is_some}
+use Rattle.std.proofs.Common.{slice_get, refl, sym, ◌∙◌, ap, subst, arith, if◌then◌else◌}
 use Rattle.std.proofs.lemmas.Option.{same_Some, none-some, some_pair_parts}
 use Rattle.std.proofs.lemmas.Bool.{eqb-true, eq-eqb}
 use Rattle.std.specs.Prelude.{IsTrue}
@@ -23,7 +24,8 @@ some_of (Some x) h = (x, refl)
 -- ---- entries of tables
 
 -- within the rows there is an entry
-pub entry_at : {X : Type 0} (Q : ℕ → X → Type 0) (rows : List Elem) (table : List X) (i : ℕ) → HasEntries Q rows table → i < length rows → (x : X) × (slice_get table i ≡ Some x) × Q i x
+pub entry_at : {X : Type 0} (Q : ℕ → X → Type 0) (rows : List Elem) (table : List X) (i : ℕ) → HasEntries Q rows table → i < length rows →
+    (x : X) × (slice_get table i ≡ Some x) × Q i x
 entry_at {X} Q rows table i has within =
     let inside : i < length table = omega (arith, has.whole) in
     let h = get_within table i inside in
@@ -44,13 +46,17 @@ first_passed p (d ∷ list) c more h = by (p d) refl h (first_passed p list c mo
     by false e h rest = rest h
 
 -- the entry of a row in a table of only children
-pub only_entry_is : (rows : List Elem) (kind : ElemKind) (table : List (Option ℕ)) (i : ℕ) → HasOnlyChildren rows kind table → i < length rows → entry_in table i ≡ only_of (children rows i kind)
-only_entry_is rows kind table i has within = let h = entry_at (λ j (only : Option ℕ). only ≡ only_of (children rows j kind)) rows table i has within in ap (option_and_then (λ x. x)) h.1 ∙ h.2
+pub only_entry_is : (rows : List Elem) (kind : ElemKind) (table : List (Option ℕ)) (i : ℕ) → HasOnlyChildren rows kind table → i < length rows →
+    entry_in table i ≡ only_of (children rows i kind)
+only_entry_is rows kind table i has within = let h = entry_at (λ j (only : Option ℕ). only ≡ only_of (children rows j kind)) rows table i has within in ap
+    (option_and_then (λ x. x)) h.1 ∙ h.2
 
-pub only_child : (rows : List Elem) (kind : ElemKind) (table : List (Option ℕ)) (i c : ℕ) → HasOnlyChildren rows kind table → i < length rows → entry_in table i ≡ Some c → children rows i kind ≡ c ∷ []
+pub only_child : (rows : List Elem) (kind : ElemKind) (table : List (Option ℕ)) (i c : ℕ) → HasOnlyChildren rows kind table → i < length rows →
+    entry_in table i ≡ Some c → children rows i kind ≡ c ∷ []
 only_child rows kind table i c has within at = only_some (children rows i kind) c (sym (only_entry_is rows kind table i has within) ∙ at)
 
-pub only_child_entry : (rows : List Elem) (kind : ElemKind) (table : List (Option ℕ)) (i c : ℕ) → HasOnlyChildren rows kind table → i < length rows → children rows i kind ≡ c ∷ [] → entry_in table i ≡ Some c
+pub only_child_entry : (rows : List Elem) (kind : ElemKind) (table : List (Option ℕ)) (i c : ℕ) → HasOnlyChildren rows kind table → i < length rows →
+    children rows i kind ≡ c ∷ [] → entry_in table i ≡ Some c
 only_child_entry rows kind table i c has within is = only_entry_is rows kind table i has within ∙ ap only_of is
 
 pub child_within : (rows : List Elem) (kind : ElemKind) (i c : ℕ) → children rows i kind ≡ c ∷ [] → c < length rows
@@ -58,7 +64,8 @@ child_within rows kind i c is = within_of_kind rows kind c (first_passed (is_of_
 
 -- ---- whole tracks
 
-pub whole_by : (t : Tables) (i topology : ℕ) (b : Bool) → entry_in t.topologies.items i ≡ Some topology → is_some (entry_in t.begins.items topology) ≡ true → b ≡ is_some (entry_in t.ends.items topology) → (IsTrue b → IsWholeBy t i) × (IsWholeBy t i → IsTrue b)
+pub whole_by : (t : Tables) (i topology : ℕ) (b : Bool) → entry_in t.topologies.items i ≡ Some topology → is_some (entry_in t.begins.items topology) ≡ true →
+    b ≡ is_some (entry_in t.ends.items topology) → (IsTrue b → IsWholeBy t i) × (IsWholeBy t i → IsTrue b)
 whole_by t i topology b at has_begin is = (yes, no)
   where
     yes : b ≡ true → IsWholeBy t i
@@ -99,7 +106,8 @@ whole_track_by rows t i tables within w =
 
 -- ---- children
 
-pub list_is : (rows : List Elem) (table : List (Vec ℕ Global)) (i : ℕ) (list : List ℕ) → ListsChildren rows table → IsListAt table i list → list ≡ all_children rows i
+pub list_is : (rows : List Elem) (table : List (Vec ℕ Global)) (i : ℕ) (list : List ℕ) → ListsChildren rows table → IsListAt table i list →
+    list ≡ all_children rows i
 list_is rows table i list lists at = at.2 ∙ lists.entry i at.0 at.1
 
 -- a list with one entry
@@ -108,12 +116,23 @@ one_entry [] h = absurd (omega arith)
 one_entry (c ∷ []) h = (c, refl)
 one_entry (c ∷ d ∷ list) h = absurd (omega arith)
 
-pub one_part : (rows : List Elem) (i : ℕ) (list : List ℕ) → list ≡ all_children rows i → (IsTrue (length list == 1) → (part : ℕ) × (all_children rows i ≡ part ∷ [])) × ((part : ℕ) × (all_children rows i ≡ part ∷ []) → IsTrue (length list == 1))
-one_part rows i list is = (λ h. (let one = one_entry list (eqb-true (length list) 1 h) in (one.0, sym is ∙ one.1)), λ p. eq-eqb (length list) 1 (ap length (is ∙ p.1)))
+pub one_part : (rows : List Elem) (i : ℕ) (list : List ℕ) → list ≡ all_children rows i →
+    (IsTrue (length list == 1) → (part : ℕ) × (all_children rows i ≡ part ∷ [])) × ((part : ℕ) × (all_children rows i ≡ part ∷ []) → IsTrue (length list == 1))
+one_part rows i list is = (
+  λ h. (let one = one_entry list (eqb-true (length list) 1 h) in (one.0, sym is ∙ one.1)),
+  λ p. eq-eqb (length list) 1
+      (ap length (is ∙ p.1)),
+)
 
-pub one_connection_part : (rows : List Elem) (t : Tables) (i : ℕ) (b : Bool) → AreTablesOf rows t → i < length rows → b ≡ is_some (entry_in t.connections.items i) → (IsTrue b → (part : ℕ) × (children rows i Connection ≡ part ∷ [])) × ((part : ℕ) × (children rows i Connection ≡ part ∷ []) → IsTrue b)
+pub one_connection_part : (rows : List Elem) (t : Tables) (i : ℕ) (b : Bool) → AreTablesOf rows t → i < length rows →
+    b ≡ is_some (entry_in t.connections.items i) → (IsTrue b → (part : ℕ) × (children rows i Connection ≡ part ∷ [])) ×
+    ((part : ℕ) × (children rows i Connection ≡ part ∷ []) → IsTrue b)
 one_connection_part rows t i b tables within is = (
-  λ h. (let one = some_of (entry_in t.connections.items i) (sym is ∙ h) in (one.0, only_child rows Connection t.connections.items i one.0 tables.connections within one.1)),
+  λ h. (let one = some_of (entry_in t.connections.items i) (sym is ∙ h) in (
+    one.0,
+    only_child rows Connection t.connections.items i one.0 tables.connections
+        within one.1,
+  )),
   λ p. is ∙ ap is_some (only_child_entry rows Connection t.connections.items i p.0 tables.connections within p.1),
 )
 

@@ -1,5 +1,6 @@
 -- What connections refer to.
-use Rattle.std.proofs.Common.{◌≡◌, ◌⊎◌, ℕ, ◌<◌, ◌≤◌, Bool, true, false, ◌&&◌, true≢false, List, length, Option, Some, None, is_some, slice_get, get_or, refl, sym, ◌∙◌, ap, subst, inl, inr, arith, if◌then◌else◌}
+use Rattle.std.proofs.Common.{◌≡◌, ◌⊎◌, ℕ, ◌<◌, ◌≤◌, Bool, true, false, ◌&&◌, true≢false, List, length, Option, Some, None, is_some, slice_get, get_or, refl}
+use Rattle.std.proofs.Common.{sym, ◌∙◌, ap, subst, inl, inr, arith, if◌then◌else◌}
 use Rattle.std.proofs.lemmas.Bool.{cases_lt}
 use Rattle.std.proofs.lemmas.Option.{same_Some, none-some, slice_get_within, slice_get-get_or}
 use Rattle.std.specs.Borrow.{Bor}
@@ -19,30 +20,39 @@ is_connection Connection h = refl
 is_connection kind h = absurd (true≢false (sym h))
 
 refers : (row : Elem) (name : List ℕ) → reference_of row ≡ Some name → RefersTo row name
-refers row name h = let parts = under (same_kind row.kind Connection) row.attrs.reference name h in record { connection = is_connection row.kind parts.0; refers = parts.1 }
+refers row name h = let parts = under (same_kind row.kind Connection) row.attrs.reference name h in record {
+    connection = is_connection row.kind parts.0; refers = parts.1
+    }
 
 reference : (row : Elem) (name : List ℕ) → RefersTo row name → reference_of row ≡ Some name
 reference row name h = ap (λ k. if same_kind k Connection then row.attrs.reference else None) h.connection ∙ h.refers
 
 named : (rows : List Elem) (n j : ℕ) (id : List ℕ) (h : HasIdAt connection_id rows n j id) → IsConnectionNamed rows j id h.row
-named rows n j id h = let parts = under (same_kind h.row.kind Connection) h.row.attrs.id id h.has in record { is = h.is; connection = is_connection h.row.kind parts.0; has = parts.1 }
+named rows n j id h = let parts = under (same_kind h.row.kind Connection) h.row.attrs.id id h.has in record {
+    is = h.is; connection = is_connection h.row.kind parts.0; has = parts.1
+    }
 
 names : (row : Elem) (id : List ℕ) → row.kind ≡ Connection → row.attrs.id ≡ Some id → connection_id row ≡ Some id
 names row id kind has = ap (λ k. if same_kind k Connection then row.attrs.id else None) kind ∙ has
 
 -- ---- the table of what is referred to
 
-pub target_entry : (rows : List Elem) (numbers : BTreeMap (Bor (List ℕ)) ℕ) (row : Elem) (target : Option ℕ) → KeepsIds connection_id rows (length rows) numbers → target ≡ option_and_then (number_in numbers) (reference_of row) → IsTargetOf rows row target
+pub target_entry : (rows : List Elem) (numbers : BTreeMap (Bor (List ℕ)) ℕ) (row : Elem) (target : Option ℕ) →
+    KeepsIds connection_id rows (length rows) numbers → target ≡ option_and_then (number_in numbers) (reference_of row) → IsTargetOf rows row target
 target_entry rows numbers row target kept is = subst (IsTargetOf rows row) (sym is) (by (reference_of row) refl)
   where
     unnamed : (name : List ℕ) → reference_of row ≡ Some name → number_in numbers name ≡ None → (j : ℕ) → IsReferredTo rows row j → ⊥
     unnamed name e gone j h =
         let same : name ≡ h.name = same_Some name h.name (sym e ∙ reference row h.name h.refers) in
-        kept.missed h.name j (subst (λ q. number_in numbers q ≡ None) same gone) (record { row = h.other; before = slice_get_within rows j h.other h.named.is; is = h.named.is; has = names h.other h.name h.named.connection h.named.has })
+        kept.missed h.name j (subst (λ q. number_in numbers q ≡ None) same gone) (record {
+        row = h.other; before = slice_get_within rows j h.other h.named.is; is = h.named.is; has = names h.other h.name h.named.connection h.named.has
+        })
 
     found : (name : List ℕ) → reference_of row ≡ Some name → (o : Option ℕ) → number_in numbers name ≡ o → IsTargetOf rows row o
     found name e None gone = unnamed name e gone
-    found name e (Some j) at = let h = kept.found name j at in record { name = name; other = h.row; refers = refers row name e; named = named rows (length rows) j name h }
+    found name e (Some j) at = let h = kept.found name j at in record {
+    name = name; other = h.row; refers = refers row name e; named = named rows (length rows) j name h
+    }
 
     by : (o : Option (List ℕ)) → reference_of row ≡ o → IsTargetOf rows row (option_and_then (number_in numbers) o)
     by None e = λ j h. none-some h.name (sym e ∙ reference row h.name h.refers)
@@ -50,19 +60,23 @@ target_entry rows numbers row target kept is = subst (IsTargetOf rows row) (sym 
 
 -- ---- references to nothing
 
-pub unknown : (rows : List Elem) (row : Elem) (target : Option ℕ) → IsTargetOf rows row target → (is_some (reference_of row) && is_none target) ≡ true → RefersToNone rows row
+pub unknown : (rows : List Elem) (row : Elem) (target : Option ℕ) → IsTargetOf rows row target → (is_some (reference_of row) && is_none target) ≡ true →
+    RefersToNone rows row
 unknown rows row None t h = by (reference_of row) refl h
   where
     by : (o : Option (List ℕ)) → reference_of row ≡ o → (is_some o && true) ≡ true → RefersToNone rows row
     by None e h = absurd (true≢false (sym h))
-    by (Some name) e h = record { name = name; refers = refers row name e; none = λ j other there. t j (record { name = name; other = other; refers = refers row name e; named = there }) }
+    by (Some name) e h = record {
+    name = name; refers = refers row name e; none = λ j other there. t j (record { name = name; other = other; refers = refers row name e; named = there })
+    }
 unknown rows row (Some j) t h = by (is_some (reference_of row)) h
   where
     by : (b : Bool) → (b && false) ≡ true → RefersToNone rows row
     by true h = absurd (true≢false (sym h))
     by false h = absurd (true≢false (sym h))
 
-pub known : (rows : List Elem) (row : Elem) (target : Option ℕ) → IsTargetOf rows row target → (is_some (reference_of row) && is_none target) ≡ false → RefersToNone rows row → ⊥
+pub known : (rows : List Elem) (row : Elem) (target : Option ℕ) → IsTargetOf rows row target → (is_some (reference_of row) && is_none target) ≡ false →
+    RefersToNone rows row → ⊥
 known rows row None t h none = true≢false (ap (λ o. is_some o && true) (sym (reference row none.name none.refers)) ∙ h)
 known rows row (Some j) t h none =
     let same : t.name ≡ none.name = same_Some t.name none.name (sym (reference row t.name t.refers) ∙ reference row none.name none.refers) in
@@ -70,25 +84,32 @@ known rows row (Some j) t h none =
 
 -- ---- references that aren't answered
 
-pub not_answered : (rows : List Elem) (row : Elem) (target : Option ℕ) → IsTargetOf rows row target → IsNotAnswered rows row target → (name : List ℕ) × IsNotReferredBack rows row name
+pub not_answered : (rows : List Elem) (row : Elem) (target : Option ℕ) → IsTargetOf rows row target → IsNotAnswered rows row target →
+    (name : List ℕ) × IsNotReferredBack rows row name
 not_answered rows row None t h = absurd h
 not_answered rows row (Some j) t h =
     let same : h.0 ≡ t.other = one_row rows j h.0 t.other h.1 t.named.is in
-    (t.name, record { refers = t.refers; number = j; other = t.other; named = t.named; elsewhere = subst (λ (e : Elem). e.attrs.reference ≡ Some (id_of row) → ⊥) same h.2 })
+    (t.name, record {
+    refers = t.refers; number = j; other = t.other; named = t.named; elsewhere = subst (λ (e : Elem). e.attrs.reference ≡ Some (id_of row) → ⊥) same h.2
+    })
 
 bears : (rows : List Elem) (j : ℕ) (id : List ℕ) (row : Elem) → IsConnectionNamed rows j id row → BearsId rows j id
 bears rows j id row h = record { row = row; is = h.is; bears = ap bears_id h.connection; has = h.has }
 
 -- two connections of one name are one
-one_connection : (rows : List Elem) (i j : ℕ) (id : List ℕ) (a b : Elem) → AreIdsDistinct rows → IsConnectionNamed rows i id a → IsConnectionNamed rows j id b → i ≡ j
+one_connection : (rows : List Elem) (i j : ℕ) (id : List ℕ) (a b : Elem) → AreIdsDistinct rows → IsConnectionNamed rows i id a → IsConnectionNamed rows j id b →
+    i ≡ j
 one_connection rows i j id a b distinct first second = by (cases_lt i j) (cases_lt j i)
   where
     by : (i < j) ⊎ (j ≤ i) → (j < i) ⊎ (i ≤ j) → i ≡ j
     by (inl before) o = absurd (distinct j (id, record { here = bears rows j id b second; earlier = i; before = before; there = bears rows i id a first }))
-    by (inr from) (inl before) = absurd (distinct i (id, record { here = bears rows i id a first; earlier = j; before = before; there = bears rows j id b second }))
+    by (inr from) (inl before) = absurd (distinct i (id, record {
+    here = bears rows i id a first; earlier = j; before = before; there = bears rows j id b second
+    }))
     by (inr from) (inr other) = omega arith
 
-pub answered : (rows : List Elem) (row : Elem) (target : Option ℕ) → AreIdsDistinct rows → IsTargetOf rows row target → (name : List ℕ) × IsNotReferredBack rows row name → IsNotAnswered rows row target
+pub answered : (rows : List Elem) (row : Elem) (target : Option ℕ) → AreIdsDistinct rows → IsTargetOf rows row target →
+    (name : List ℕ) × IsNotReferredBack rows row name → IsNotAnswered rows row target
 answered rows row None distinct t h = absurd (t h.1.number (record { name = h.0; other = h.1.other; refers = h.1.refers; named = h.1.named }))
 answered rows row (Some j) distinct t h =
     let r = h.1 in
@@ -98,7 +119,8 @@ answered rows row (Some j) distinct t h =
     (r.other, subst (λ k. slice_get rows k ≡ Some r.other) one r.named.is, r.elsewhere)
 
 -- what a row refers to, by its place in the table
-pub target_at : (rows : List Elem) (table : List (Option ℕ)) (i : ℕ) (row : Elem) → HasTargets rows table → i < length rows → row ≡ get_or rows i row → IsTargetOf rows row (get_or table i None)
+pub target_at : (rows : List Elem) (table : List (Option ℕ)) (i : ℕ) (row : Elem) → HasTargets rows table → i < length rows → row ≡ get_or rows i row →
+    IsTargetOf rows row (get_or table i None)
 target_at rows table i row targets within is =
     let inside : i < length table = omega (arith, targets.whole) in
     targets.entry i (get_or table i None) (slice_get-get_or table i None inside) row (row_at rows i row within is)

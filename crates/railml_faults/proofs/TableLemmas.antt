@@ -1,11 +1,13 @@
 -- Entries of a table after a push and after a write.
-use Rattle.std.proofs.Common.{◌≡◌, ℕ, suc, zero, ◌+◌, ◌⊎◌, ◌≢◌, List, [], ◌∷◌, ◌++◌, length, Some, slice_get, refl, sym, ◌∙◌, ap, subst, inl, inr, arith, length-append}
+use Rattle.std.proofs.Common.{◌≡◌, ℕ, suc, zero, ◌+◌, ◌⊎◌, ◌≢◌, List, [], ◌∷◌, ◌++◌, length, Some, slice_get, refl, sym, ◌∙◌, ap, subst, inl, inr, arith}
+use Rattle.std.proofs.Common.{length-append}
 use Rattle.std.proofs.Math.ListN.{set}
 use Rattle.std.proofs.lemmas.Option.{same_Some, none-some}
 use Rattle.railml_read.specs.declared.rows.Elem.{Elem}
 use Rattle.railml_faults.specs.Tables.{HasEntries}
 
-pub entry_pushed : {X : Type 0} (xs : List X) (x : X) (k : ℕ) (y : X) → slice_get (xs ++ x ∷ []) k ≡ Some y → (slice_get xs k ≡ Some y) ⊎ ((k ≡ length xs) × (y ≡ x))
+pub entry_pushed : {X : Type 0} (xs : List X) (x : X) (k : ℕ) (y : X) → slice_get (xs ++ x ∷ []) k ≡ Some y →
+    (slice_get xs k ≡ Some y) ⊎ ((k ≡ length xs) × (y ≡ x))
 entry_pushed [] x zero y h = inr (refl, sym (same_Some x y h))
 entry_pushed [] x (suc k) y h = absurd (none-some y h)
 entry_pushed (z ∷ xs) x zero y h = inl h
@@ -15,7 +17,8 @@ entry_pushed (z ∷ xs) x (suc k) y h = by (entry_pushed xs x k y h)
     by (inl e) = inl e
     by (inr e) = inr (ap suc e.0, e.1)
 
-pub entry_written : {X : Type 0} (xs : List X) (i : ℕ) (v : X) (k : ℕ) (y : X) → slice_get (set xs i v) k ≡ Some y → ((k ≡ i) × (y ≡ v)) ⊎ ((k ≢ i) × (slice_get xs k ≡ Some y))
+pub entry_written : {X : Type 0} (xs : List X) (i : ℕ) (v : X) (k : ℕ) (y : X) → slice_get (set xs i v) k ≡ Some y →
+    ((k ≡ i) × (y ≡ v)) ⊎ ((k ≢ i) × (slice_get xs k ≡ Some y))
 entry_written [] i v k y h = absurd (none-some y h)
 entry_written (x ∷ xs) zero v zero y h = inl (refl, sym (same_Some v y h))
 entry_written (x ∷ xs) zero v (suc k) y h = inr ((λ e. omega arith), h)
@@ -41,7 +44,8 @@ pub record HasFirst {X : Type 0} (Q : ℕ → X → Type 0) (n : ℕ) (table : L
 pub none_first : {X : Type 0} (Q : ℕ → X → Type 0) (table : List X) → table ≡ [] → HasFirst Q 0 table
 none_first Q table e = record { counted = ap length e; entry = λ i x at. absurd (none-some x (sym (ap (λ l. slice_get l i) e) ∙ at)) }
 
-pub one_first : {X : Type 0} {Q : ℕ → X → Type 0} {n : ℕ} {table : List X} {x : X} {longer : List X} → HasFirst Q n table → longer ≡ table ++ x ∷ [] → Q n x → HasFirst Q (n + 1) longer
+pub one_first : {X : Type 0} {Q : ℕ → X → Type 0} {n : ℕ} {table : List X} {x : X} {longer : List X} → HasFirst Q n table → longer ≡ table ++ x ∷ [] → Q n x →
+    HasFirst Q (n + 1) longer
 one_first {X} {Q} {n} {table} {x} {longer} h e q = record {
   counted = ap length e ∙ omega (arith, length-append table (x ∷ []), h.counted);
   entry = λ i y at. by i y (entry_pushed table x i y (sym (ap (λ l. slice_get l i) e) ∙ at));

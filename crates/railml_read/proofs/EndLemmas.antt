@@ -1,5 +1,6 @@
 -- All items have gone by: the tree that they spell, its rows, and what may be lacking.
-use Rattle.std.proofs.Common.{◌≡◌, ◌≢◌, ◌⊎◌, ℕ, suc, zero, ◌<◌, Bool, true, false, cond, List, [], ◌∷◌, ◌++◌, length, get_or, refl, sym, ap, ◌∙◌, subst, inl, inr, arith}
+use Rattle.std.proofs.Common.{◌≡◌, ◌≢◌, ◌⊎◌, ℕ, suc, zero, ◌<◌, Bool, true, false, cond, List, [], ◌∷◌, ◌++◌, length, get_or, refl, sym, ap, ◌∙◌, subst, inl}
+use Rattle.std.proofs.Common.{inr, arith}
 use Rattle.std.specs.Prelude.{fold, ◌||◌, codes, Contains, bytes_eq, IsUtf8}
 use Rattle.std.proofs.lemmas.List.{append-nil}
 use Rattle.std.proofs.Math.Bool.{or-false}
@@ -53,7 +54,8 @@ abbrev IsClosing : Tag → Type 0
 IsClosing (opens at name attrs) = ⊥
 IsClosing (closes name) = Unit {0}
 
-first_tag : (at : ℕ) (kind : ItemKind) (more : List Tag) (t : Tag) (tags : List Tag) → begins_element kind ≡ false → tags_at at kind ++ more ≡ t ∷ tags → IsClosing t ⊎ (more ≡ t ∷ tags)
+first_tag : (at : ℕ) (kind : ItemKind) (more : List Tag) (t : Tag) (tags : List Tag) → begins_element kind ≡ false → tags_at at kind ++ more ≡ t ∷ tags →
+    IsClosing t ⊎ (more ≡ t ∷ tags)
 first_tag at (kinds.Start name attrs empty) more t tags begins e = absurd cc
 first_tag at (kinds.EndTag name) more t tags begins e = let same : closes name ≡ t = cc in inl (subst IsClosing same tt)
 first_tag at kind more t tags begins e = inr e
@@ -80,7 +82,8 @@ pub record IsTreeOf (bytes : List ℕ) (items : List Placed) : Type 0 where
   pub items_are : spells.items ≡ items
   pub named : IsRootName tree.name
 
-pub tree_of_items : (bytes : List ℕ) (items : List Placed) → IsCutInto bytes items → AreInPlace [] items → has_root items ≡ true → open_names items ≡ [] → IsTreeOf bytes items
+pub tree_of_items : (bytes : List ℕ) (items : List Placed) → IsCutInto bytes items → AreInPlace [] items → has_root items ≡ true → open_names items ≡ [] →
+    IsTreeOf bytes items
 tree_of_items bytes items cut sound root closed =
     let fit : Fit [] false (tags_in items) = items_fit [] items sound in
     let whole = spelled [] none false (tags_in items) fit closed in
@@ -96,7 +99,11 @@ tree_of_items bytes items cut sound root closed =
 
 -- ---- its rows
 
-pub tree_state : (tree : XmlTree) → fold after_tag start (tags_of (root_of tree)) ≡ record { stack = []; rows = rows_of tree; reached = reached_in Outside (root_of tree) }
+pub tree_state : (tree : XmlTree) → fold after_tag start (tags_of (root_of tree)) ≡ record {
+  stack = [];
+  rows = rows_of tree;
+  reached = reached_in Outside (root_of tree);
+}
 tree_state tree = ap (λ (t : List Tag). fold after_tag start t) (sym (append-nil (tags_of (root_of tree)))) ∙ gone_by (root_of tree) start []
 
 -- ---- an infrastructure
@@ -114,25 +121,31 @@ skipped (element at name attrs children after) = rw (skipped children, skipped a
 
 railml_reached : (elements : Elements) → reached_in Railml elements ≡ true → Contains (names_of elements) (codes "infrastructure")
 railml_reached none = λ e. absurd cc
-railml_reached (element at name attrs children after) = elim (bytes_eq name (codes "infrastructure")) as (λ v. bytes_eq name (codes "infrastructure") ≡ v → (is_infrastructure (cond v Infrastructure Skipped) || reached_in (cond v Infrastructure Skipped) children || reached_in Railml after) ≡ true → Contains (name ∷ names_of after) (codes "infrastructure")) [
-  | true ↦ λ h e. (0, omega arith, bytes_eq_true name (codes "infrastructure") h)
-  | false ↦ λ h e. contains_there (codes "infrastructure") name (names_of after) (railml_reached after (rw (skipped children) at e))
-] refl
+railml_reached (element at name attrs children after) = elim (bytes_eq name (codes "infrastructure")) as
+    (λ v. bytes_eq name (codes "infrastructure") ≡ v → (is_infrastructure (cond v Infrastructure Skipped) || reached_in (cond v Infrastructure Skipped) children
+    || reached_in Railml after) ≡ true → Contains (name ∷ names_of after) (codes "infrastructure")) [
+      | true ↦ λ h e. (0, omega arith, bytes_eq_true name (codes "infrastructure") h)
+      | false ↦ λ h e. contains_there (codes "infrastructure") name (names_of after) (railml_reached after (rw (skipped children) at e))
+    ] refl
 
 railml_not_reached : (elements : Elements) → reached_in Railml elements ≡ false → Contains (names_of elements) (codes "infrastructure") → ⊥
 railml_not_reached none = λ e h. omega (arith, h.1)
-railml_not_reached (element at name attrs children after) = elim (bytes_eq name (codes "infrastructure")) as (λ v. bytes_eq name (codes "infrastructure") ≡ v → (is_infrastructure (cond v Infrastructure Skipped) || reached_in (cond v Infrastructure Skipped) children || reached_in Railml after) ≡ false → Contains (name ∷ names_of after) (codes "infrastructure") → ⊥) [
-  | true ↦ λ h e k. cc
-  | false ↦ λ h e k. elim (contains_cons (codes "infrastructure") name (names_of after) k.0 k.1 k.2) [
-    | inl same ↦ not_from_Decides (bytes_eq name (codes "infrastructure")) (bytes_eq-Decides name (codes "infrastructure")) h same
-    | inr later ↦ railml_not_reached after (rw (skipped children) at e) later
-  ]
-] refl
+railml_not_reached (element at name attrs children after) = elim (bytes_eq name (codes "infrastructure")) as
+    (λ v. bytes_eq name (codes "infrastructure") ≡ v → (is_infrastructure (cond v Infrastructure Skipped) || reached_in (cond v Infrastructure Skipped) children
+    || reached_in Railml after) ≡ false → Contains (name ∷ names_of after) (codes "infrastructure") → ⊥) [
+      | true ↦ λ h e k. cc
+      | false ↦ λ h e k. elim (contains_cons (codes "infrastructure") name (names_of after) k.0 k.1 k.2) [
+        | inl same ↦ not_from_Decides (bytes_eq name (codes "infrastructure")) (bytes_eq-Decides name (codes "infrastructure")) h same
+        | inr later ↦ railml_not_reached after (rw (skipped children) at e) later
+      ]
+    ] refl
 
-root_railml : (at : ℕ) (name : List ℕ) (attrs : List Attr) (children : Elements) → name ≡ codes "railml" → reached_in Outside (element at name attrs children none) ≡ reached_in Railml children
+root_railml : (at : ℕ) (name : List ℕ) (attrs : List Attr) (children : Elements) → name ≡ codes "railml" →
+    reached_in Outside (element at name attrs children none) ≡ reached_in Railml children
 root_railml at name attrs children e = ap (λ (n : List ℕ). reached_in Outside (element at n attrs children none)) e ∙ or-false (reached_in Railml children)
 
-root_infrastructure : (at : ℕ) (name : List ℕ) (attrs : List Attr) (children : Elements) → name ≡ codes "infrastructure" → reached_in Outside (element at name attrs children none) ≡ true
+root_infrastructure : (at : ℕ) (name : List ℕ) (attrs : List Attr) (children : Elements) → name ≡ codes "infrastructure" →
+    reached_in Outside (element at name attrs children none) ≡ true
 root_infrastructure at name attrs children e = ap (λ (n : List ℕ). reached_in Outside (element at n attrs children none)) e
 
 pub record IsLacking (tree : XmlTree) : Type 0 where
@@ -157,7 +170,8 @@ still_open : (stack : List Frame) → names_in stack ≡ [] → stack ≡ []
 still_open [] e = refl
 still_open (frame ∷ stack) e = absurd cc
 
-pub ends_open : (bytes : List ℕ) (state : State) (root : Bool) → IsUtf8 bytes → IsReadThrough bytes state root → (root ≡ false) ⊎ (state.stack ≢ []) → EndsOpen bytes (length bytes)
+pub ends_open : (bytes : List ℕ) (state : State) (root : Bool) → IsUtf8 bytes → IsReadThrough bytes state root → (root ≡ false) ⊎ (state.stack ≢ []) →
+    EndsOpen bytes (length bytes)
 ends_open bytes state root utf8 r h = record {
   utf8 = utf8;
   items = r.items;
@@ -173,10 +187,13 @@ ends_open bytes state root utf8 r h = record {
 pub read_tree : (bytes : List ℕ) (state : State) (root : Bool) (r : IsReadThrough bytes state root) → root ≡ true → state.stack ≡ [] → IsTreeOf bytes r.items
 read_tree bytes state root r rooted closed = tree_of_items bytes r.items r.cut r.sound (sym r.root_is ∙ rooted) (names_closed bytes state root r closed)
 
-pub state_is : (bytes : List ℕ) (state : State) (root : Bool) (r : IsReadThrough bytes state root) (t : IsTreeOf bytes r.items) → state ≡ record { stack = []; rows = rows_of t.tree; reached = reached_in Outside (root_of t.tree) }
-state_is bytes state root r t = r.state_is ∙ ap state_after (sym t.items_are) ∙ ap (λ (tags : List Tag). fold after_tag start tags) t.spells.tags ∙ tree_state t.tree
+pub state_is : (bytes : List ℕ) (state : State) (root : Bool) (r : IsReadThrough bytes state root) (t : IsTreeOf bytes r.items) →
+    state ≡ record { stack = []; rows = rows_of t.tree; reached = reached_in Outside (root_of t.tree) }
+state_is bytes state root r t = r.state_is ∙ ap state_after (sym t.items_are) ∙ ap (λ (tags : List Tag). fold after_tag start tags) t.spells.tags
+    ∙ tree_state t.tree
 
-pub lacks_infrastructure : (bytes : List ℕ) (state : State) (root : Bool) → IsUtf8 bytes → IsReadThrough bytes state root → root ≡ true → state.stack ≡ [] → state.reached ≡ false → LacksInfrastructure bytes (length bytes)
+pub lacks_infrastructure : (bytes : List ℕ) (state : State) (root : Bool) → IsUtf8 bytes → IsReadThrough bytes state root → root ≡ true → state.stack ≡ [] →
+    state.reached ≡ false → LacksInfrastructure bytes (length bytes)
 lacks_infrastructure bytes state root utf8 r rooted closed reached =
     let t = read_tree bytes state root r rooted closed in
     let l = lacking t.tree t.named (sym (ap (λ (s : State). s.reached) (state_is bytes state root r t)) ∙ reached) in
@@ -195,9 +212,11 @@ are_rows bytes state root r rooted closed =
     let t = read_tree bytes state root r rooted closed in
     record { tree = t.tree; spells = t.spells; found = ap (λ (s : State). s.rows) (state_is bytes state root r t) }
 
-pub are_signals : (bytes : List ℕ) (state : State) (root : Bool) (marks : Marks) → HasMarks bytes state root marks → root ≡ true → state.stack ≡ [] → AreSignals bytes marks.signals
+pub are_signals : (bytes : List ℕ) (state : State) (root : Bool) (marks : Marks) → HasMarks bytes state root marks → root ≡ true → state.stack ≡ [] →
+    AreSignals bytes marks.signals
 are_signals bytes state root marks m rooted closed =
     let t = read_tree bytes state root m.through rooted closed in
     let found : marks ≡ marked (0 + tracks_from Outside (root_of t.tree)) ([] ++ signals_of t.tree) =
-    m.marks_are ∙ (ap marks_after (sym t.items_are) ∙ (ap (λ (tags : List Tag). (fold after_both (start, no_marks) tags).1) t.spells.tags ∙ tree_marks t.tree)) in
+    m.marks_are ∙ (ap marks_after (sym t.items_are) ∙ (ap (λ (tags : List Tag). (fold after_both (start, no_marks) tags).1) t.spells.tags
+    ∙ tree_marks t.tree)) in
     record { tree = t.tree; spells = t.spells; found = ap (λ (k : Marks). k.signals) found }

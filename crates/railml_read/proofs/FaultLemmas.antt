@@ -23,20 +23,24 @@ use Rattle.railml_read.proofs.EndLemmas.{IsTreeOf, read_tree, state_is, not_lack
 
 -- ---- items that are sound and in place, and a fault behind some of them
 
-in_place : (before items : List Placed) (item : Placed) (more : List Placed) → AreInPlace before (items ++ item ∷ more) → (what : TextWhat) → IsMisplaced (open_names (before ++ items)) (has_root (before ++ items)) (role_of item.kind) what → ⊥
+in_place : (before items : List Placed) (item : Placed) (more : List Placed) → AreInPlace before (items ++ item ∷ more) → (what : TextWhat) →
+    IsMisplaced (open_names (before ++ items)) (has_root (before ++ items)) (role_of item.kind) what → ⊥
 in_place before [] item more h what m = h.0 what (rw (append-nil before) at m)
 in_place before (i ∷ items) item more h what m = in_place (before ++ i ∷ []) items item more h.1 what (rw (append_assoc before (i ∷ []) items) m)
 
 -- an item that is sound and in place has no fault
-no_fault : (items : List Placed) (rest : List ℕ) (others : List Placed) (last : List ℕ) (what : TextWhat) → GoesOn true items rest others last → AreInPlace [] others → HasFaultBehind items rest what → ⊥
+no_fault : (items : List Placed) (rest : List ℕ) (others : List Placed) (last : List ℕ) (what : TextWhat) → GoesOn true items rest others last →
+    AreInPlace [] others → HasFaultBehind items rest what → ⊥
 no_fault items rest others last what g sound fault =
-    let item : HasSoundItem (is_first items) rest g.item.kind g.after = subst (λ (b : Bool). HasSoundItem b rest g.item.kind g.after) (first_after-is_first items) g.sound in
+    let item : HasSoundItem (is_first items) rest g.item.kind g.after = subst (λ (b : Bool). HasSoundItem b rest g.item.kind g.after)
+    (first_after-is_first items) g.sound in
     elim fault [
       | inl own ↦ item.sound what own
       | inr m ↦
           let shape = (one_item (is_first items) rest m.shape item.shape m.after g.after m.item item.item).0 in
           let role : role_of_shape m.shape ≡ role_of g.item.kind = ap role_of_shape shape ∙ same_role item.shape g.item.kind item.kind_is in
-          in_place [] items g.item g.more (subst (AreInPlace []) g.are sound) what (subst (λ (r : Role). IsMisplaced (open_names items) (has_root items) r what) role m.misplaced)
+          in_place [] items g.item g.more (subst (AreInPlace []) g.are sound) what
+          (subst (λ (r : Role). IsMisplaced (open_names items) (has_root items) r what) role m.misplaced)
     ]
 
 -- nothing goes on where nothing is left
@@ -46,7 +50,8 @@ ended items others last g = Stops-end (first_after true items) g.item.kind g.aft
 pub one_tree : (bytes : List ℕ) (a b : XmlTree) → SpellsTree bytes a → SpellsTree bytes b → a ≡ b
 one_tree bytes a b h k =
     let items : h.items ≡ k.items = one_cut bytes h.items k.items h.cut k.cut in
-    let same : element a.at a.name a.attrs a.children none ≡ element b.at b.name b.attrs b.children none = one_spelled (root_of a) (root_of b) (sym h.tags ∙ ap tags_in items ∙ k.tags) in
+    let same : element a.at a.name a.attrs a.children none ≡ element b.at b.name b.attrs b.children none = one_spelled (root_of a) (root_of b)
+    (sym h.tags ∙ ap tags_in items ∙ k.tags) in
     ap tree_in same
   where
     tree_in : Elements → XmlTree
@@ -87,23 +92,33 @@ complete bytes items what at cut sound f = elim (compared true (start_of bytes) 
   ]
 ]
 
-least_one : (before : List Placed) (rest : List ℕ) (a b : TextWhat) → HasFaultBehind before rest a → ((other : TextWhat) → number_of other < number_of a → HasFaultBehind before rest other → ⊥) → HasFaultBehind before rest b → ((other : TextWhat) → number_of other < number_of b → HasFaultBehind before rest other → ⊥) → a ≡ b
+least_one : (before : List Placed) (rest : List ℕ) (a b : TextWhat) → HasFaultBehind before rest a →
+    ((other : TextWhat) → number_of other < number_of a → HasFaultBehind before rest other → ⊥) → HasFaultBehind before rest b →
+    ((other : TextWhat) → number_of other < number_of b → HasFaultBehind before rest other → ⊥) → a ≡ b
 least_one before rest a b h least k others =
     let p : number_of b < number_of a → ⊥ = λ lt. least b lt k in
     let q : number_of a < number_of b → ⊥ = λ lt. others a lt h in
     same_number a b (omega arith)
 
 pub first_ones : (bytes : List ℕ) (a b : TextWhat) (m n : ℕ) → IsFirstTextFault bytes a m → IsFirstTextFault bytes b n → (a ≡ b) × (m ≡ n)
-first_ones bytes a b m n f g = elim (compared true (start_of bytes) (drop (start_of bytes) bytes) f.before f.rest g.before g.rest f.comes_to.cut g.comes_to.cut) [
-  | inl same ↦
-      let back : (what : TextWhat) → HasFaultBehind g.before g.rest what → HasFaultBehind f.before f.rest what = λ what h. subst (λ (rest : List ℕ). HasFaultBehind f.before rest what) (sym same.1) (subst (λ (items : List Placed). HasFaultBehind items g.rest what) (sym same.0) h) in
-      let forth : (what : TextWhat) → HasFaultBehind f.before f.rest what → HasFaultBehind g.before g.rest what = λ what h. subst (λ (rest : List ℕ). HasFaultBehind g.before rest what) same.1 (subst (λ (items : List Placed). HasFaultBehind items f.rest what) same.0 h) in
-      (least_one f.before f.rest a b f.fault f.least (back b g.fault) (λ other lt h. g.least other lt (forth other h)), omega (arith, f.comes_to.place, g.comes_to.place, ap length same.1))
-  | inr d ↦ elim d [
-    | inl on ↦ absurd (no_fault f.before f.rest g.before g.rest a on g.sound f.fault)
-    | inr on ↦ absurd (no_fault g.before g.rest f.before f.rest b on f.sound g.fault)
-  ]
-]
+first_ones bytes a b m n f g =
+    elim (compared true (start_of bytes) (drop (start_of bytes) bytes) f.before f.rest g.before g.rest f.comes_to.cut g.comes_to.cut) [
+      | inl same ↦
+          let back : (what : TextWhat) → HasFaultBehind g.before g.rest what →
+          HasFaultBehind f.before f.rest what = λ what h. subst (λ (rest : List ℕ). HasFaultBehind f.before rest what) (sym same.1)
+          (subst (λ (items : List Placed). HasFaultBehind items g.rest what) (sym same.0) h) in
+          let forth : (what : TextWhat) → HasFaultBehind f.before f.rest what →
+          HasFaultBehind g.before g.rest what = λ what h. subst (λ (rest : List ℕ). HasFaultBehind g.before rest what) same.1
+          (subst (λ (items : List Placed). HasFaultBehind items f.rest what) same.0 h) in (
+            least_one f.before f.rest a b f.fault f.least (back b g.fault) (λ other lt h. g.least other lt (forth other h)),
+            omega
+                (arith, f.comes_to.place, g.comes_to.place, ap length same.1),
+          )
+      | inr d ↦ elim d [
+        | inl on ↦ absurd (no_fault f.before f.rest g.before g.rest a on g.sound f.fault)
+        | inr on ↦ absurd (no_fault g.before g.rest f.before f.rest b on f.sound g.fault)
+      ]
+    ]
 
 -- the items of a tree leave no element open
 tree_closed : (tree : XmlTree) → fold names_after [] (tags_of (root_of tree)) ≡ []
@@ -141,7 +156,8 @@ one_fault bytes a b m n f g = one_form a b m n (form_of bytes a m f) (form_of by
     one_form a b m n (lacks e f) (lacks d g) = (e ∙ sym d, f.end ∙ sym g.end)
 
 -- a text that was read through to a tree with an infrastructure has no fault
-pub no_text_fault : (bytes : List ℕ) (state : State) (root : Bool) (r : IsReadThrough bytes state root) → IsUtf8 bytes → root ≡ true → state.stack ≡ [] → state.reached ≡ true → (what : TextWhat) (at : ℕ) → IsTextFault bytes what at → ⊥
+pub no_text_fault : (bytes : List ℕ) (state : State) (root : Bool) (r : IsReadThrough bytes state root) → IsUtf8 bytes → root ≡ true → state.stack ≡ [] →
+    state.reached ≡ true → (what : TextWhat) (at : ℕ) → IsTextFault bytes what at → ⊥
 no_text_fault bytes state root r utf8 rooted closed reached what at fault = none (form_of bytes what at fault)
   where
     tree : IsTreeOf bytes r.items
@@ -153,4 +169,5 @@ no_text_fault bytes state root r utf8 rooted closed reached what at fault = none
     none (open_end e f) = closed_and_open bytes tree.tree at f tree.spells
     none (lacks e f) =
         let same : tree.tree ≡ f.tree = one_tree bytes tree.tree f.tree tree.spells f.spells in
-        not_lacking f.tree (sym (ap (λ (t : XmlTree). reached_in Outside (root_of t)) same) ∙ sym (ap (λ (s : State). s.reached) (state_is bytes state root r tree)) ∙ reached) (record { named = f.named; lacks = f.lacks })
+        not_lacking f.tree (sym (ap (λ (t : XmlTree). reached_in Outside (root_of t)) same)
+        ∙ sym (ap (λ (s : State). s.reached) (state_is bytes state root r tree)) ∙ reached) (record { named = f.named; lacks = f.lacks })

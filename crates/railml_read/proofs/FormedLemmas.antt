@@ -1,5 +1,6 @@
 -- Rows are formed while they are read.
-use Rattle.std.proofs.Common.{◌≡◌, ℕ, suc, zero, ◌-◌, ◌<◌, ◌≤◌, Bool, true, false, cond, Option, Some, None, List, [], ◌∷◌, ◌++◌, length, take, slice_get, refl, sym, ap, subst, inl, inr, length-append, arith}
+use Rattle.std.proofs.Common.{◌≡◌, ℕ, suc, zero, ◌-◌, ◌<◌, ◌≤◌, Bool, true, false, cond, Option, Some, None, List, [], ◌∷◌, ◌++◌, length, take, slice_get}
+use Rattle.std.proofs.Common.{refl, sym, ap, subst, inl, inr, length-append, arith}
 use Rattle.std.specs.Prelude.{fold, ◌||◌, bytes_eq, codes}
 use Rattle.std.proofs.lemmas.List.{append-nil}
 use Rattle.std.proofs.lemmas.Option.{slice_get_within}
@@ -12,7 +13,8 @@ use Rattle.railml_read.specs.declared.rows.Elem.{Elem}
 use Rattle.railml_read.specs.declared.rows.ElemKind.{ElemKind}
 use Rattle.railml_read.specs.declared.rows.ElemKind.TheVariants.{Track, Topology, Begin, End, Switch, Crossing, Connection, OpenEnd, BufferStop, MacroNode}
 use Rattle.railml_read.specs.declared.contexts.Context.{Context}
-use Rattle.railml_read.specs.declared.contexts.Context.TheVariants.{Outside, Railml, Infrastructure, Tracks, Connections, OcsElements, Signals, Signal, Selected, Skipped}
+use Rattle.railml_read.specs.declared.contexts.Context.TheVariants.{Outside, Railml, Infrastructure, Tracks, Connections, OcsElements, Signals, Signal}
+use Rattle.railml_read.specs.declared.contexts.Context.TheVariants.{Selected, Skipped}
 use Rattle.railml_read.specs.declared.progress.Frame.{Frame}
 use Rattle.railml_read.specs.Contexts.{below, below_selected, below_end}
 use Rattle.railml_read.specs.Tree.{opens, closes}
@@ -63,7 +65,8 @@ either : (rows : List Elem) (row : Option ℕ) (test : Bool) (a b : Context) →
 either rows row true a b h k = h
 either rows row false a b h k = k
 
-end_fits : (rows : List Elem) (row : Option ℕ) (name : List ℕ) (parent : ElemKind) → may_hold parent Connection ≡ true → may_hold parent OpenEnd ≡ true → may_hold parent BufferStop ≡ true → may_hold parent MacroNode ≡ true → HasRow rows row parent → FitsAbove rows (below_end name) row
+end_fits : (rows : List Elem) (row : Option ℕ) (name : List ℕ) (parent : ElemKind) → may_hold parent Connection ≡ true → may_hold parent OpenEnd ≡ true →
+    may_hold parent BufferStop ≡ true → may_hold parent MacroNode ≡ true → HasRow rows row parent → FitsAbove rows (below_end name) row
 end_fits rows row name parent a b c d h =
     either rows row (bytes_eq name (codes "connection")) _ _ (parent, h, a)
     (either rows row (bytes_eq name (codes "openEnd")) _ _ (parent, h, b)
@@ -71,7 +74,8 @@ end_fits rows row name parent a b c d h =
     (either rows row (bytes_eq name (codes "macroscopicNode")) _ _ (parent, h, d) tt)))
 
 selected_fits : (rows : List Elem) (row : Option ℕ) (name : List ℕ) (kind : ElemKind) → HasRow rows row kind → FitsAbove rows (below_selected kind name) row
-selected_fits rows row name Track h = either rows row (bytes_eq name (codes "trackTopology")) _ _ (Track, h, refl) (either rows row (bytes_eq name (codes "ocsElements")) _ _ tt tt)
+selected_fits rows row name Track h = either rows row (bytes_eq name (codes "trackTopology")) _ _ (Track, h, refl)
+    (either rows row (bytes_eq name (codes "ocsElements")) _ _ tt tt)
 selected_fits rows row name Topology h =
     either rows row (bytes_eq name (codes "trackBegin")) _ _ (Topology, h, refl)
     (either rows row (bytes_eq name (codes "trackEnd")) _ _ (Topology, h, refl)
@@ -139,12 +143,20 @@ formed_later s at next le h = record {
 
 placed_more : (rows more : List Elem) (i : ℕ) (row : Elem) (kind : ElemKind) → IsRowPlaced rows i row kind → IsRowPlaced (rows ++ more) i row kind
 placed_more rows more i row Track h = h
-placed_more rows more i row kind h = record { number = h.number; parent = h.parent; is = h.is; earlier = h.earlier; at = get_front rows more h.number h.parent h.at; holds = h.holds }
+placed_more rows more i row kind h = record {
+  number = h.number;
+  parent = h.parent;
+  is = h.is;
+  earlier = h.earlier;
+  at = get_front rows more h.number h.parent h.at;
+  holds = h.holds;
+}
 
 row_of : ElemKind → ℕ → Option ℕ → List Attr → Elem
 row_of kind at row attrs = record { kind = kind; at = at; parent = row; attrs = attrs_read attrs }
 
-has_parent : (rows more : List Elem) (row : Elem) (kind : ElemKind) → row.kind ≡ kind → (parent : ElemKind) × HasRow rows row.parent parent × (may_hold parent kind ≡ true) → HasParent (rows ++ more) (length rows) row
+has_parent : (rows more : List Elem) (row : Elem) (kind : ElemKind) → row.kind ≡ kind →
+    (parent : ElemKind) × HasRow rows row.parent parent × (may_hold parent kind ≡ true) → HasParent (rows ++ more) (length rows) row
 has_parent rows more row kind same h = record {
   number = h.1.number;
   parent = h.1.elem;
@@ -154,12 +166,22 @@ has_parent rows more row kind same h = record {
   holds = rw (h.1.kind_is, same) h.2;
 }
 
-new_placed : (rows : List Elem) (at : ℕ) (row : Option ℕ) (attrs : List Attr) (kind : ElemKind) → FitsAbove rows (Selected kind) row → IsRowPlaced (rows ++ row_of kind at row attrs ∷ []) (length rows) (row_of kind at row attrs) kind
+new_placed : (rows : List Elem) (at : ℕ) (row : Option ℕ) (attrs : List Attr) (kind : ElemKind) → FitsAbove rows (Selected kind) row →
+    IsRowPlaced (rows ++ row_of kind at row attrs ∷ []) (length rows) (row_of kind at row attrs) kind
 unfolding row_of
 new_placed rows at row attrs Track h = h
 new_placed rows at row attrs kind h = has_parent rows (row_of kind at row attrs ∷ []) (row_of kind at row attrs) kind refl h
 
-formed_row : (s : State) (at : ℕ) (kind : ElemKind) (row : Option ℕ) (name : List ℕ) (attrs : List Attr) (reached : Bool) → IsFormedUpTo s at → FitsAbove s.rows (Selected kind) row → IsFormedUpTo (record { stack = s.stack ++ record { name = name; context = Selected kind; row = Some (length s.rows) } ∷ []; rows = s.rows ++ row_of kind at row attrs ∷ []; reached = reached }) (suc at)
+formed_row : (s : State) (at : ℕ) (kind : ElemKind) (row : Option ℕ) (name : List ℕ) (attrs : List Attr) (reached : Bool) → IsFormedUpTo s at →
+    FitsAbove s.rows (Selected kind) row → IsFormedUpTo (record {
+      stack = s.stack ++ record {
+        name = name;
+        context = Selected kind;
+        row = Some (length s.rows);
+      } ∷ [];
+      rows = s.rows ++ row_of kind at row attrs ∷ [];
+      reached = reached;
+    }) (suc at)
 unfolding row_of
 formed_row s at kind row name attrs reached h above =
     let new = row_of kind at row attrs in
@@ -179,7 +201,8 @@ formed_row s at kind row name attrs reached h above =
       ];
       parents = λ i r e. elim (get_pushed s.rows new i r e) [
         | inl old ↦ placed_more s.rows (new ∷ []) i r r.kind (h.parents i r old)
-        | inr last ↦ subst (λ (x : Elem). IsRowPlaced (s.rows ++ new ∷ []) i x x.kind) last.1 (subst (λ (k : ℕ). IsRowPlaced (s.rows ++ new ∷ []) k new kind) (sym last.0) (new_placed s.rows at row attrs kind above))
+        | inr last ↦ subst (λ (x : Elem). IsRowPlaced (s.rows ++ new ∷ []) i x x.kind) last.1
+            (subst (λ (k : ℕ). IsRowPlaced (s.rows ++ new ∷ []) k new kind) (sym last.0) (new_placed s.rows at row attrs kind above))
       ];
       before = λ i r e. elim (get_pushed s.rows new i r e) [
         | inl old ↦ let low = h.before i r old in omega arith
@@ -188,11 +211,18 @@ formed_row s at kind row name attrs reached h above =
       few = omega (arith, h.few, length-append s.rows (new ∷ []));
       frames = λ i f e. elim (get_pushed s.stack frame i f e) [
         | inl old ↦ fits_more s.rows (new ∷ []) f.context f.row (h.frames i f old)
-        | inr last ↦ subst (λ (x : Frame). FitsIn (s.rows ++ new ∷ []) x.context x.row) last.1 (record { number = length s.rows; elem = new; is = refl; at = get_last s.rows new; kind_is = refl })
+        | inr last ↦ subst (λ (x : Frame). FitsIn (s.rows ++ new ∷ []) x.context x.row) last.1 (record {
+          number = length s.rows;
+          elem = new;
+          is = refl;
+          at = get_last s.rows new;
+          kind_is = refl;
+        })
       ];
     }
 
-formed_frame : (s : State) (at : ℕ) (frame : Frame) (reached : Bool) → IsFormedUpTo s at → FitsIn s.rows frame.context frame.row → IsFormedUpTo (record { stack = s.stack ++ frame ∷ []; rows = s.rows ++ []; reached = reached }) (suc at)
+formed_frame : (s : State) (at : ℕ) (frame : Frame) (reached : Bool) → IsFormedUpTo s at → FitsIn s.rows frame.context frame.row →
+    IsFormedUpTo (record { stack = s.stack ++ frame ∷ []; rows = s.rows ++ []; reached = reached }) (suc at)
 formed_frame s at frame reached h fits =
     let same = append-nil s.rows in
     let k : IsFormedUpTo (record { stack = s.stack ++ frame ∷ []; rows = s.rows; reached = reached }) (suc at) = record {
@@ -208,7 +238,16 @@ formed_frame s at frame reached h fits =
     subst (λ (r : List Elem). IsFormedUpTo (record { stack = s.stack ++ frame ∷ []; rows = r; reached = reached }) (suc at)) (sym same) k
 
 -- an element opens that stands here
-formed_here : (s : State) (at : ℕ) (here : Context) (row : Option ℕ) (name : List ℕ) (attrs : List Attr) (reached : Bool) → IsFormedUpTo s at → FitsAbove s.rows here row → IsFormedUpTo (record { stack = s.stack ++ record { name = name; context = here; row = nearest here (length s.rows) row } ∷ []; rows = s.rows ++ own_row here at attrs row; reached = reached }) (suc at)
+formed_here : (s : State) (at : ℕ) (here : Context) (row : Option ℕ) (name : List ℕ) (attrs : List Attr) (reached : Bool) → IsFormedUpTo s at →
+    FitsAbove s.rows here row → IsFormedUpTo (record {
+      stack = s.stack ++ record {
+        name = name;
+        context = here;
+        row = nearest here (length s.rows) row;
+      } ∷ [];
+      rows = s.rows ++ own_row here at attrs row;
+      reached = reached;
+    }) (suc at)
 unfolding row_of
 formed_here s at (Selected kind) row name attrs reached h above = formed_row s at kind row name attrs reached h above
 formed_here s at Connections row name attrs reached h above = formed_frame s at (record { name = name; context = Connections; row = row }) reached h above
@@ -226,7 +265,8 @@ formed_opening : (s : State) (at : ℕ) (name : List ℕ) (attrs : List Attr) �
 formed_opening s at name attrs h =
     let context = context_in (top_frame s.stack) in
     let row = row_in (top_frame s.stack) in
-    formed_here s at (below context name) row name attrs (s.reached || is_infrastructure (below context name)) h (below_fits s.rows row name context (top_fits s at (top_frame s.stack) refl h))
+    formed_here s at (below context name) row name attrs (s.reached || is_infrastructure (below context name)) h
+    (below_fits s.rows row name context (top_fits s at (top_frame s.stack) refl h))
 
 formed_closing : (s : State) (at : ℕ) (name : List ℕ) → IsFormedUpTo s at → IsFormedUpTo (after_tag s (closes name)) at
 formed_closing s at name h = record {
@@ -238,7 +278,8 @@ formed_closing s at name h = record {
 }
 
 pub formed_item : (s : State) (at next : ℕ) (kind : ItemKind) → at < next → IsFormedUpTo s at → IsFormedUpTo (fold after_tag s (tags_at at kind)) next
-formed_item s at next (kinds.Start name attrs true) lt h = formed_later _ (suc at) next lt (formed_closing (after_tag s (opens at name attrs)) (suc at) name (formed_opening s at name attrs h))
+formed_item s at next (kinds.Start name attrs true) lt h = formed_later _ (suc at) next lt
+    (formed_closing (after_tag s (opens at name attrs)) (suc at) name (formed_opening s at name attrs h))
 formed_item s at next (kinds.Start name attrs false) lt h = formed_later _ (suc at) next lt (formed_opening s at name attrs h)
 formed_item s at next (kinds.EndTag name) lt h = formed_later _ at next (omega arith) (formed_closing s at name h)
 formed_item s at next kind lt h = formed_later s at next (omega arith) h

@@ -1,12 +1,14 @@
 -- What is kept while the items of a document go by.
-use Rattle.std.proofs.Common.{◌≡◌, ◌⊎◌, ℕ, ◌<◌, ◌≤◌, Bool, true, false, Some, None, List, [], ◌∷◌, ◌++◌, length, drop, refl, sym, ap, ◌∙◌, subst, inl, inr, length-drop, arith}
+use Rattle.std.proofs.Common.{◌≡◌, ◌⊎◌, ℕ, ◌<◌, ◌≤◌, Bool, true, false, Some, None, List, [], ◌∷◌, ◌++◌, length, drop, refl, sym, ap, ◌∙◌, subst, inl, inr}
+use Rattle.std.proofs.Common.{length-drop, arith}
 use Rattle.std.specs.Prelude.{fold, ◌||◌, IsUtf8, IsCharBoundary, codes}
 use Rattle.std.proofs.lemmas.List.{drop_all}
 use Rattle.std.proofs.lemmas.List.Sums.{fold-append}
 use Rattle.plan_core.specs.declared.limits.TheConstants.{MAX_FILE_BYTES}
 use Rattle.railml_text.specs.declared.item.ItemKind.{ItemKind}
 use Rattle.railml_text.specs.declared.fault.TextWhat.{TextWhat}
-use Rattle.railml_text.specs.declared.fault.TextWhat.TheVariants.{NotUtf8, Encoding, Doctype, Markup, Entity, EndTag, RepeatedAttribute, Root, Unfinished, AfterRoot, Depth, NoInfrastructure}
+use Rattle.railml_text.specs.declared.fault.TextWhat.TheVariants.{NotUtf8, Encoding, Doctype, Markup, Entity, EndTag, RepeatedAttribute, Root, Unfinished}
+use Rattle.railml_text.specs.declared.fault.TextWhat.TheVariants.{AfterRoot, Depth, NoInfrastructure}
 use Rattle.railml_text.specs.declared.fault.ItemFault.{ItemFault}
 use Rattle.railml_text.specs.declared.fault.ItemFault.TheVariants as answers
 use Rattle.railml_read.specs.declared.faults.ReadFault.TheVariants as reads
@@ -16,7 +18,8 @@ use Rattle.railml_text.specs.Grammar.{IsChars, IsBracketed}
 use Rattle.railml_text.specs.References.{IsReference, BeginsLoose}
 use Rattle.railml_text.specs.Faults.{number_of, attrs_of, HasItemFault, HasSoundItem, IsLeastFault, IsItemFault, HasRepeat}
 use Rattle.railml_text.specs.Cutting.{Placed, Cuts, ComesTo, start_of, is_first}
-use Rattle.railml_read.specs.Places.{Role, opening, closing, content, free, role_of, role_of_shape, tags_at, tags_in, open_names, begins_element, has_root, IsMisplaced, AreInPlace}
+use Rattle.railml_read.specs.Places.{Role, opening, closing, content, free, role_of, role_of_shape, tags_at, tags_in, open_names, begins_element, has_root}
+use Rattle.railml_read.specs.Places.{IsMisplaced, AreInPlace}
 use Rattle.railml_read.specs.Document.{IsFirstTextFault, IsTextFault, IsReadFault}
 use Rattle.railml_read.specs.declared.progress.Frame.{Frame}
 use Rattle.railml_read.specs.declared.rows.Elem.{Elem}
@@ -57,9 +60,11 @@ pub record Kept (bytes : List ℕ) (at : ℕ) (first : Bool) (state : State) (ro
 
 -- nothing has been read
 pub new_state : (stack : List Frame) (rows : List Elem) (reached : Bool) → stack ≡ [] → rows ≡ [] → reached ≡ false → made stack rows reached ≡ start
-new_state stack rows reached s r f = ap (λ (x : List Frame). made x rows reached) s ∙ ap (λ (x : List Elem). made [] x reached) r ∙ ap (λ (x : Bool). made [] [] x) f
+new_state stack rows reached s r f = ap (λ (x : List Frame). made x rows reached) s ∙ ap (λ (x : List Elem). made [] x reached) r
+    ∙ ap (λ (x : Bool). made [] [] x) f
 
-pub kept_start : (bytes : List ℕ) (at : ℕ) (state : State) (rooted : Bool) → IsUtf8 bytes → at ≡ start_of bytes → state ≡ start → rooted ≡ false → Kept bytes at true state rooted
+pub kept_start : (bytes : List ℕ) (at : ℕ) (state : State) (rooted : Bool) → IsUtf8 bytes → at ≡ start_of bytes → state ≡ start → rooted ≡ false →
+    Kept bytes at true state rooted
 kept_start bytes at state rooted utf8 here s r =
     record {
       items = [];
@@ -82,18 +87,25 @@ not_first (i ∷ items) item = refl
 pub names_open : (items : List Placed) (state : State) → state ≡ state_after items → names_in state.stack ≡ open_names items
 names_open items state e = ap (λ (s : State). names_in s.stack) e ∙ names_kept (tags_in items) start
 
-pub kept_next : (bytes : List ℕ) (at next : ℕ) (first : Bool) (state after : State) (rooted root : Bool) (kind : ItemKind) → Kept bytes at first state rooted → HasSoundItem first (drop at bytes) kind (drop next bytes) → at < next → next ≤ length bytes → IsCharBoundary bytes next → None ≡ fault_in (names_in state.stack) rooted (role_of kind) → after ≡ fold after_tag state (tags_at at kind) → root ≡ (rooted || begins_element kind) → Kept bytes next false after root
+pub kept_next : (bytes : List ℕ) (at next : ℕ) (first : Bool) (state after : State) (rooted root : Bool) (kind : ItemKind) → Kept bytes at first state rooted →
+    HasSoundItem first (drop at bytes) kind (drop next bytes) → at < next → next ≤ length bytes → IsCharBoundary bytes next →
+    None ≡ fault_in (names_in state.stack) rooted (role_of kind) → after ≡ fold after_tag state (tags_at at kind) → root ≡ (rooted || begins_element kind) →
+    Kept bytes next false after root
 kept_next bytes at next first state after rooted root kind k sound lt within boundary free_of s r =
     let item : Placed = record { at = at; kind = kind } in
     let items = k.items ++ item ∷ [] in
-    let here : FaultIs (names_in state.stack) rooted (role_of kind) None = subst (FaultIs (names_in state.stack) rooted (role_of kind)) (sym free_of) (fault_is (names_in state.stack) rooted (role_of kind)) in
+    let here : FaultIs (names_in state.stack) rooted (role_of kind) None = subst (FaultIs (names_in state.stack) rooted (role_of kind)) (sym free_of)
+    (fault_is (names_in state.stack) rooted (role_of kind)) in
     let names : names_in state.stack ≡ open_names k.items = names_open k.items state k.state_is in
-    let tags : state_after items ≡ fold after_tag (state_after k.items) (tags_at at kind) = ap (λ t. fold after_tag start t) (tags_push k.items item) ∙ fold-append after_tag start (tags_in k.items) (tags_at at kind) in
+    let tags : state_after items ≡ fold after_tag (state_after k.items) (tags_at at kind) = ap (λ t. fold after_tag start t) (tags_push k.items item)
+    ∙ fold-append after_tag start (tags_in k.items) (tags_at at kind) in
     record {
       items = items;
-      comes_to = ComesTo-push bytes k.items at (drop at bytes) kind (drop next bytes) next k.comes_to (start_within bytes) (subst (λ (b : Bool). HasSoundItem b (drop at bytes) kind (drop next bytes)) k.first_is sound) (omega (arith, length-drop next bytes));
+      comes_to = ComesTo-push bytes k.items at (drop at bytes) kind (drop next bytes) next k.comes_to (start_within bytes)
+          (subst (λ (b : Bool). HasSoundItem b (drop at bytes) kind (drop next bytes)) k.first_is sound) (omega (arith, length-drop next bytes));
       first_is = not_first k.items item;
-      sound = place_push [] k.items item k.sound (λ what m. here what (subst (λ (ns : List (List ℕ)). IsMisplaced ns rooted (role_of kind) what) (sym names) (subst (λ (b : Bool). IsMisplaced (open_names k.items) b (role_of kind) what) (sym k.root_is) m)));
+      sound = place_push [] k.items item k.sound (λ what m. here what (subst (λ (ns : List (List ℕ)). IsMisplaced ns rooted (role_of kind) what) (sym names)
+          (subst (λ (b : Bool). IsMisplaced (open_names k.items) b (role_of kind) what) (sym k.root_is) m)));
       state_is = s ∙ ap (λ (x : State). fold after_tag x (tags_at at kind)) k.state_is ∙ sym tags;
       root_is = r ∙ ap (λ (b : Bool). b || begins_element kind) k.root_is ∙ sym (root_push k.items item);
       formed = rw s (formed_item state at next kind lt k.formed);
@@ -172,7 +184,8 @@ no_chars (b ∷ text) after rest h e = let same : b ≡ 38 = cc in let no : is_i
 no_cdata : (text after rest : List ℕ) → IsBracketed (codes "<![CDATA[") (codes "]]>") text → 38 ∷ rest ≡ text ++ after → ⊥
 no_cdata text after rest h e = let no = begins_other 60 _ text after rest h.spelled e in cc
 
-no_content : (first : Bool) (text after rest : List ℕ) (shape : Shape) → IsItem first text shape → 38 ∷ rest ≡ text ++ after → ((c : ℕ) → IsReference text c → ⊥) → role_of_shape shape ≡ content → ⊥
+no_content : (first : Bool) (text after rest : List ℕ) (shape : Shape) → IsItem first text shape → 38 ∷ rest ≡ text ++ after →
+    ((c : ℕ) → IsReference text c → ⊥) → role_of_shape shape ≡ content → ⊥
 no_content first text after rest cdata is e none role = no_cdata text after rest is e
 no_content first text after rest reference is e none role = none is.0 is.1
 no_content first text after rest (chars false) is e none role = no_chars text after rest is.0 e
@@ -190,16 +203,20 @@ is_content names rooted (closing name) what m lt = absurd (omega (arith, closing
 is_content names rooted content what m lt = refl
 is_content names rooted free what m lt = absurd m
 
-loose_lower : (first : Bool) (rest : List ℕ) (names : List (List ℕ)) (rooted : Bool) (shape : Shape) (after : List ℕ) (other : TextWhat) → BeginsLoose rest → HasItem first rest shape after → IsMisplaced names rooted (role_of_shape shape) other → number_of other < 5 → ⊥
-loose_lower first rest names rooted shape after other loose item m lt = no_content first item.text after loose.rest shape item.is (sym loose.ampersand ∙ item.parts) (λ c r. loose.none item.text after c item.parts r) (is_content names rooted (role_of_shape shape) other m lt)
+loose_lower : (first : Bool) (rest : List ℕ) (names : List (List ℕ)) (rooted : Bool) (shape : Shape) (after : List ℕ) (other : TextWhat) → BeginsLoose rest →
+    HasItem first rest shape after → IsMisplaced names rooted (role_of_shape shape) other → number_of other < 5 → ⊥
+loose_lower first rest names rooted shape after other loose item m lt = no_content first item.text after loose.rest shape item.is
+    (sym loose.ampersand ∙ item.parts) (λ c r. loose.none item.text after c item.parts r) (is_content names rooted (role_of_shape shape) other m lt)
 
-repeat_lower : (names : List (List ℕ)) (rooted : Bool) (shape : Shape) (other : TextWhat) → HasRepeat (attrs_of shape) → IsMisplaced names rooted (role_of_shape shape) other → number_of other < 7 → ⊥
+repeat_lower : (names : List (List ℕ)) (rooted : Bool) (shape : Shape) (other : TextWhat) → HasRepeat (attrs_of shape) →
+    IsMisplaced names rooted (role_of_shape shape) other → number_of other < 7 → ⊥
 repeat_lower names rooted (declaration attrs) other r m lt = m
 repeat_lower names rooted (start_tag name attrs empty) other r m lt = omega (arith, opening_number names rooted name other m, lt)
 repeat_lower names rooted shape other r m lt = let no = r.at_i in cc
 
 -- an item with a fault of its own has none of a lower number by its place
-own_is_lower : (first : Bool) (rest : List ℕ) (names : List (List ℕ)) (rooted : Bool) (shape : Shape) (after : List ℕ) (what other : TextWhat) → HasItemFault first rest what → HasItem first rest shape after → IsMisplaced names rooted (role_of_shape shape) other → number_of other < number_of what → ⊥
+own_is_lower : (first : Bool) (rest : List ℕ) (names : List (List ℕ)) (rooted : Bool) (shape : Shape) (after : List ℕ) (what other : TextWhat) →
+    HasItemFault first rest what → HasItem first rest shape after → IsMisplaced names rooted (role_of_shape shape) other → number_of other < number_of what → ⊥
 own_is_lower first rest names rooted shape after Encoding other fault item m lt = omega (arith, place_number names rooted (role_of_shape shape) other m, lt)
 own_is_lower first rest names rooted shape after Doctype other fault item m lt = omega (arith, place_number names rooted (role_of_shape shape) other m, lt)
 own_is_lower first rest names rooted shape after Markup other fault item m lt = omega (arith, place_number names rooted (role_of_shape shape) other m, lt)
@@ -215,7 +232,8 @@ own_is_lower first rest names rooted shape after RepeatedAttribute other fault i
 own_is_lower first rest names rooted shape after Unfinished other fault item m lt = fault.no_item shape after item
 own_is_lower first rest names rooted shape after what other fault item m lt = fault
 
-pub own_fault : (bytes : List ℕ) (at : ℕ) (first : Bool) (state : State) (rooted : Bool) (what : TextWhat) → IsUtf8 bytes → Kept bytes at first state rooted → at < length bytes → IsLeastFault first (drop at bytes) what → IsTextFault bytes what at
+pub own_fault : (bytes : List ℕ) (at : ℕ) (first : Bool) (state : State) (rooted : Bool) (what : TextWhat) → IsUtf8 bytes → Kept bytes at first state rooted →
+    at < length bytes → IsLeastFault first (drop at bytes) what → IsTextFault bytes what at
 own_fault bytes at first state rooted what utf8 k lt f =
     let least : IsLeastFault (is_first k.items) (drop at bytes) what = subst (λ (b : Bool). IsLeastFault b (drop at bytes) what) k.first_is f in
     first_is_one bytes at what (record {
@@ -228,22 +246,30 @@ own_fault bytes at first state rooted what utf8 k lt f =
       fault = inl least.holds;
       least = λ other low h. elim h [
         | inl own ↦ least.least other low own
-        | inr m ↦ own_is_lower (is_first k.items) (drop at bytes) (open_names k.items) (has_root k.items) m.shape m.after what other least.holds m.item m.misplaced low
+        | inr m ↦ own_is_lower (is_first k.items) (drop at bytes) (open_names k.items) (has_root k.items) m.shape m.after what other least.holds m.item
+            m.misplaced low
       ];
     })
 
 -- the fault that an item's own is answered as
-pub item_fault : (bytes : List ℕ) (at : ℕ) (first : Bool) (state : State) (rooted : Bool) (e : ItemFault) → IsUtf8 bytes → Kept bytes at first state rooted → at < length bytes → (e ≡ answers.Memory) ⊎ IsItemFault first (drop at bytes) e → (fault_at e at ≡ reads.Memory) ⊎ IsReadFault bytes (fault_at e at)
+pub item_fault : (bytes : List ℕ) (at : ℕ) (first : Bool) (state : State) (rooted : Bool) (e : ItemFault) → IsUtf8 bytes → Kept bytes at first state rooted →
+    at < length bytes → (e ≡ answers.Memory) ⊎ IsItemFault first (drop at bytes) e → (fault_at e at ≡ reads.Memory) ⊎ IsReadFault bytes (fault_at e at)
 item_fault bytes at first state rooted e utf8 k lt (inl want) = inl (ap (λ (f : ItemFault). fault_at f at) want)
 item_fault bytes at first state rooted (answers.Item what) utf8 k lt (inr f) = inr (own_fault bytes at first state rooted what utf8 k lt f)
 item_fault bytes at first state rooted answers.Memory utf8 k lt (inr f) = absurd f
 
-pub place_fault : (bytes : List ℕ) (at : ℕ) (first : Bool) (state : State) (rooted : Bool) (kind : ItemKind) (after : List ℕ) (what : TextWhat) → IsUtf8 bytes → Kept bytes at first state rooted → at < length bytes → HasSoundItem first (drop at bytes) kind after → Some what ≡ fault_in (names_in state.stack) rooted (role_of kind) → IsTextFault bytes what at
+pub place_fault : (bytes : List ℕ) (at : ℕ) (first : Bool) (state : State) (rooted : Bool) (kind : ItemKind) (after : List ℕ) (what : TextWhat) → IsUtf8 bytes →
+    Kept bytes at first state rooted → at < length bytes → HasSoundItem first (drop at bytes) kind after →
+    Some what ≡ fault_in (names_in state.stack) rooted (role_of kind) → IsTextFault bytes what at
 place_fault bytes at first state rooted kind after what utf8 k lt sound e =
     let names : names_in state.stack ≡ open_names k.items = names_open k.items state k.state_is in
-    let told : IsLeastMisplaced (names_in state.stack) rooted (role_of kind) what = subst (FaultIs (names_in state.stack) rooted (role_of kind)) (sym e) (fault_is (names_in state.stack) rooted (role_of kind)) in
-    let least : IsLeastMisplaced (open_names k.items) (has_root k.items) (role_of kind) what = subst (λ (b : Bool). IsLeastMisplaced (open_names k.items) b (role_of kind) what) k.root_is (subst (λ (ns : List (List ℕ)). IsLeastMisplaced ns rooted (role_of kind) what) names told) in
-    let item : HasItem (is_first k.items) (drop at bytes) sound.shape after = subst (λ (b : Bool). HasItem b (drop at bytes) sound.shape after) k.first_is sound.item in
+    let told : IsLeastMisplaced (names_in state.stack) rooted (role_of kind) what = subst (FaultIs (names_in state.stack) rooted (role_of kind)) (sym e)
+    (fault_is (names_in state.stack) rooted (role_of kind)) in
+    let least : IsLeastMisplaced (open_names k.items) (has_root k.items) (role_of kind) what = subst
+    (λ (b : Bool). IsLeastMisplaced (open_names k.items) b (role_of kind) what) k.root_is
+    (subst (λ (ns : List (List ℕ)). IsLeastMisplaced ns rooted (role_of kind) what) names told) in
+    let item : HasItem (is_first k.items) (drop at bytes) sound.shape after = subst (λ (b : Bool). HasItem b (drop at bytes) sound.shape after) k.first_is
+    sound.item in
     let role : role_of_shape sound.shape ≡ role_of kind = same_role sound.shape kind sound.kind_is in
     first_is_one bytes at what (record {
       utf8 = utf8;
@@ -252,18 +278,26 @@ place_fault bytes at first state rooted kind after what utf8 k lt sound e =
       comes_to = k.comes_to;
       sound = k.sound;
       some = λ empty. omega (arith, length-drop at bytes, ap length empty);
-      fault = inr (record { shape = sound.shape; after = after; item = item; misplaced = subst (λ (x : Role). IsMisplaced (open_names k.items) (has_root k.items) x what) (sym role) least.holds });
+      fault = inr (record {
+        shape = sound.shape;
+        after = after;
+        item = item;
+        misplaced = subst (λ (x : Role). IsMisplaced (open_names k.items) (has_root k.items) x what) (sym role)
+            least.holds;
+      });
       least = λ other low h. elim h [
         | inl own ↦ sound.sound other (subst (λ (b : Bool). HasItemFault b (drop at bytes) other) (sym k.first_is) own)
         | inr m ↦
             let same = one_item (is_first k.items) (drop at bytes) m.shape sound.shape m.after after m.item item in
-            least.least other low (subst (λ (x : Role). IsMisplaced (open_names k.items) (has_root k.items) x other) (ap role_of_shape same.0 ∙ role) m.misplaced)
+            least.least other low (subst (λ (x : Role). IsMisplaced (open_names k.items) (has_root k.items) x other)
+            (ap role_of_shape same.0 ∙ role) m.misplaced)
       ];
     })
 
 -- ---- at the end
 
-pub read_through : (bytes : List ℕ) (at : ℕ) (first : Bool) (state : State) (rooted : Bool) → length bytes ≤ MAX_FILE_BYTES → Kept bytes at first state rooted → length bytes ≤ at → IsReadThrough bytes state rooted
+pub read_through : (bytes : List ℕ) (at : ℕ) (first : Bool) (state : State) (rooted : Bool) → length bytes ≤ MAX_FILE_BYTES → Kept bytes at first state rooted →
+    length bytes ≤ at → IsReadThrough bytes state rooted
 read_through bytes at first state rooted few k end =
     let here : at ≡ length bytes = omega (arith, k.within, end) in
     record {
@@ -285,7 +319,8 @@ pub record AddsOne (m n : Marks) (at : ℕ) : Type 0 where
   pub tracks : n.tracks ≤ m.tracks + 1
   pub signals : (n.signals ≡ m.signals) ⊎ ((x : SignalElem) × (x.at ≡ at) × (n.signals ≡ m.signals ++ x ∷ []))
 
-adds_here : (m : Marks) (at : ℕ) (attrs : List Attr) (here : Context) → AddsOne m (record { tracks = m.tracks + own_track here; signals = m.signals ++ own_signal here at attrs (m.tracks + own_track here) }) at
+adds_here : (m : Marks) (at : ℕ) (attrs : List Attr) (here : Context) →
+    AddsOne m (record { tracks = m.tracks + own_track here; signals = m.signals ++ own_signal here at attrs (m.tracks + own_track here) }) at
 adds_here m at attrs contexts.Signal = record { tracks = omega arith; signals = inr (_, refl, refl) }
 adds_here m at attrs (contexts.Selected kinds_of.Track) = record { tracks = omega arith; signals = inl (append-nil m.signals) }
 adds_here m at attrs here = record { tracks = omega arith; signals = inl (append-nil m.signals) }
@@ -303,7 +338,8 @@ pub record KeptBoth (bytes : List ℕ) (at : ℕ) (first : Bool) (state : State)
   pub rising : AreRising marks.signals
   pub before : (i : ℕ) (a : SignalElem) → slice_get marks.signals i ≡ Some a → a.at < at
 
-pub both_start : (bytes : List ℕ) (at : ℕ) (state : State) (rooted : Bool) (marks : Marks) → IsUtf8 bytes → at ≡ start_of bytes → state ≡ start → rooted ≡ false → marks ≡ no_marks → KeptBoth bytes at true state rooted marks
+pub both_start : (bytes : List ℕ) (at : ℕ) (state : State) (rooted : Bool) (marks : Marks) → IsUtf8 bytes → at ≡ start_of bytes → state ≡ start →
+    rooted ≡ false → marks ≡ no_marks → KeptBoth bytes at true state rooted marks
 unfolding kept_start
 both_start bytes at state rooted marks utf8 here s r m = record {
   kept = kept_start bytes at state rooted utf8 here s r;
@@ -313,7 +349,8 @@ both_start bytes at state rooted marks utf8 here s r m = record {
   before = rw m (λ i a e. absurd cc);
 }
 
-rising_more : (old new : List SignalElem) (at next : ℕ) → at < next → AreRising old → ((i : ℕ) (a : SignalElem) → slice_get old i ≡ Some a → a.at < at) → (new ≡ old) ⊎ ((x : SignalElem) × (x.at ≡ at) × (new ≡ old ++ x ∷ [])) → AreRising new × ((i : ℕ) (a : SignalElem) → slice_get new i ≡ Some a → a.at < next)
+rising_more : (old new : List SignalElem) (at next : ℕ) → at < next → AreRising old → ((i : ℕ) (a : SignalElem) → slice_get old i ≡ Some a → a.at < at) →
+    (new ≡ old) ⊎ ((x : SignalElem) × (x.at ≡ at) × (new ≡ old ++ x ∷ [])) → AreRising new × ((i : ℕ) (a : SignalElem) → slice_get new i ≡ Some a → a.at < next)
 rising_more old new at next lt rise before (inl same) = rw same (rise, λ i a e. let low = before i a e in omega arith)
 rising_more old new at next lt rise before (inr more) =
     let x = more.0 in
@@ -339,17 +376,22 @@ rising_more old new at next lt rise before (inr more) =
       ],
     )
 
-marks_push : (items : List Placed) (item : Placed) (state : State) (marks : Marks) → state ≡ state_after items → marks ≡ marks_after items → (fold after_both (state, marks) (tags_at item.at item.kind)).1 ≡ marks_after (items ++ item ∷ [])
+marks_push : (items : List Placed) (item : Placed) (state : State) (marks : Marks) → state ≡ state_after items → marks ≡ marks_after items →
+    (fold after_both (state, marks) (tags_at item.at item.kind)).1 ≡ marks_after (items ++ item ∷ [])
 marks_push items item state marks s m =
     let both = fold after_both (start, no_marks) (tags_in items) in
     let one : both.0 ≡ state = first_of_both (tags_in items) start no_marks ∙ sym s in
     let two : both.1 ≡ marks = sym m in
     let pair : State → Marks → State × Marks = λ a b. (a, b) in
     let same : both ≡ (state, marks) = ap (λ (a : State). pair a both.1) one ∙ ap (pair state) two in
-    let whole : fold after_both (start, no_marks) (tags_in (items ++ item ∷ [])) ≡ fold after_both both (tags_at item.at item.kind) = ap (λ t. fold after_both (start, no_marks) t) (tags_push items item) ∙ fold-append after_both (start, no_marks) (tags_in items) (tags_at item.at item.kind) in
+    let whole : fold after_both (start, no_marks) (tags_in (items ++ item ∷ [])) ≡ fold after_both both (tags_at item.at item.kind) = ap
+    (λ t. fold after_both (start, no_marks) t) (tags_push items item) ∙ fold-append after_both (start, no_marks) (tags_in items) (tags_at item.at item.kind) in
     sym (ap (λ (b : State × Marks). b.1) (whole ∙ ap (λ (b : State × Marks). fold after_both b (tags_at item.at item.kind)) same))
 
-pub both_next : (bytes : List ℕ) (at next : ℕ) (first : Bool) (state after : State) (rooted root : Bool) (marks more : Marks) (kind : ItemKind) → KeptBoth bytes at first state rooted marks → HasSoundItem first (drop at bytes) kind (drop next bytes) → at < next → next ≤ length bytes → IsCharBoundary bytes next → None ≡ fault_in (names_in state.stack) rooted (role_of kind) → after ≡ fold after_tag state (tags_at at kind) → root ≡ (rooted || begins_element kind) → more ≡ (fold after_both (state, marks) (tags_at at kind)).1 → KeptBoth bytes next false after root more
+pub both_next : (bytes : List ℕ) (at next : ℕ) (first : Bool) (state after : State) (rooted root : Bool) (marks more : Marks) (kind : ItemKind) →
+    KeptBoth bytes at first state rooted marks → HasSoundItem first (drop at bytes) kind (drop next bytes) → at < next → next ≤ length bytes →
+    IsCharBoundary bytes next → None ≡ fault_in (names_in state.stack) rooted (role_of kind) → after ≡ fold after_tag state (tags_at at kind) →
+    root ≡ (rooted || begins_element kind) → more ≡ (fold after_both (state, marks) (tags_at at kind)).1 → KeptBoth bytes next false after root more
 unfolding kept_next
 both_next bytes at next first state after rooted root marks more kind b sound lt within boundary free_of s r m =
     let adds = adds_item state marks at kind in
@@ -362,9 +404,14 @@ both_next bytes at next first state after rooted root marks more kind b sound lt
       before = rw m risen.1;
     }
 
-pub marked_through : (bytes : List ℕ) (at : ℕ) (first : Bool) (state : State) (rooted : Bool) (marks : Marks) → length bytes ≤ MAX_FILE_BYTES → KeptBoth bytes at first state rooted marks → length bytes ≤ at → HasMarks bytes state rooted marks
+pub marked_through : (bytes : List ℕ) (at : ℕ) (first : Bool) (state : State) (rooted : Bool) (marks : Marks) → length bytes ≤ MAX_FILE_BYTES →
+    KeptBoth bytes at first state rooted marks → length bytes ≤ at → HasMarks bytes state rooted marks
 unfolding read_through
-marked_through bytes at first state rooted marks few b end = record { through = read_through bytes at first state rooted few b.kept end; marks_are = b.marks_are; rising = b.rising }
+marked_through bytes at first state rooted marks few b end = record {
+  through = read_through bytes at first state rooted few b.kept end;
+  marks_are = b.marks_are;
+  rising = b.rising;
+}
 
 pub new_marks : (tracks : ℕ) (signals : List SignalElem) → tracks ≡ 0 → signals ≡ [] → marked tracks signals ≡ no_marks
 new_marks tracks signals t s = ap (λ (n : ℕ). marked n signals) t ∙ ap (marked 0) s

@@ -24,13 +24,16 @@ first_of_both (t ∷ tags) s m = first_of_both tags (after_tag s t) (after_mark 
 pub record Gone (elements : Elements) (context : Context) (s : State) (tracks : ℕ) (signals : List SignalElem) (rest : List Tag) : Type 0 where
   pub t : State
   pub same : t.stack ≡ s.stack
-  pub gone : fold after_both (s, marked tracks signals) (tags_of elements ++ rest) ≡ fold after_both (t, marked (tracks + tracks_from context elements) (signals ++ signals_from context tracks elements)) rest
+  pub gone : fold after_both (s, marked tracks signals) (tags_of elements ++ rest) ≡ fold after_both
+  (t, marked (tracks + tracks_from context elements) (signals ++ signals_from context tracks elements)) rest
 
-pub gone_by : (elements : Elements) (context : Context) (s : State) (tracks : ℕ) (signals : List SignalElem) (rest : List Tag) → context_in (top_frame s.stack) ≡ context → Gone elements context s tracks signals rest
+pub gone_by : (elements : Elements) (context : Context) (s : State) (tracks : ℕ) (signals : List SignalElem) (rest : List Tag) →
+    context_in (top_frame s.stack) ≡ context → Gone elements context s tracks signals rest
 gone_by none context s tracks signals rest e = record {
   t = s;
   same = refl;
-  gone = ap (λ (n : ℕ). fold after_both (s, marked n signals) rest) (let same : tracks ≡ tracks + 0 = omega arith in same) ∙ ap (λ (xs : List SignalElem). fold after_both (s, marked (tracks + 0) xs) rest) (sym (append-nil signals));
+  gone = ap (λ (n : ℕ). fold after_both (s, marked n signals) rest) (let same : tracks ≡ tracks + 0 = omega arith in same)
+  ∙ ap (λ (xs : List SignalElem). fold after_both (s, marked (tracks + 0) xs) rest) (sym (append-nil signals));
 }
 gone_by (element at name attrs children after) context s tracks signals rest e =
     let here = below context name in
@@ -44,18 +47,23 @@ gone_by (element at name attrs children after) context s tracks signals rest e =
     let first = gone_by children here opened begun (signals ++ own) tags top in
     let closed = after_tag first.t (closes name) in
     let left : closed.stack ≡ s.stack = ap (λ (st : List Frame). take (length st - 1) st) first.same ∙ front_push s.stack frame in
-    let second = gone_by after context closed (begun + tracks_from here children) ((signals ++ own) ++ inside) rest (ap (λ (st : List Frame). context_in (top_frame st)) left ∙ e) in
-    let marks_at : Context → Marks = λ k. marked (tracks + own_track (below k name)) (signals ++ own_signal (below k name) at attrs (tracks + own_track (below k name))) in
+    let second = gone_by after context closed (begun + tracks_from here children) ((signals ++ own) ++ inside) rest
+    (ap (λ (st : List Frame). context_in (top_frame st)) left ∙ e) in
+    let marks_at : Context → Marks = λ k. marked (tracks + own_track (below k name))
+    (signals ++ own_signal (below k name) at attrs (tracks + own_track (below k name))) in
     record {
       t = second.t;
       same = second.same ∙ left;
       gone =
-          ap (λ (t : List Tag). fold after_both (opened, marks_at (context_in (top_frame s.stack))) t) (append_assoc (tags_of children) (closes name ∷ tags_of after) rest)
+          ap (λ (t : List Tag). fold after_both (opened, marks_at (context_in (top_frame s.stack))) t)
+          (append_assoc (tags_of children) (closes name ∷ tags_of after) rest)
           ∙ ap (λ (k : Context). fold after_both (opened, marks_at k) (tags_of children ++ tags)) e
           ∙ first.gone
           ∙ second.gone
-          ∙ ap (λ (n : ℕ). fold after_both (second.t, marked n (((signals ++ own) ++ inside) ++ signals_from context (begun + tracks_from here children) after)) rest) (sums tracks (own_track here) (tracks_from here children) (tracks_from context after))
-          ∙ ap (λ (xs : List SignalElem). fold after_both (second.t, marked (tracks + (own_track here + tracks_from here children + tracks_from context after)) xs) rest) (lists signals own inside (signals_from context (begun + tracks_from here children) after));
+          ∙ ap (λ (n : ℕ). fold after_both (second.t, marked n (((signals ++ own) ++ inside) ++ signals_from context (begun + tracks_from here children) after))
+          rest) (sums tracks (own_track here) (tracks_from here children) (tracks_from context after))
+          ∙ ap (λ (xs : List SignalElem). fold after_both (second.t, marked (tracks + (own_track here + tracks_from here children + tracks_from context after))
+          xs) rest) (lists signals own inside (signals_from context (begun + tracks_from here children) after));
     }
   where
     sums : (a b c d : ℕ) → (a + b + c) + d ≡ a + (b + c + d)
@@ -65,7 +73,8 @@ gone_by (element at name attrs children after) context s tracks signals rest e =
     lists a b c d = simp append_assoc
 
 -- the tracks and signals of a tree
-pub tree_marks : (tree : XmlTree) → (fold after_both (start, no_marks) (tags_of (root_of tree))).1 ≡ marked (0 + tracks_from Outside (root_of tree)) ([] ++ signals_of tree)
+pub tree_marks : (tree : XmlTree) → (fold after_both (start, no_marks) (tags_of (root_of tree))).1 ≡ marked (0 + tracks_from Outside (root_of tree))
+    ([] ++ signals_of tree)
 tree_marks tree =
     let g = gone_by (root_of tree) Outside start 0 [] [] refl in
     ap (λ (t : List Tag). (fold after_both (start, no_marks) t).1) (sym (append-nil (tags_of (root_of tree)))) ∙ ap (λ (b : State × Marks). b.1) g.gone

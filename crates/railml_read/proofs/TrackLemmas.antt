@@ -1,5 +1,6 @@
 -- Each signal stands on a track that is there.
-use Rattle.std.proofs.Common.{◌≡◌, ℕ, zero, suc, ◌+◌, ◌<◌, ◌≤◌, Bool, true, false, cond, Option, Some, None, List, [], ◌∷◌, ◌++◌, length, slice_get, refl, subst, arith}
+use Rattle.std.proofs.Common.{◌≡◌, ℕ, zero, suc, ◌+◌, ◌<◌, ◌≤◌, Bool, true, false, cond, Option, Some, None, List, [], ◌∷◌, ◌++◌, length, slice_get, refl}
+use Rattle.std.proofs.Common.{subst, arith}
 use Rattle.std.specs.Prelude.{bytes_eq, codes}
 use Rattle.std.proofs.lemmas.Option.{same_Some}
 use Rattle.std.proofs.lemmas.List.Sums.{sum_by-append}
@@ -9,7 +10,8 @@ use Rattle.railml_read.specs.declared.rows.SignalElem.{SignalElem}
 use Rattle.railml_read.specs.declared.rows.ElemKind.{ElemKind}
 use Rattle.railml_read.specs.declared.rows.ElemKind.TheVariants as kinds
 use Rattle.railml_read.specs.declared.contexts.Context.{Context}
-use Rattle.railml_read.specs.declared.contexts.Context.TheVariants.{Outside, Railml, Infrastructure, Tracks, Connections, OcsElements, Signals, Signal, Selected, Skipped}
+use Rattle.railml_read.specs.declared.contexts.Context.TheVariants.{Outside, Railml, Infrastructure, Tracks, Connections, OcsElements, Signals, Signal}
+use Rattle.railml_read.specs.declared.contexts.Context.TheVariants.{Selected, Skipped}
 use Rattle.railml_read.specs.Contexts.{below, below_selected, below_end}
 use Rattle.railml_read.specs.Tree.{Elements, none, element, XmlTree, root_of}
 use Rattle.railml_read.specs.Rows.{own_row, nearest, rows_from, rows_of}
@@ -60,8 +62,10 @@ below_end_has name n =
     (either (bytes_eq name (codes "macroscopicNode")) _ _ n tt tt)))
 
 selected_has : (kind : ElemKind) (name : List ℕ) (n : ℕ) → HasTrack (Selected kind) n → Has (below_selected kind name) n
-selected_has kinds.Track name n h = either (bytes_eq name (codes "trackTopology")) _ _ n tt (either (bytes_eq name (codes "ocsElements")) _ _ n (omega (arith, h)) tt)
-selected_has kinds.Topology name n h = either (bytes_eq name (codes "trackBegin")) _ _ n tt (either (bytes_eq name (codes "trackEnd")) _ _ n tt (either (bytes_eq name (codes "connections")) _ _ n tt tt))
+selected_has kinds.Track name n h = either (bytes_eq name (codes "trackTopology")) _ _ n tt
+    (either (bytes_eq name (codes "ocsElements")) _ _ n (omega (arith, h)) tt)
+selected_has kinds.Topology name n h = either (bytes_eq name (codes "trackBegin")) _ _ n tt
+    (either (bytes_eq name (codes "trackEnd")) _ _ n tt (either (bytes_eq name (codes "connections")) _ _ n tt tt))
 selected_has kinds.Begin name n h = below_end_has name n
 selected_has kinds.End name n h = below_end_has name n
 selected_has kinds.Switch name n h = either (bytes_eq name (codes "connection")) _ _ n tt tt
@@ -88,7 +92,8 @@ unfolding Each
 own_below Signal at attrs n h = (omega (arith, h), tt)
 own_below here at attrs n h = tt
 
-all_below : (elements : Elements) (context : Context) (n : ℕ) → HasTrack context n → Each (IsBelow (n + tracks_from context elements)) (signals_from context n elements)
+all_below : (elements : Elements) (context : Context) (n : ℕ) → HasTrack context n →
+    Each (IsBelow (n + tracks_from context elements)) (signals_from context n elements)
 unfolding Each
 all_below none context n h = tt
 all_below (element at name attrs children after) context n h =
@@ -100,8 +105,10 @@ all_below (element at name attrs children after) context n h =
     let has = below_has context name n h in
     let later : HasTrack context (begun + inside) = has_more context n (begun + inside) (omega arith) h in
     let a = each_weaker (IsBelow begun) (IsBelow all) (λ x less. omega (arith, less)) (own_signal here at attrs begun) (own_below here at attrs begun has) in
-    let b = each_weaker (IsBelow (begun + inside)) (IsBelow all) (λ x less. omega (arith, less)) (signals_from here begun children) (all_below children here begun has) in
-    let c = each_weaker (IsBelow (begun + inside + behind)) (IsBelow all) (λ x less. omega (arith, less)) (signals_from context (begun + inside) after) (all_below after context (begun + inside) later) in
+    let b = each_weaker (IsBelow (begun + inside)) (IsBelow all) (λ x less. omega (arith, less)) (signals_from here begun children)
+    (all_below children here begun has) in
+    let c = each_weaker (IsBelow (begun + inside + behind)) (IsBelow all) (λ x less. omega (arith, less)) (signals_from context (begun + inside) after)
+    (all_below after context (begun + inside) later) in
     each_both (IsBelow all) (own_signal here at attrs begun) (signals_from here begun children ++ signals_from context (begun + inside) after) a
     (each_both (IsBelow all) (signals_from here begun children) (signals_from context (begun + inside) after) b c)
   where
@@ -118,7 +125,8 @@ own_count : (here : Context) (at : ℕ) (attrs : List Attr) (parent : Option ℕ
 own_count (Selected kinds.Track) at attrs parent = refl
 own_count here at attrs parent = refl
 
-tracks_are_rows : (elements : Elements) (context : Context) (parent : Option ℕ) (n : ℕ) → track_count (rows_from context parent n elements) ≡ tracks_from context elements
+tracks_are_rows : (elements : Elements) (context : Context) (parent : Option ℕ) (n : ℕ) →
+    track_count (rows_from context parent n elements) ≡ tracks_from context elements
 tracks_are_rows none context parent n = refl
 tracks_are_rows (element at name attrs children after) context parent n =
     let here = below context name in
@@ -126,7 +134,15 @@ tracks_are_rows (element at name attrs children after) context parent n =
     let inside = rows_from here (nearest here n parent) (n + length own) children in
     let behind = rows_from context parent (n + length own + length inside) after in
     let weight : Elem → ℕ = λ row. cond (is_track row.kind) 1 0 in
-    omega (arith, sum_by-append weight own (inside ++ behind), sum_by-append weight inside behind, own_count here at attrs parent, tracks_are_rows children here (nearest here n parent) (n + length own), tracks_are_rows after context parent (n + length own + length inside))
+    omega (
+      arith,
+      sum_by-append weight own (inside ++ behind),
+      sum_by-append weight inside behind,
+      own_count here at attrs parent,
+      tracks_are_rows children here
+          (nearest here n parent) (n + length own),
+      tracks_are_rows after context parent (n + length own + length inside),
+    )
 
 pub on_a_track : (tree : XmlTree) (i : ℕ) (x : SignalElem) → slice_get (signals_of tree) i ≡ Some x → x.track < track_count (rows_of tree)
 on_a_track tree i x e =

@@ -1,5 +1,6 @@
 -- Items one after another.
-use Rattle.std.proofs.Common.{◌≡◌, ◌⊎◌, ℕ, ◌+◌, ◌<◌, ◌≤◌, Bool, true, false, cond, ◌==◌, ◌&&◌, codes, List, [], ◌∷◌, ◌++◌, length, drop, refl, sym, ap, ◌∙◌, subst, length-drop, arith, inl, inr}
+use Rattle.std.proofs.Common.{◌≡◌, ◌⊎◌, ℕ, ◌+◌, ◌<◌, ◌≤◌, Bool, true, false, cond, ◌==◌, ◌&&◌, codes, List, [], ◌∷◌, ◌++◌, length, drop, refl, sym, ap, ◌∙◌}
+use Rattle.std.proofs.Common.{subst, length-drop, arith, inl, inr}
 use Rattle.std.specs.Prelude.{nat_eq}
 use Rattle.std.specs.List.{starts_with}
 use Rattle.std.specs.Str.{IsUtf8, IsCharBoundary}
@@ -9,7 +10,8 @@ use Rattle.railml_text.specs.declared.item.ItemKind.{ItemKind}
 use Rattle.railml_text.specs.declared.item.ItemKind.TheVariants as kinds
 use Rattle.railml_text.specs.declared.item.Attr.{Attr}
 use Rattle.railml_text.specs.declared.fault.TextWhat.{TextWhat}
-use Rattle.railml_text.specs.declared.fault.TextWhat.TheVariants.{NotUtf8, Encoding, Doctype, Markup, Entity, EndTag, RepeatedAttribute, Root, Unfinished, AfterRoot, Depth, NoInfrastructure}
+use Rattle.railml_text.specs.declared.fault.TextWhat.TheVariants.{NotUtf8, Encoding, Doctype, Markup, Entity, EndTag, RepeatedAttribute, Root, Unfinished}
+use Rattle.railml_text.specs.declared.fault.TextWhat.TheVariants.{AfterRoot, Depth, NoInfrastructure}
 use Rattle.railml_text.specs.Grammar.{Written}
 use Rattle.railml_text.specs.Items.{Shape, declaration, instruction, comment, cdata, start_tag, end_tag, reference, chars, HasItem, AreTextsOf, IsKindOf}
 use Rattle.railml_text.specs.Faults.{number_of, HasItemFault, IsLeastFault, HasSoundItem}
@@ -51,7 +53,8 @@ one_kind reference kind other h k = h ∙ sym k
 one_kind (chars blank) kind other h k = h ∙ sym k
 
 -- what is told of the item at a place is one
-pub one_sound_item : (first : Bool) (rest : List ℕ) (kind other : ItemKind) (a b : List ℕ) → HasSoundItem first rest kind a → HasSoundItem first rest other b → (kind ≡ other) × (a ≡ b)
+pub one_sound_item : (first : Bool) (rest : List ℕ) (kind other : ItemKind) (a b : List ℕ) → HasSoundItem first rest kind a → HasSoundItem first rest other b →
+    (kind ≡ other) × (a ≡ b)
 one_sound_item first rest kind other a b h k =
     let o = one_item first rest h.shape k.shape a b h.item k.item in
     (one_kind k.shape kind other (subst (λ (s : Shape). IsKindOf s kind) o.0 h.kind_is) k.kind_is, o.1)
@@ -93,11 +96,13 @@ one_fault first rest what other h k = elim (order (number_of what) (number_of ot
 
 -- ---- an item or a fault
 
-pub fault_no_sound : (first : Bool) (rest : List ℕ) (what : TextWhat) (kind : ItemKind) (after : List ℕ) → HasItemFault first rest what → HasSoundItem first rest kind after → ⊥
+pub fault_no_sound : (first : Bool) (rest : List ℕ) (what : TextWhat) (kind : ItemKind) (after : List ℕ) → HasItemFault first rest what →
+    HasSoundItem first rest kind after → ⊥
 fault_no_sound first rest what kind after f h = h.sound what f
 
 -- at these faults no item begins
-pub fault_no_item : (first : Bool) (rest : List ℕ) (shape : Shape) (after : List ℕ) → HasItemFault first rest Doctype ⊎ HasItemFault first rest Markup ⊎ HasItemFault first rest Unfinished → HasItem first rest shape after → ⊥
+pub fault_no_item : (first : Bool) (rest : List ℕ) (shape : Shape) (after : List ℕ) →
+    HasItemFault first rest Doctype ⊎ HasItemFault first rest Markup ⊎ HasItemFault first rest Unfinished → HasItem first rest shape after → ⊥
 fault_no_item first rest shape after (inl d) h = no_doctype first rest shape after h d
 fault_no_item first rest shape after (inr (inl m)) h = m.no_item shape after h
 fault_no_item first rest shape after (inr (inr u)) h = u.no_item shape after h
@@ -127,7 +132,8 @@ Stops-end first kind after h = absurd (omega (arith, item_some first [] h.shape 
 abbrev placed : ℕ → ItemKind → Placed
 placed at kind = record { at = at; kind = kind }
 
-pub cuts_once : (first : Bool) (at : ℕ) (bytes : List ℕ) (items others : List Placed) (rest last : List ℕ) → Cuts first at bytes items rest → Cuts first at bytes others last
+pub cuts_once : (first : Bool) (at : ℕ) (bytes : List ℕ) (items others : List Placed) (rest last : List ℕ) → Cuts first at bytes items rest →
+    Cuts first at bytes others last
     → Stops (first_after first items) rest → Stops (first_after first others) last → (items ≡ others) × (rest ≡ last)
 cuts_once first at bytes [] [] rest last h k s t = (refl, sym h ∙ k)
 cuts_once first at bytes [] (o ∷ others) rest last h k s t = absurd (s o.kind k.1 (subst (λ (u : List ℕ). HasSoundItem first u o.kind k.1) h k.3))
@@ -136,11 +142,13 @@ cuts_once first at bytes (i ∷ items) (o ∷ others) rest last h k s t =
     let one = one_sound_item first bytes i.kind o.kind h.1 k.1 h.3 k.3 in
     let next : h.0 ≡ k.0 = omega (arith, h.4, k.4, ap length one.1) in
     let k-rest = subst (λ (n : ℕ). Cuts false n h.1 others last) (sym next) (subst (λ (u : List ℕ). Cuts false k.0 u others last) (sym one.1) k.5) in
-    let more = cuts_once false h.0 h.1 items others rest last h.5 k-rest (subst (λ (v : Bool). Stops v rest) (sym (first_after-false items)) s) (subst (λ (v : Bool). Stops v last) (sym (first_after-false others)) t) in
+    let more = cuts_once false h.0 h.1 items others rest last h.5 k-rest (subst (λ (v : Bool). Stops v rest) (sym (first_after-false items)) s)
+    (subst (λ (v : Bool). Stops v last) (sym (first_after-false others)) t) in
     let same : i ≡ o = ap (λ (n : ℕ). placed n i.kind) (h.2 ∙ sym k.2) ∙ ap (placed o.at) one.0 in
     (ap (λ (x : Placed). x ∷ items) same ∙ ap (λ (xs : List Placed). o ∷ xs) more.0, more.1)
 
-pub comes_once : (bytes : List ℕ) (items others : List Placed) (at next : ℕ) (rest last : List ℕ) → ComesTo bytes items at rest → ComesTo bytes others next last → Stops (is_first items) rest → Stops (is_first others) last
+pub comes_once : (bytes : List ℕ) (items others : List Placed) (at next : ℕ) (rest last : List ℕ) → ComesTo bytes items at rest →
+    ComesTo bytes others next last → Stops (is_first items) rest → Stops (is_first others) last
     → (items ≡ others) × (at ≡ next) × (rest ≡ last)
 comes_once bytes items others at next rest last h k s t =
     let stops : Stops (first_after true items) rest = subst (λ (v : Bool). Stops v rest) (sym (first_after-is_first items)) s in
@@ -150,16 +158,20 @@ comes_once bytes items others at next rest last h k s t =
 
 -- bytes are cut into items in at most one way
 pub one_cut : (bytes : List ℕ) (items others : List Placed) → IsCutInto bytes items → IsCutInto bytes others → items ≡ others
-one_cut bytes items others h k = (comes_once bytes items others (length bytes) (length bytes) [] [] h k (Stops-end (is_first items)) (Stops-end (is_first others))).0
+one_cut bytes items others h k = (comes_once bytes items others (length bytes) (length bytes) [] [] h k (Stops-end (is_first items))
+    (Stops-end (is_first others))).0
 
 Stops-fault : (first : Bool) (rest : List ℕ) (what : TextWhat) → IsLeastFault first rest what → Stops first rest
 Stops-fault first rest what f kind after h = h.sound what f.holds
 
 -- a file has at most one first fault
-pub one_first_fault : (bytes : List ℕ) (what other : TextWhat) (at next : ℕ) → FirstFault bytes what at → FirstFault bytes other next → (what ≡ other) × (at ≡ next)
+pub one_first_fault : (bytes : List ℕ) (what other : TextWhat) (at next : ℕ) → FirstFault bytes what at → FirstFault bytes other next →
+    (what ≡ other) × (at ≡ next)
 one_first_fault bytes what other at next h k =
-    let o = comes_once bytes h.items k.items at next h.rest k.rest h.before k.before (Stops-fault (is_first h.items) h.rest what h.fault) (Stops-fault (is_first k.items) k.rest other k.fault) in
-    let moved = subst (λ (v : Bool). IsLeastFault v k.rest what) (ap is_first o.0) (subst (λ (u : List ℕ). IsLeastFault (is_first h.items) u what) o.2 h.fault) in
+    let o = comes_once bytes h.items k.items at next h.rest k.rest h.before k.before (Stops-fault (is_first h.items) h.rest what h.fault)
+    (Stops-fault (is_first k.items) k.rest other k.fault) in
+    let moved = subst (λ (v : Bool). IsLeastFault v k.rest what) (ap is_first o.0)
+    (subst (λ (u : List ℕ). IsLeastFault (is_first h.items) u what) o.2 h.fault) in
     (one_fault (is_first k.items) k.rest what other moved k.fault, o.1)
 
 -- a fault has a byte to begin at
@@ -184,24 +196,30 @@ fault_some first NoInfrastructure f = f
 -- a file with a fault isn't cut to its last byte
 pub fault_no_cut : (bytes : List ℕ) (what : TextWhat) (at : ℕ) (items : List Placed) → FirstFault bytes what at → IsCutInto bytes items → ⊥
 fault_no_cut bytes what at items h k =
-    let o = comes_once bytes h.items items at (length bytes) h.rest [] h.before k (Stops-fault (is_first h.items) h.rest what h.fault) (Stops-end (is_first items)) in
+    let o = comes_once bytes h.items items at (length bytes) h.rest [] h.before k (Stops-fault (is_first h.items) h.rest what h.fault)
+    (Stops-end (is_first items)) in
     fault_some (is_first h.items) what (subst (λ (u : List ℕ). HasItemFault (is_first h.items) u what) o.2 h.fault.holds)
 
 -- ---- from left to right
 
-pub Cuts-push : (first : Bool) (at : ℕ) (bytes : List ℕ) (items : List Placed) (rest : List ℕ) (place : ℕ) (kind : ItemKind) (after : List ℕ) (next : ℕ) → Cuts first at bytes items rest
-    → place + length rest ≡ at + length bytes → HasSoundItem (first_after first items) rest kind after → next + length after ≡ place + length rest → Cuts first at bytes (items ++ placed place kind ∷ []) after
+pub Cuts-push : (first : Bool) (at : ℕ) (bytes : List ℕ) (items : List Placed) (rest : List ℕ) (place : ℕ) (kind : ItemKind) (after : List ℕ) (next : ℕ) →
+    Cuts first at bytes items rest
+    → place + length rest ≡ at + length bytes → HasSoundItem (first_after first items) rest kind after → next + length after ≡ place + length rest →
+    Cuts first at bytes (items ++ placed place kind ∷ []) after
 Cuts-push first at bytes [] rest place kind after next h p s n =
     let here : place ≡ at = omega (arith, p, ap length h) in
     (next, after, here, subst (λ (u : List ℕ). HasSoundItem first u kind after) (sym h) s, omega (arith, n, p), refl)
 Cuts-push first at bytes (i ∷ items) rest place kind after next h p s n =
-    (h.0, h.1, h.2, h.3, h.4, Cuts-push false h.0 h.1 items rest place kind after next h.5 (omega (arith, p, h.4)) (subst (λ (v : Bool). HasSoundItem v rest kind after) (sym (first_after-false items)) s) n)
+    (h.0, h.1, h.2, h.3, h.4, Cuts-push false h.0 h.1 items rest place kind after next h.5 (omega (arith, p, h.4))
+    (subst (λ (v : Bool). HasSoundItem v rest kind after) (sym (first_after-false items)) s) n)
 
 -- one more item of a file
-pub ComesTo-push : (bytes : List ℕ) (items : List Placed) (at : ℕ) (rest : List ℕ) (kind : ItemKind) (after : List ℕ) (next : ℕ) → ComesTo bytes items at rest → start_of bytes ≤ length bytes
+pub ComesTo-push : (bytes : List ℕ) (items : List Placed) (at : ℕ) (rest : List ℕ) (kind : ItemKind) (after : List ℕ) (next : ℕ) → ComesTo bytes items at rest →
+    start_of bytes ≤ length bytes
     → HasSoundItem (is_first items) rest kind after → next + length after ≡ length bytes → ComesTo bytes (items ++ placed at kind ∷ []) next after
 ComesTo-push bytes items at rest kind after next h w s n = record {
-  cut = Cuts-push true (start_of bytes) (drop (start_of bytes) bytes) items rest at kind after next h.cut (omega (arith, h.place, length-drop (start_of bytes) bytes, w))
+  cut = Cuts-push true (start_of bytes) (drop (start_of bytes) bytes) items rest at kind after next h.cut
+  (omega (arith, h.place, length-drop (start_of bytes) bytes, w))
       (subst (λ (v : Bool). HasSoundItem v rest kind after) (sym (first_after-is_first items)) s) (omega (arith, n, h.place));
   place = n;
 }
@@ -234,7 +252,8 @@ unfolding lib.Utf8.encode
 start_boundary bytes u = cases (starts_with nat_eq bytes byte_order_mark) refl
   where
     cases : (v : Bool) → starts_with nat_eq bytes byte_order_mark ≡ v → IsCharBoundary bytes (cond v 3 0)
-    cases true e = IsCharBoundary-at_seam bytes byte_order_mark (drop 3 bytes) (mark_parts bytes e) (IsUtf8-past_char bytes (drop 3 bytes) 65279 u (mark_parts bytes e))
+    cases true e = IsCharBoundary-at_seam bytes byte_order_mark (drop 3 bytes) (mark_parts bytes e)
+    (IsUtf8-past_char bytes (drop 3 bytes) 65279 u (mark_parts bytes e))
     cases false e = IsCharBoundary-start bytes u
 
 pub ComesTo-none : (bytes : List ℕ) → ComesTo bytes [] (start_of bytes) (drop (start_of bytes) bytes)

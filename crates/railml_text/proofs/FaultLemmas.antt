@@ -6,7 +6,8 @@ use Rattle.railml_text.specs.declared.item.ItemKind.{ItemKind}
 use Rattle.railml_text.specs.declared.item.ItemKind.TheVariants as kinds
 use Rattle.railml_text.specs.declared.item.Attr.{Attr}
 use Rattle.railml_text.specs.declared.fault.TextWhat.{TextWhat}
-use Rattle.railml_text.specs.declared.fault.TextWhat.TheVariants.{NotUtf8, Encoding, Doctype, Markup, Entity, EndTag, RepeatedAttribute, Root, Unfinished, AfterRoot, Depth, NoInfrastructure}
+use Rattle.railml_text.specs.declared.fault.TextWhat.TheVariants.{NotUtf8, Encoding, Doctype, Markup, Entity, EndTag, RepeatedAttribute, Root, Unfinished}
+use Rattle.railml_text.specs.declared.fault.TextWhat.TheVariants.{AfterRoot, Depth, NoInfrastructure}
 use Rattle.railml_text.specs.declared.fault.ItemFault.{ItemFault}
 use Rattle.railml_text.specs.declared.fault.ItemFault.TheVariants as answers
 use Rattle.railml_text.specs.declared.miss.Miss.TheVariants.{Cut, Bad}
@@ -20,7 +21,8 @@ use Rattle.railml_text.specs.Faults.{number_of, NamesOtherEncoding, HasRepeat, a
 use Rattle.railml_text.specs.Reading.{Found, item, doctype, MarkupRead, Stopped}
 use Rattle.railml_text.specs.Judging.{AnyLoose, OwnFault, IsLeastOwn, IsSoundKind, IsFoundKind, IsFoundFault, refusal_of, IsFaultAt}
 use Rattle.railml_text.proofs.AttrLemmas.{texts_no_loose}
-use Rattle.railml_text.proofs.OneItem.{Sort, sort_of, one_item, no_doctype, read_item, read_doctype, miss_no_item, miss_no_doctype, cut_front, bad_no_front, heads_differ, markup_heads, not_in_text}
+use Rattle.railml_text.proofs.OneItem.{Sort, sort_of, one_item, no_doctype, read_item, read_doctype, miss_no_item, miss_no_doctype, cut_front, bad_no_front}
+use Rattle.railml_text.proofs.OneItem.{heads_differ, markup_heads, not_in_text}
 
 -- ---- a fault at an item is a fault of that item
 
@@ -32,13 +34,16 @@ loose_no_item first rest shape after l h = by_sort (sort_of shape)
     by_sort (inr (inl r)) = let i = subst (λ (u : Shape). HasItem first rest u after) r h in l.none i.text after i.is.0 i.parts i.is.1
     by_sort (inr (inr c)) = not_in_text first rest after c.0 38 refl (subst (λ (u : Shape). HasItem first rest u after) c.1 h) (l.rest, l.ampersand)
 
-pub own_fault : (first : Bool) (rest : List ℕ) (shape : Shape) (after : List ℕ) → HasItem first rest shape after → (what : TextWhat) → HasItemFault first rest what → OwnFault shape what
+pub own_fault : (first : Bool) (rest : List ℕ) (shape : Shape) (after : List ℕ) → HasItem first rest shape after → (what : TextWhat) →
+    HasItemFault first rest what → OwnFault shape what
 own_fault first rest shape after h NotUtf8 f = absurd f
-own_fault first rest shape after h Encoding f = subst (λ (u : Shape). OwnFault u Encoding) (one_item first rest (declaration f.attrs) shape f.after after f.item h).0 f.names
+own_fault first rest shape after h Encoding f = subst (λ (u : Shape). OwnFault u Encoding)
+    (one_item first rest (declaration f.attrs) shape f.after after f.item h).0 f.names
 own_fault first rest shape after h Doctype f = absurd (no_doctype first rest shape after h f)
 own_fault first rest shape after h Markup f = absurd (f.no_item shape after h)
 own_fault first rest shape after h Entity (inl f) = absurd (loose_no_item first rest shape after f h)
-own_fault first rest shape after h Entity (inr f) = subst (λ (u : Shape). OwnFault u Entity) (one_item first rest (start_tag f.name f.attrs f.empty) shape f.after after f.item h).0 f.loose
+own_fault first rest shape after h Entity (inr f) = subst (λ (u : Shape). OwnFault u Entity)
+    (one_item first rest (start_tag f.name f.attrs f.empty) shape f.after after f.item h).0 f.loose
 own_fault first rest shape after h EndTag f = absurd f
 own_fault first rest shape after h RepeatedAttribute f = repeated f.shape f.repeat (one_item first rest f.shape shape f.after after f.item h).0
   where
@@ -61,11 +66,24 @@ own_fault first rest shape after h Depth f = absurd f
 own_fault first rest shape after h NoInfrastructure f = absurd f
 
 -- and the other way round
-own_holds : (first : Bool) (rest : List ℕ) (shape : Shape) (after : List ℕ) → HasItem first rest shape after → (what : TextWhat) → OwnFault shape what → HasItemFault first rest what
+own_holds : (first : Bool) (rest : List ℕ) (shape : Shape) (after : List ℕ) → HasItem first rest shape after → (what : TextWhat) → OwnFault shape what →
+    HasItemFault first rest what
 own_holds first rest (declaration attrs) after h Encoding o = record { attrs = attrs; after = after; item = h; names = o }
 own_holds first rest (declaration attrs) after h RepeatedAttribute o = record { shape = declaration attrs; after = after; item = h; repeat = o }
-own_holds first rest (start_tag name attrs empty) after h Entity o = inr (record { name = name; attrs = attrs; empty = empty; after = after; item = h; loose = o })
-own_holds first rest (start_tag name attrs empty) after h RepeatedAttribute o = record { shape = start_tag name attrs empty; after = after; item = h; repeat = o }
+own_holds first rest (start_tag name attrs empty) after h Entity o = inr (record {
+  name = name;
+  attrs = attrs;
+  empty = empty;
+  after = after;
+  item = h;
+  loose = o;
+})
+own_holds first rest (start_tag name attrs empty) after h RepeatedAttribute o = record {
+  shape = start_tag name attrs empty;
+  after = after;
+  item = h;
+  repeat = o;
+}
 own_holds first rest instruction after h RepeatedAttribute o = record { shape = instruction; after = after; item = h; repeat = o }
 own_holds first rest comment after h RepeatedAttribute o = record { shape = comment; after = after; item = h; repeat = o }
 own_holds first rest cdata after h RepeatedAttribute o = record { shape = cdata; after = after; item = h; repeat = o }
@@ -76,10 +94,17 @@ own_holds first rest shape after h what o = absurd o
 
 -- ---- what is told of an item that was read
 
-sound_item : (first : Bool) (rest : List ℕ) (shape : Shape) (after : List ℕ) (kind : ItemKind) → HasItem first rest shape after → IsSoundKind shape kind → HasSoundItem first rest kind after
-sound_item first rest shape after kind h s = record { shape = shape; item = h; kind_is = s.kind_is; sound = λ what f. s.sound what (own_fault first rest shape after h what f) }
+sound_item : (first : Bool) (rest : List ℕ) (shape : Shape) (after : List ℕ) (kind : ItemKind) → HasItem first rest shape after → IsSoundKind shape kind →
+    HasSoundItem first rest kind after
+sound_item first rest shape after kind h s = record {
+  shape = shape;
+  item = h;
+  kind_is = s.kind_is;
+  sound = λ what f. s.sound what (own_fault first rest shape after h what f);
+}
 
-least_fault : (first : Bool) (rest : List ℕ) (shape : Shape) (after : List ℕ) (what : TextWhat) → HasItem first rest shape after → IsLeastOwn shape what → IsLeastFault first rest what
+least_fault : (first : Bool) (rest : List ℕ) (shape : Shape) (after : List ℕ) (what : TextWhat) → HasItem first rest shape after → IsLeastOwn shape what →
+    IsLeastFault first rest what
 least_fault first rest shape after what h o = record {
   holds = own_holds first rest shape after h what o.holds;
   least = λ other lt f. o.least other lt (own_fault first rest shape after h other f);
@@ -87,7 +112,8 @@ least_fault first rest shape after what h o = record {
 
 -- ---- after `<`
 
-least_doctype : (first : Bool) (rest : List ℕ) → BeginsWith rest (codes "<!DOCTYPE") → (other : TextWhat) → number_of other < 3 → HasItemFault first rest other → ⊥
+least_doctype : (first : Bool) (rest : List ℕ) → BeginsWith rest (codes "<!DOCTYPE") → (other : TextWhat) → number_of other < 3 →
+    HasItemFault first rest other → ⊥
 least_doctype first rest b NotUtf8 lt f = f
 least_doctype first rest b Encoding lt f = no_doctype first rest (declaration f.attrs) f.after f.item b
 least_doctype first rest b Doctype lt f = absurd (omega arith)
@@ -107,7 +133,8 @@ doctype_fault first bytes after h = let b = read_doctype first bytes after h in 
 not_loose : (bytes : List ℕ) → BeginsLoose (60 ∷ bytes) → ⊥
 not_loose bytes l = let q = same_heads 60 38 bytes l.rest l.ampersand in absurd (omega (arith, q))
 
-least_unfinished : (first : Bool) (bytes : List ℕ) → MarkupRead first bytes (Err Cut) → (other : TextWhat) → number_of other < 9 → HasItemFault first (60 ∷ bytes) other → ⊥
+least_unfinished : (first : Bool) (bytes : List ℕ) → MarkupRead first bytes (Err Cut) → (other : TextWhat) → number_of other < 9 →
+    HasItemFault first (60 ∷ bytes) other → ⊥
 least_unfinished first bytes h NotUtf8 lt f = f
 least_unfinished first bytes h Encoding lt f = miss_no_item first bytes Cut h (declaration f.attrs) f.after f.item
 least_unfinished first bytes h Doctype lt f = miss_no_doctype first bytes Cut h f
@@ -128,7 +155,8 @@ unfinished_fault first bytes h = record {
   least = least_unfinished first bytes h;
 }
 
-least_markup : (first : Bool) (bytes : List ℕ) → MarkupRead first bytes (Err Bad) → (other : TextWhat) → number_of other < 4 → HasItemFault first (60 ∷ bytes) other → ⊥
+least_markup : (first : Bool) (bytes : List ℕ) → MarkupRead first bytes (Err Bad) → (other : TextWhat) → number_of other < 4 →
+    HasItemFault first (60 ∷ bytes) other → ⊥
 least_markup first bytes h NotUtf8 lt f = f
 least_markup first bytes h Encoding lt f = miss_no_item first bytes Bad h (declaration f.attrs) f.after f.item
 least_markup first bytes h Doctype lt f = miss_no_doctype first bytes Bad h f
@@ -144,7 +172,12 @@ least_markup first bytes h NoInfrastructure lt f = f
 
 markup_fault : (first : Bool) (bytes : List ℕ) → MarkupRead first bytes (Err Bad) → IsLeastFault first (60 ∷ bytes) Markup
 markup_fault first bytes h = record {
-  holds = record { begins = (bytes, refl); no_doctype = miss_no_doctype first bytes Bad h; no_item = miss_no_item first bytes Bad h; no_front = bad_no_front first bytes h };
+  holds = record {
+    begins = (bytes, refl);
+    no_doctype = miss_no_doctype first bytes Bad h;
+    no_item = miss_no_item first bytes Bad h;
+    no_front = bad_no_front first bytes h;
+  };
   least = least_markup first bytes h;
 }
 
@@ -153,11 +186,13 @@ stop_fault first bytes (stops.Miss Cut) h = unfinished_fault first bytes h
 stop_fault first bytes (stops.Miss Bad) h = markup_fault first bytes h
 stop_fault first bytes stops.Memory h = tt
 
-pub found_sound : (first : Bool) (bytes : List ℕ) (found : Found) (after : List ℕ) (kind : ItemKind) → MarkupRead first bytes (Ok (found, after)) → IsFoundKind found kind → HasSoundItem first (60 ∷ bytes) kind after
+pub found_sound : (first : Bool) (bytes : List ℕ) (found : Found) (after : List ℕ) (kind : ItemKind) → MarkupRead first bytes (Ok (found, after)) →
+    IsFoundKind found kind → HasSoundItem first (60 ∷ bytes) kind after
 found_sound first bytes (item shape) after kind h j = sound_item first (60 ∷ bytes) shape after kind (read_item first bytes shape after h) j
 found_sound first bytes doctype after kind h j = absurd j
 
-pub found_fault : (first : Bool) (bytes : List ℕ) (found : Found) (after : List ℕ) (fault : ItemFault) → MarkupRead first bytes (Ok (found, after)) → IsFoundFault found fault → IsFaultAt first (60 ∷ bytes) fault
+pub found_fault : (first : Bool) (bytes : List ℕ) (found : Found) (after : List ℕ) (fault : ItemFault) → MarkupRead first bytes (Ok (found, after)) →
+    IsFoundFault found fault → IsFaultAt first (60 ∷ bytes) fault
 found_fault first bytes found after answers.Memory h r = tt
 found_fault first bytes (item shape) after (answers.Item what) h r = least_fault first (60 ∷ bytes) shape after what (read_item first bytes shape after h) r
 found_fault first bytes doctype after (answers.Item what) h r = subst (IsLeastFault first (60 ∷ bytes)) (sym r) (doctype_fault first bytes after h)
@@ -205,7 +240,8 @@ least_loose first rest l NoInfrastructure lt f = f
 pub loose_fault : (first : Bool) (rest : List ℕ) → BeginsLoose rest → IsLeastFault first rest Entity
 loose_fault first rest l = record { holds = inl l; least = least_loose first rest l }
 
-pub quiet_item : (first : Bool) (rest : List ℕ) (shape : Shape) (after : List ℕ) (kind : ItemKind) → IsQuiet shape → HasItem first rest shape after → IsKindOf shape kind → HasSoundItem first rest kind after
+pub quiet_item : (first : Bool) (rest : List ℕ) (shape : Shape) (after : List ℕ) (kind : ItemKind) → IsQuiet shape → HasItem first rest shape after →
+    IsKindOf shape kind → HasSoundItem first rest kind after
 quiet_item first rest shape after kind q h k = sound_item first rest shape after kind h (quiet_sound shape kind q k)
 
 -- ---- the declaration and start tags
@@ -234,18 +270,22 @@ declaration_faults attrs none once what f = f
 pub declaration_sound : (attrs : List Written) → (NamesOtherEncoding attrs → ⊥) → (HasRepeat attrs → ⊥) → IsSoundKind (declaration attrs) kinds.Declaration
 declaration_sound attrs none once = record { kind_is = refl; sound = declaration_faults attrs none once }
 
-below_start_repeat : (name : List ℕ) (attrs : List Written) (empty : Bool) → (AnyLoose attrs → ⊥) → (other : TextWhat) → number_of other < 7 → OwnFault (start_tag name attrs empty) other → ⊥
+below_start_repeat : (name : List ℕ) (attrs : List Written) (empty : Bool) → (AnyLoose attrs → ⊥) → (other : TextWhat) → number_of other < 7 →
+    OwnFault (start_tag name attrs empty) other → ⊥
 below_start_repeat name attrs empty none Entity lt f = none f
 below_start_repeat name attrs empty none RepeatedAttribute lt f = absurd (omega arith)
 below_start_repeat name attrs empty none other lt f = f
 
-pub start_repeat : (name : List ℕ) (attrs : List Written) (empty : Bool) → (AnyLoose attrs → ⊥) → HasRepeat attrs → IsLeastOwn (start_tag name attrs empty) RepeatedAttribute
+pub start_repeat : (name : List ℕ) (attrs : List Written) (empty : Bool) → (AnyLoose attrs → ⊥) → HasRepeat attrs →
+    IsLeastOwn (start_tag name attrs empty) RepeatedAttribute
 start_repeat name attrs empty none r = record { holds = r; least = below_start_repeat name attrs empty none }
 
-start_faults : (name : List ℕ) (attrs : List Written) (empty : Bool) → (AnyLoose attrs → ⊥) → (HasRepeat attrs → ⊥) → (what : TextWhat) → OwnFault (start_tag name attrs empty) what → ⊥
+start_faults : (name : List ℕ) (attrs : List Written) (empty : Bool) → (AnyLoose attrs → ⊥) → (HasRepeat attrs → ⊥) → (what : TextWhat) →
+    OwnFault (start_tag name attrs empty) what → ⊥
 start_faults name attrs empty none once Entity f = none f
 start_faults name attrs empty none once RepeatedAttribute f = once f
 start_faults name attrs empty none once what f = f
 
-pub start_sound : (name : List ℕ) (attrs : List Written) (empty : Bool) (texts : List Attr) → AreTextsOf attrs texts → (HasRepeat attrs → ⊥) → IsSoundKind (start_tag name attrs empty) (kinds.Start name texts empty)
+pub start_sound : (name : List ℕ) (attrs : List Written) (empty : Bool) (texts : List Attr) → AreTextsOf attrs texts → (HasRepeat attrs → ⊥) →
+    IsSoundKind (start_tag name attrs empty) (kinds.Start name texts empty)
 start_sound name attrs empty texts h once = record { kind_is = (texts, h, refl); sound = start_faults name attrs empty (texts_no_loose attrs texts h) once }

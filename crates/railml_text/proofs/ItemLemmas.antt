@@ -19,7 +19,8 @@ IsFound first text doctype = 60 ∷ text ≡ codes "<!DOCTYPE"
 
 -- ---- what is read is in the table
 
-declaration_of : (thing after : List ℕ) (found : Found) (b : ℕ) → DeclarationText thing found → is_blank b ≡ true → thing ≡ b ∷ after → (text : List ℕ) → text ≡ 63 ∷ (codes "xml" ++ thing) → IsFound true text found
+declaration_of : (thing after : List ℕ) (found : Found) (b : ℕ) → DeclarationText thing found → is_blank b ≡ true → thing ≡ b ∷ after → (text : List ℕ) →
+    text ≡ 63 ∷ (codes "xml" ++ thing) → IsFound true text found
 declaration_of thing after found b t w e text parts = subst (IsFound true text) (sym t.made) (
   refl,
   record {
@@ -35,7 +36,8 @@ declaration_of thing after found b t w e text parts = subst (IsFound true text) 
     gap : t.is_a.blanks ≢ []
     gap h =
         let a = attr_begins t.is_a.thing t.x t.is_a.is in
-        let whole : b ∷ after ≡ a.head ∷ (a.tail ++ t.b) = sym e ∙ t.parts ∙ ap (λ (u : List ℕ). u ++ t.b) (t.is_a.parts ∙ ap (λ (u : List ℕ). u ++ t.is_a.thing) h ∙ a.parts) in
+        let whole : b ∷ after ≡ a.head ∷ (a.tail ++ t.b) = sym e ∙ t.parts ∙ ap (λ (u : List ℕ). u ++ t.b)
+        (t.is_a.parts ∙ ap (λ (u : List ℕ). u ++ t.is_a.thing) h ∙ a.parts) in
         let same : b ≡ a.head = cc in
         both_ways (is_blank a.head) (name_no_blank a.head a.begins) (ap is_blank (sym same) ∙ w)
 
@@ -46,7 +48,12 @@ question_found first text thing found e (inl t) =
     subst (λ (v : Bool). IsFound v text found) (sym t.only_first) h
 question_found first text thing found e (inr t) = subst (IsFound first text) (sym t.is) (
   record { inner = t.up_to.inner; spelled = ap (λ (u : List ℕ). 60 ∷ u) (e ∙ ap (λ (u : List ℕ). 63 ∷ u) t.up_to.parts); first = t.up_to.first },
-  λ f b. t.no_xml f (record { blank = b.blank; after = b.after; is = b.is; parts = ap (λ (u : List ℕ). drop 1 u) (sym e) ∙ ap (λ (u : List ℕ). drop 2 u) b.begins }),
+  λ f b. t.no_xml f (record {
+    blank = b.blank;
+    after = b.after;
+    is = b.is;
+    parts = ap (λ (u : List ℕ). drop 1 u) (sym e) ∙ ap (λ (u : List ℕ). drop 2 u) b.begins;
+  }),
 )
 
 bang_found : (first : Bool) (text thing : List ℕ) (found : Found) → text ≡ 33 ∷ thing → BangText thing found → IsFound first text found
@@ -100,7 +107,12 @@ declaration_said text (attr ∷ attrs) i = gap i.attributes.0 refl i.attributes.
       thing = codes "xml" ++ (first_attr ++ tail);
       is = inl (record {
         only_first = refl;
-        begins = record { blank = b; after = (blanks ++ i.attributes.1) ++ tail; is = h.0; parts = ap (λ (u : List ℕ). codes "xml" ++ ((u ++ i.attributes.1) ++ tail)) e };
+        begins = record {
+          blank = b;
+          after = (blanks ++ i.attributes.1) ++ tail;
+          is = h.0;
+          parts = ap (λ (u : List ℕ). codes "xml" ++ ((u ++ i.attributes.1) ++ tail)) e;
+        };
         thing = first_attr ++ tail;
         is = record {
           a = first_attr;
@@ -108,7 +120,15 @@ declaration_said text (attr ∷ attrs) i = gap i.attributes.0 refl i.attributes.
           x = attr;
           y = (attrs, false);
           is_a = record { blanks = i.attributes.0; thing = i.attributes.1; blank = i.attributes.4; is = i.attributes.5; parts = refl };
-          is_b = record { between = i.attributes.2; blanks = i.blanks; close = codes "?>"; attributes = i.attributes.6; blank = i.blank; closes = (refl, refl); parts = refl };
+          is_b = record {
+            between = i.attributes.2;
+            blanks = i.blanks;
+            close = codes "?>";
+            attributes = i.attributes.6;
+            blank = i.blank;
+            closes = (refl, refl);
+            parts = refl;
+          };
           parts = refl;
           made = refl;
         };
@@ -117,7 +137,8 @@ declaration_said text (attr ∷ attrs) i = gap i.attributes.0 refl i.attributes.
       parts = parts;
     })
 
-start_said : (first : Bool) (text name : List ℕ) (attrs : List Written) (empty : Bool) → IsStartTag (60 ∷ text) name attrs empty → MarkupText first text (item (start_tag name attrs empty))
+start_said : (first : Bool) (text name : List ℕ) (attrs : List Written) (empty : Bool) → IsStartTag (60 ∷ text) name attrs empty →
+    MarkupText first text (item (start_tag name attrs empty))
 start_said first text name attrs empty i =
     let close = cond empty (codes "/>") (codes ">") in
     inr (inr (inr (record {
@@ -150,7 +171,12 @@ said first text (item instruction) i =
       is = inr (record {
         up_to = record { inner = i.0.inner; parts = refl; first = i.0.first };
         is = refl;
-        no_xml = λ f b. i.1 f (record { blank = b.blank; after = b.after; is = b.is; begins = ap (λ (u : List ℕ). 60 ∷ u) parts ∙ ap (λ (u : List ℕ). 60 ∷ 63 ∷ u) b.parts });
+        no_xml = λ f b. i.1 f (record {
+          blank = b.blank;
+          after = b.after;
+          is = b.is;
+          begins = ap (λ (u : List ℕ). 60 ∷ u) parts ∙ ap (λ (u : List ℕ). 60 ∷ 63 ∷ u) b.parts;
+        });
       });
       parts = parts;
     })
@@ -160,7 +186,16 @@ said first text (item comment) i =
       thing = 45 ∷ 45 ∷ inner;
       is = inl (record {
         thing = 45 ∷ inner;
-        is = record { a = codes "-"; b = inner; x = tt; y = tt; is_a = refl; is_b = record { inner = i.inner; parts = refl; first = i.first }; parts = refl; made = refl };
+        is = record {
+          a = codes "-";
+          b = inner;
+          x = tt;
+          y = tt;
+          is_a = refl;
+          is_b = record { inner = i.inner; parts = refl; first = i.first };
+          parts = refl;
+          made = refl;
+        };
         parts = refl;
       });
       parts = same_tails 60 60 text (33 ∷ 45 ∷ 45 ∷ inner) i.spelled;
@@ -171,7 +206,16 @@ said first text (item cdata) i =
       thing = codes "[CDATA[" ++ inner;
       is = inr (inl (record {
         thing = codes "CDATA[" ++ inner;
-        is = record { a = codes "CDATA["; b = inner; x = tt; y = tt; is_a = refl; is_b = record { inner = i.inner; parts = refl; first = i.first }; parts = refl; made = refl };
+        is = record {
+          a = codes "CDATA[";
+          b = inner;
+          x = tt;
+          y = tt;
+          is_a = refl;
+          is_b = record { inner = i.inner; parts = refl; first = i.first };
+          parts = refl;
+          made = refl;
+        };
         parts = refl;
       }));
       parts = same_tails 60 60 text (codes "![CDATA[" ++ inner) i.spelled;

@@ -1,5 +1,6 @@
 -- What ties a way of reading to the texts that are to be read, and how such laws are put together.
-use Rattle.std.proofs.Common.{◌≡◌, ◌⊎◌, ℕ, Bool, true, false, cond, ◌==◌, MatchBool, inl, inr, List, [], ◌∷◌, ◌++◌, Ok, Err, refl, sym, ap, ◌∙◌, subst, append_assoc}
+use Rattle.std.proofs.Common.{◌≡◌, ◌⊎◌, ℕ, Bool, true, false, cond, ◌==◌, MatchBool, inl, inr, List, [], ◌∷◌, ◌++◌, Ok, Err, refl, sym, ap, ◌∙◌, subst}
+use Rattle.std.proofs.Common.{append_assoc}
 use Rattle.railml_text.specs.declared.miss.Miss.{Miss}
 use Rattle.railml_text.specs.declared.miss.Miss.TheVariants.{Cut, Bad}
 use Rattle.railml_text.specs.Bytes.{is_blank, front, past}
@@ -60,7 +61,9 @@ Law-same l to from says said = record {
   again = λ text x rest h f. to (text ++ rest) (Ok (x, rest)) (l.again text x rest (said text x h) f);
   more = λ bytes x rest after h. to (bytes ++ after) (Ok (x, rest ++ after)) (l.more bytes x rest after (from bytes (Ok (x, rest)) h));
   bad = λ bytes after h. to (bytes ++ after) (Err Bad) (l.bad bytes after (from bytes (Err Bad) h));
-  cut = λ bytes h. let c = l.cut bytes (from bytes (Err Cut) h) in record { more = c.more; read = c.read; whole = λ tail f. to (bytes ++ (c.more ++ tail)) (Ok (c.read, tail)) (c.whole tail f) };
+  cut = λ bytes h. let c = l.cut bytes (from bytes (Err Cut) h) in record {
+  more = c.more; read = c.read; whole = λ tail f. to (bytes ++ (c.more ++ tail)) (Ok (c.read, tail)) (c.whole tail f)
+  };
   once = λ bytes r s h k. l.once bytes r s (from bytes r h) (from bytes s k);
 }
 
@@ -136,10 +139,16 @@ pub record SomeText {Y : Type 0} (Js : List ℕ → Y → Type 0) : Type 0 where
   pub read : Y
   pub is : Js text read
 
-pub SomeText-turn : {X Y Z : Type 0} (h : X → Y → Z) {Is : List ℕ → X → Type 0} {Js : List ℕ → Y → Type 0} → SomeText Is → SomeText Js → SomeText (TurnText h Is Js)
-SomeText-turn h s t = record { text = s.text ++ t.text; read = h s.read t.read; is = record { a = s.text; b = t.text; x = s.read; y = t.read; is_a = s.is; is_b = t.is; parts = refl; made = refl } }
+pub SomeText-turn : {X Y Z : Type 0} (h : X → Y → Z) {Is : List ℕ → X → Type 0} {Js : List ℕ → Y → Type 0} → SomeText Is → SomeText Js →
+    SomeText (TurnText h Is Js)
+SomeText-turn h s t = record {
+    text = s.text ++ t.text; read = h s.read t.read; is = record {
+    a = s.text; b = t.text; x = s.read; y = t.read; is_a = s.is; is_b = t.is; parts = refl; made = refl
+    }
+    }
 
-pub Law-turn : {X Y Z : Type 0} (h : X → Y → Z) (f : List ℕ → Read X) (S : List ℕ → Read Y → Type 0) {Is : List ℕ → X → Type 0} {Js : List ℕ → Y → Type 0} {F G : List ℕ → Type 0}
+pub Law-turn : {X Y Z : Type 0} (h : X → Y → Z) (f : List ℕ → Read X) (S : List ℕ → Read Y → Type 0) {Is : List ℕ → X → Type 0} {Js : List ℕ → Y → Type 0}
+    {F G : List ℕ → Type 0}
     → Law (graph f) Is F → Law S Js G → ((b : List ℕ) (y : Y) (rest : List ℕ) → Js b y → G rest → F (b ++ rest)) → SomeText Js
     → Law (λ bytes r. InTurn h (f bytes) S r) (TurnText h Is Js) G
 Law-turn {X = X} {Y = Y} {Z = Z} h f S {Is = Is} {Js = Js} {F = F} {G = G} lf ls leads some = record {
@@ -167,12 +176,15 @@ Law-turn {X = X} {Y = Y} {Z = Z} h f S {Is = Is} {Js = Js} {F = F} {G = G} lf ls
 
     again : (text : List ℕ) (z : Z) (rest : List ℕ) → TurnText h Is Js text z → G rest → InTurn h (f (text ++ rest)) S (Ok (z, rest))
     again text z rest t g =
-        let e : f (text ++ rest) ≡ Ok (t.x, t.b ++ rest) = ap f (ap (λ (u : List ℕ). u ++ rest) t.parts ∙ append_assoc t.a t.b rest) ∙ lf.again t.a t.x (t.b ++ rest) t.is_a (leads t.b t.y rest t.is_b g) in
+        let e : f (text ++ rest) ≡ Ok (t.x, t.b ++ rest) = ap f (ap (λ (u : List ℕ). u ++ rest) t.parts ∙ append_assoc t.a t.b rest)
+        ∙ lf.again t.a t.x (t.b ++ rest) t.is_a (leads t.b t.y rest t.is_b g) in
         along (text ++ rest) (Ok (t.x, t.b ++ rest)) (Ok (z, rest)) e (t.y, ls.again t.b t.y rest t.is_b g, t.made)
 
-    more : (bytes : List ℕ) (z : Z) (rest after : List ℕ) (r : Read X) → f bytes ≡ r → InTurn h r S (Ok (z, rest)) → InTurn h (f (bytes ++ after)) S (Ok (z, rest ++ after))
+    more : (bytes : List ℕ) (z : Z) (rest after : List ℕ) (r : Read X) → f bytes ≡ r → InTurn h r S (Ok (z, rest)) →
+    InTurn h (f (bytes ++ after)) S (Ok (z, rest ++ after))
     more bytes z rest after (Err m) e t = absurd cc
-    more bytes z rest after (Ok x) e t = along (bytes ++ after) (Ok (x.0, x.1 ++ after)) (Ok (z, rest ++ after)) (lf.more bytes x.0 x.1 after e) (t.0, ls.more x.1 t.0 rest after t.1, t.2)
+    more bytes z rest after (Ok x) e t = along (bytes ++ after) (Ok (x.0, x.1 ++ after)) (Ok (z, rest ++ after)) (lf.more bytes x.0 x.1 after e)
+    (t.0, ls.more x.1 t.0 rest after t.1, t.2)
 
     bad : (bytes after : List ℕ) (r : Read X) → f bytes ≡ r → InTurn h r S (Err Bad) → InTurn h (f (bytes ++ after)) S (Err Bad)
     bad bytes after (Err m) e t =
@@ -191,7 +203,8 @@ Law-turn {X = X} {Y = Y} {Z = Z} h f S {Is = Is} {Js = Js} {F = F} {G = G} lf ls
           more = c.more ++ some.text;
           read = h c.read some.read;
           whole = λ tail g. along (bytes ++ ((c.more ++ some.text) ++ tail)) (Ok (c.read, some.text ++ tail)) (Ok (h c.read some.read, tail))
-              (ap (λ (u : List ℕ). f (bytes ++ u)) (append_assoc c.more some.text tail) ∙ c.whole (some.text ++ tail) (leads some.text some.read tail some.is g))
+              (ap (λ (u : List ℕ). f (bytes ++ u)) (append_assoc c.more some.text tail)
+              ∙ c.whole (some.text ++ tail) (leads some.text some.read tail some.is g))
               (some.read, ls.again some.text some.read tail some.is g, refl);
         }
       where
@@ -202,7 +215,8 @@ Law-turn {X = X} {Y = Y} {Z = Z} h f S {Is = Is} {Js = Js} {F = F} {G = G} lf ls
         record {
           more = c.more;
           read = h x.0 c.read;
-          whole = λ tail g. along (bytes ++ (c.more ++ tail)) (Ok (x.0, x.1 ++ (c.more ++ tail))) (Ok (h x.0 c.read, tail)) (lf.more bytes x.0 x.1 (c.more ++ tail) e) (c.read, c.whole tail g, refl);
+          whole = λ tail g. along (bytes ++ (c.more ++ tail)) (Ok (x.0, x.1 ++ (c.more ++ tail))) (Ok (h x.0 c.read, tail))
+          (lf.more bytes x.0 x.1 (c.more ++ tail) e) (c.read, c.whole tail g, refl);
         }
 
     once : (q : Read X) (r s : Read Z) → InTurn h q S r → InTurn h q S s → r ≡ s
@@ -235,10 +249,12 @@ turn_from h (Err m) g s e = sym e
 turn_from h (Ok x) g (Ok z) e = let m = mapped_ok (h x.0) (g x.1) z.0 z.1 e in (m.0, m.1, m.2)
 turn_from h (Ok x) g (Err m) e = mapped_err (h x.0) (g x.1) m e
 
-pub Law-in_turn : {X Y Z : Type 0} (h : X → Y → Z) (f : List ℕ → Read X) (g : List ℕ → Read Y) {Is : List ℕ → X → Type 0} {Js : List ℕ → Y → Type 0} {F G : List ℕ → Type 0}
+pub Law-in_turn : {X Y Z : Type 0} (h : X → Y → Z) (f : List ℕ → Read X) (g : List ℕ → Read Y) {Is : List ℕ → X → Type 0} {Js : List ℕ → Y → Type 0}
+    {F G : List ℕ → Type 0}
     → Law (graph f) Is F → Law (graph g) Js G → ((b : List ℕ) (y : Y) (rest : List ℕ) → Js b y → G rest → F (b ++ rest)) → SomeText Js
     → Law (graph (λ bytes. in_turn h (f bytes) g)) (TurnText h Is Js) G
-Law-in_turn h f g lf lg leads some = Law-same (Law-turn h f (graph g) lf lg leads some) (λ bytes r t. turn_to h (f bytes) g r t) (λ bytes r e. turn_from h (f bytes) g r e) (λ text z t. t) (λ text z t. t)
+Law-in_turn h f g lf lg leads some = Law-same (Law-turn h f (graph g) lf lg leads some) (λ bytes r t. turn_to h (f bytes) g r t)
+    (λ bytes r e. turn_from h (f bytes) g r e) (λ text z t. t) (λ text z t. t)
 
 -- ---- after white space
 
@@ -256,24 +272,31 @@ pub record GapText {X : Type 0} (Is : Bool → List ℕ → X → Type 0) (text 
   pub is : Is (begins_blank blanks) thing x
   pub parts : text ≡ blanks ++ thing
 
-pub Law-gap : {X : Type 0} (f : Bool → List ℕ → Read X) {Is : Bool → List ℕ → X → Type 0} {F : List ℕ → Type 0} → ((v : Bool) → Law (graph (f v)) (Is v) F) → ((v : Bool) → f v [] ≡ Err Cut)
+pub Law-gap : {X : Type 0} (f : Bool → List ℕ → Read X) {Is : Bool → List ℕ → X → Type 0} {F : List ℕ → Type 0} → ((v : Bool) → Law (graph (f v)) (Is v) F) →
+    ((v : Bool) → f v [] ≡ Err Cut)
     → ((v : Bool) (text : List ℕ) (x : X) → Is v text x → NoBlankFirst text) → Law (graph (past_gap f)) (GapText Is) F
 Law-gap {X = X} f {Is = Is} {F = F} l none begins = record {
   takes = λ bytes x rest e.
       let t = (l (begins_blank bytes)).takes (past is_blank bytes) x rest e in
       record {
         text = front is_blank bytes ++ t.text;
-        is = record { blanks = front is_blank bytes; thing = t.text; blank = front_passes is_blank bytes; is = subst (λ (v : Bool). Is v t.text x) (blank-front bytes) t.is; parts = refl };
-        parts = sym (front-past is_blank bytes) ∙ ap (λ (u : List ℕ). front is_blank bytes ++ u) t.parts ∙ sym (append_assoc (front is_blank bytes) t.text rest);
+        is = record {
+        blanks = front is_blank bytes; thing = t.text; blank = front_passes is_blank bytes; is = subst (λ (v : Bool). Is v t.text x) (blank-front bytes) t.is;
+        parts = refl
+        };
+        parts = sym (front-past is_blank bytes) ∙ ap (λ (u : List ℕ). front is_blank bytes ++ u) t.parts
+        ∙ sym (append_assoc (front is_blank bytes) t.text rest);
       };
   again = λ text x rest t g.
       let n = begins (begins_blank t.blanks) t.thing x t.is in
-      let whole : text ++ rest ≡ t.blanks ++ n.head ∷ (n.tail ++ rest) = ap (λ (u : List ℕ). u ++ rest) t.parts ∙ append_assoc t.blanks t.thing rest ∙ ap (λ (u : List ℕ). t.blanks ++ (u ++ rest)) n.parts in
+      let whole : text ++ rest ≡ t.blanks ++ n.head ∷ (n.tail ++ rest) = ap (λ (u : List ℕ). u ++ rest) t.parts ∙ append_assoc t.blanks t.thing rest
+      ∙ ap (λ (u : List ℕ). t.blanks ++ (u ++ rest)) n.parts in
       at (text ++ rest) (begins_blank t.blanks) (t.thing ++ rest) (Ok (x, rest))
       (ap begins_blank whole ∙ blank-run t.blanks n.head (n.tail ++ rest) n.no_blank)
       (ap (past is_blank) whole ∙ past_run is_blank t.blanks n.head (n.tail ++ rest) t.blank n.no_blank ∙ ap (λ (u : List ℕ). u ++ rest) (sym n.parts))
       ((l (begins_blank t.blanks)).again t.thing x rest t.is g);
-  more = λ bytes x rest after e. more bytes after (Ok (x, rest)) (Ok (x, rest ++ after)) (past is_blank bytes) refl e (λ h. cc) (λ c r h. (l (begins_blank bytes)).more (c ∷ r) x rest after h);
+  more = λ bytes x rest after e. more bytes after (Ok (x, rest)) (Ok (x, rest ++ after)) (past is_blank bytes) refl e (λ h. cc)
+  (λ c r h. (l (begins_blank bytes)).more (c ∷ r) x rest after h);
   bad = λ bytes after e. more bytes after (Err Bad) (Err Bad) (past is_blank bytes) refl e (λ h. cc) (λ c r h. (l (begins_blank bytes)).bad (c ∷ r) after h);
   cut = λ bytes e. cut bytes (past is_blank bytes) refl e;
   once = λ bytes r s e k. sym e ∙ k;
@@ -282,10 +305,12 @@ Law-gap {X = X} f {Is = Is} {F = F} l none begins = record {
     at : (bytes : List ℕ) (v : Bool) (rest : List ℕ) (r : Read X) → begins_blank bytes ≡ v → past is_blank bytes ≡ rest → f v rest ≡ r → past_gap f bytes ≡ r
     at bytes v rest r p q e = ap (λ (w : Bool). f w (past is_blank bytes)) p ∙ ap (f v) q ∙ e
 
-    more : (bytes after : List ℕ) (r s : Read X) (p : List ℕ) → past is_blank bytes ≡ p → f (begins_blank bytes) (past is_blank bytes) ≡ r → (Err Cut ≡ r → ⊥) → ((c : ℕ) (t : List ℕ) → f (begins_blank bytes) (c ∷ t) ≡ r → f (begins_blank bytes) (c ∷ (t ++ after)) ≡ s)
+    more : (bytes after : List ℕ) (r s : Read X) (p : List ℕ) → past is_blank bytes ≡ p → f (begins_blank bytes) (past is_blank bytes) ≡ r → (Err Cut ≡ r → ⊥) →
+    ((c : ℕ) (t : List ℕ) → f (begins_blank bytes) (c ∷ t) ≡ r → f (begins_blank bytes) (c ∷ (t ++ after)) ≡ s)
         → past_gap f (bytes ++ after) ≡ s
     more bytes after r s [] e k never go = absurd (never (sym (none (begins_blank bytes)) ∙ ap (f (begins_blank bytes)) (sym e) ∙ k))
-    more bytes after r s (c ∷ t) e k never go = at (bytes ++ after) (begins_blank bytes) (c ∷ (t ++ after)) s (blank-more bytes c t after e) (past_more is_blank bytes c t after e) (go c t (ap (f (begins_blank bytes)) (sym e) ∙ k))
+    more bytes after r s (c ∷ t) e k never go = at (bytes ++ after) (begins_blank bytes) (c ∷ (t ++ after)) s (blank-more bytes c t after e)
+    (past_more is_blank bytes c t after e) (go c t (ap (f (begins_blank bytes)) (sym e) ∙ k))
 
     flag : (bytes : List ℕ) (c : ℕ) (rest : List ℕ) → is_blank c ≡ false → begins_blank (bytes ++ c ∷ rest) ≡ begins_blank bytes
     flag bytes c rest n = blank-run bytes c rest n
@@ -312,7 +337,8 @@ Law-gap {X = X} f {Is = Is} {F = F} l none begins = record {
         record {
           more = c.more;
           read = c.read;
-          whole = λ tail g. at (bytes ++ (c.more ++ tail)) v (b ∷ (r ++ (c.more ++ tail))) (Ok (c.read, tail)) (blank-more bytes b r (c.more ++ tail) e) (past_more is_blank bytes b r (c.more ++ tail) e) (c.whole tail g);
+          whole = λ tail g. at (bytes ++ (c.more ++ tail)) v (b ∷ (r ++ (c.more ++ tail))) (Ok (c.read, tail)) (blank-more bytes b r (c.more ++ tail) e)
+          (past_more is_blank bytes b r (c.more ++ tail) e) (c.whole tail g);
         }
 
 -- ---- by the first byte
@@ -332,7 +358,8 @@ pub record AfterFirst {X : Type 0} (c : ℕ) (Is : List ℕ → X → Type 0) (t
 abbrev pub FirstText : {X : Type 0} → ℕ → (List ℕ → X → Type 0) → (List ℕ → X → Type 0) → List ℕ → X → Type 0
 FirstText c Is Js text x = AfterFirst c Is text x ⊎ Js text x
 
-pub Law-ByFirst : {X : Type 0} (c : ℕ) (R S : List ℕ → Read X → Type 0) {Is Js : List ℕ → X → Type 0} {F : List ℕ → Type 0} → Law R Is F → Law S Js F → SomeText Is
+pub Law-ByFirst : {X : Type 0} (c : ℕ) (R S : List ℕ → Read X → Type 0) {Is Js : List ℕ → X → Type 0} {F : List ℕ → Type 0} → Law R Is F → Law S Js F →
+    SomeText Is
     → ((text : List ℕ) (x : X) → Js text x → OtherFirst c text) → Law (ByFirst c R S) (FirstText c Is Js) F
 Law-ByFirst {X = X} c R S {Is = Is} {Js = Js} {F = F} lr ls some others = record {
   takes = takes;
@@ -350,7 +377,11 @@ Law-ByFirst {X = X} c R S {Is = Is} {Js = Js} {F = F} lr ls some others = record
         choose : (v : Bool) → (b == c) ≡ v → MatchBool v (R bytes (Ok (x, rest))) (S (b ∷ bytes) (Ok (x, rest))) → Taken (FirstText c Is Js) (b ∷ bytes) x rest
         choose true e k =
             let t = lr.takes bytes x rest k in
-            record { text = c ∷ t.text; is = inl (record { thing = t.text; is = t.is; parts = refl }); parts = ap (λ (d : ℕ). d ∷ bytes) (same_if_eq b c e) ∙ ap (λ (u : List ℕ). c ∷ u) t.parts }
+            record {
+            text = c ∷ t.text; is = inl (record {
+            thing = t.text; is = t.is; parts = refl
+            }); parts = ap (λ (d : ℕ). d ∷ bytes) (same_if_eq b c e) ∙ ap (λ (u : List ℕ). c ∷ u) t.parts
+            }
         choose false e k = let t = ls.takes (b ∷ bytes) x rest k in record { text = t.text; is = inr t.is; parts = t.parts }
 
     first_to : (bytes : List ℕ) (r : Read X) → R bytes r → ByFirst c R S (c ∷ bytes) r
@@ -360,7 +391,8 @@ Law-ByFirst {X = X} c R S {Is = Is} {Js = Js} {F = F} lr ls some others = record
     other_to b bytes r e h = subst (λ (v : Bool). MatchBool v (R bytes r) (S (b ∷ bytes) r)) (sym e) h
 
     again : (text : List ℕ) (x : X) (rest : List ℕ) → FirstText c Is Js text x → F rest → ByFirst c R S (text ++ rest) (Ok (x, rest))
-    again text x rest (inl t) f = subst (λ (u : List ℕ). ByFirst c R S (u ++ rest) (Ok (x, rest))) (sym t.parts) (first_to (t.thing ++ rest) (Ok (x, rest)) (lr.again t.thing x rest t.is f))
+    again text x rest (inl t) f = subst (λ (u : List ℕ). ByFirst c R S (u ++ rest) (Ok (x, rest))) (sym t.parts)
+    (first_to (t.thing ++ rest) (Ok (x, rest)) (lr.again t.thing x rest t.is f))
     again text x rest (inr j) f =
         let o = others text x j in
         let k = subst (λ (u : List ℕ). S (u ++ rest) (Ok (x, rest))) o.parts (ls.again text x rest j f) in
@@ -370,7 +402,8 @@ Law-ByFirst {X = X} c R S {Is = Is} {Js = Js} {F = F} lr ls some others = record
     more [] x rest after h = absurd cc
     more (b ∷ bytes) x rest after h = choose (b == c) h
       where
-        choose : (v : Bool) → MatchBool v (R bytes (Ok (x, rest))) (S (b ∷ bytes) (Ok (x, rest))) → MatchBool v (R (bytes ++ after) (Ok (x, rest ++ after))) (S (b ∷ (bytes ++ after)) (Ok (x, rest ++ after)))
+        choose : (v : Bool) → MatchBool v (R bytes (Ok (x, rest))) (S (b ∷ bytes) (Ok (x, rest))) →
+        MatchBool v (R (bytes ++ after) (Ok (x, rest ++ after))) (S (b ∷ (bytes ++ after)) (Ok (x, rest ++ after)))
         choose true k = lr.more bytes x rest after k
         choose false k = ls.more (b ∷ bytes) x rest after k
 
@@ -378,12 +411,15 @@ Law-ByFirst {X = X} c R S {Is = Is} {Js = Js} {F = F} lr ls some others = record
     bad [] after h = absurd cc
     bad (b ∷ bytes) after h = choose (b == c) h
       where
-        choose : (v : Bool) → MatchBool v (R bytes (Err Bad)) (S (b ∷ bytes) (Err Bad)) → MatchBool v (R (bytes ++ after) (Err Bad)) (S (b ∷ (bytes ++ after)) (Err Bad))
+        choose : (v : Bool) → MatchBool v (R bytes (Err Bad)) (S (b ∷ bytes) (Err Bad)) →
+        MatchBool v (R (bytes ++ after) (Err Bad)) (S (b ∷ (bytes ++ after)) (Err Bad))
         choose true k = lr.bad bytes after k
         choose false k = ls.bad (b ∷ bytes) after k
 
     cut : (bytes : List ℕ) → ByFirst c R S bytes (Err Cut) → GoesOn (ByFirst c R S) F bytes
-    cut [] h = record { more = c ∷ some.text; read = some.read; whole = λ tail f. first_to (some.text ++ tail) (Ok (some.read, tail)) (lr.again some.text some.read tail some.is f) }
+    cut [] h = record {
+    more = c ∷ some.text; read = some.read; whole = λ tail f. first_to (some.text ++ tail) (Ok (some.read, tail)) (lr.again some.text some.read tail some.is f)
+    }
     cut (b ∷ bytes) h = choose (b == c) refl h
       where
         choose : (v : Bool) → (b == c) ≡ v → MatchBool v (R bytes (Err Cut)) (S (b ∷ bytes) (Err Cut)) → GoesOn (ByFirst c R S) F (b ∷ bytes)
@@ -392,7 +428,8 @@ Law-ByFirst {X = X} c R S {Is = Is} {Js = Js} {F = F} lr ls some others = record
             record {
               more = g.more;
               read = g.read;
-              whole = λ tail f. subst (λ (v : Bool). MatchBool v (R (bytes ++ (g.more ++ tail)) (Ok (g.read, tail))) (S (b ∷ (bytes ++ (g.more ++ tail))) (Ok (g.read, tail)))) (sym e) (g.whole tail f);
+              whole = λ tail f. subst (λ (v : Bool). MatchBool v (R (bytes ++ (g.more ++ tail)) (Ok (g.read, tail)))
+              (S (b ∷ (bytes ++ (g.more ++ tail))) (Ok (g.read, tail)))) (sym e) (g.whole tail f);
             }
         choose false e k =
             let g = ls.cut (b ∷ bytes) k in
@@ -423,9 +460,11 @@ first_from_is {X = X} c f g (b ∷ bytes) r h = choose (b == c) h
     choose true k = k
     choose false k = k
 
-pub Law-by_first : {X : Type 0} (c : ℕ) (f g : List ℕ → Read X) {Is Js : List ℕ → X → Type 0} {F : List ℕ → Type 0} → Law (graph f) Is F → Law (graph g) Js F → SomeText Is
+pub Law-by_first : {X : Type 0} (c : ℕ) (f g : List ℕ → Read X) {Is Js : List ℕ → X → Type 0} {F : List ℕ → Type 0} → Law (graph f) Is F → Law (graph g) Js F →
+    SomeText Is
     → ((text : List ℕ) (x : X) → Js text x → OtherFirst c text) → Law (graph (by_first c f g)) (FirstText c Is Js) F
-Law-by_first c f g lf lg some others = Law-same (Law-ByFirst c (graph f) (graph g) lf lg some others) (first_to_is c f g) (first_from_is c f g) (λ text x t. t) (λ text x t. t)
+Law-by_first c f g lf lg some others = Law-same (Law-ByFirst c (graph f) (graph g) lf lg some others) (first_to_is c f g) (first_from_is c f g) (λ text x t. t)
+    (λ text x t. t)
 
 -- it begins with a byte that is, or isn't, of the class
 pub record ClassFirst (class : ℕ → Bool) (v : Bool) (text : List ℕ) : Type 0 where
@@ -437,18 +476,22 @@ pub record ClassFirst (class : ℕ → Bool) (v : Bool) (text : List ℕ) : Type
 abbrev pub EitherText : {X : Type 0} → (List ℕ → X → Type 0) → (List ℕ → X → Type 0) → List ℕ → X → Type 0
 EitherText Is Js text x = Is text x ⊎ Js text x
 
-pub Law-by_class : {X : Type 0} (class : ℕ → Bool) (f g : List ℕ → Read X) {Is Js : List ℕ → X → Type 0} {F : List ℕ → Type 0} → Law (graph f) Is F → Law (graph g) Js F → SomeText Js
-    → ((text : List ℕ) (x : X) → Is text x → ClassFirst class true text) → ((text : List ℕ) (x : X) → Js text x → ClassFirst class false text) → Law (graph (by_class class f g)) (EitherText Is Js) F
+pub Law-by_class : {X : Type 0} (class : ℕ → Bool) (f g : List ℕ → Read X) {Is Js : List ℕ → X → Type 0} {F : List ℕ → Type 0} → Law (graph f) Is F →
+    Law (graph g) Js F → SomeText Js
+    → ((text : List ℕ) (x : X) → Is text x → ClassFirst class true text) → ((text : List ℕ) (x : X) → Js text x → ClassFirst class false text) →
+    Law (graph (by_class class f g)) (EitherText Is Js) F
 Law-by_class {X = X} class f g {Is = Is} {Js = Js} {F = F} lf lg some inside outside = record {
   takes = takes;
   again = again;
-  more = λ bytes x rest after e. step bytes after (Ok (x, rest)) (Ok (x, rest ++ after)) e (λ h. cc) (λ k. lf.more bytes x rest after k) (λ k. lg.more bytes x rest after k);
+  more = λ bytes x rest after e. step bytes after (Ok (x, rest)) (Ok (x, rest ++ after)) e (λ h. cc) (λ k. lf.more bytes x rest after k)
+  (λ k. lg.more bytes x rest after k);
   bad = λ bytes after e. step bytes after (Err Bad) (Err Bad) e (λ h. cc) (λ k. lf.bad bytes after k) (λ k. lg.bad bytes after k);
   cut = cut;
   once = λ bytes r s e k. sym e ∙ k;
 }
   where
-    at : (v : Bool) (b : ℕ) (bytes : List ℕ) (r : Read X) → class b ≡ v → cond {A = Read X} v (f (b ∷ bytes)) (g (b ∷ bytes)) ≡ r → by_class class f g (b ∷ bytes) ≡ r
+    at : (v : Bool) (b : ℕ) (bytes : List ℕ) (r : Read X) → class b ≡ v → cond {A = Read X} v (f (b ∷ bytes)) (g (b ∷ bytes)) ≡ r →
+    by_class class f g (b ∷ bytes) ≡ r
     at v b bytes r e h = ap (λ (w : Bool). cond {A = Read X} w (f (b ∷ bytes)) (g (b ∷ bytes))) e ∙ h
 
     takes : (bytes : List ℕ) (x : X) (rest : List ℕ) → by_class class f g bytes ≡ Ok (x, rest) → Taken (EitherText Is Js) bytes x rest
@@ -459,7 +502,8 @@ Law-by_class {X = X} class f g {Is = Is} {Js = Js} {F = F} lf lg some inside out
         choose true k = let t = lf.takes (b ∷ bytes) x rest k in record { text = t.text; is = inl t.is; parts = t.parts }
         choose false k = let t = lg.takes (b ∷ bytes) x rest k in record { text = t.text; is = inr t.is; parts = t.parts }
 
-    begun : (v : Bool) (text rest : List ℕ) (r : Read X) → ClassFirst class v text → cond {A = Read X} v (f (text ++ rest)) (g (text ++ rest)) ≡ r → by_class class f g (text ++ rest) ≡ r
+    begun : (v : Bool) (text rest : List ℕ) (r : Read X) → ClassFirst class v text → cond {A = Read X} v (f (text ++ rest)) (g (text ++ rest)) ≡ r →
+    by_class class f g (text ++ rest) ≡ r
     begun v text rest r c h =
         let e : text ++ rest ≡ c.head ∷ (c.tail ++ rest) = ap (λ (u : List ℕ). u ++ rest) c.parts in
         ap (by_class class f g) e ∙ at v c.head (c.tail ++ rest) r c.is (ap (λ (u : List ℕ). cond {A = Read X} v (f u) (g u)) (sym e) ∙ h)
@@ -468,11 +512,13 @@ Law-by_class {X = X} class f g {Is = Is} {Js = Js} {F = F} lf lg some inside out
     again text x rest (inl t) h = begun true text rest (Ok (x, rest)) (inside text x t) (lf.again text x rest t h)
     again text x rest (inr t) h = begun false text rest (Ok (x, rest)) (outside text x t) (lg.again text x rest t h)
 
-    step : (bytes after : List ℕ) (r s : Read X) → by_class class f g bytes ≡ r → (Err Cut ≡ r → ⊥) → (f bytes ≡ r → f (bytes ++ after) ≡ s) → (g bytes ≡ r → g (bytes ++ after) ≡ s) → by_class class f g (bytes ++ after) ≡ s
+    step : (bytes after : List ℕ) (r s : Read X) → by_class class f g bytes ≡ r → (Err Cut ≡ r → ⊥) → (f bytes ≡ r → f (bytes ++ after) ≡ s) →
+    (g bytes ≡ r → g (bytes ++ after) ≡ s) → by_class class f g (bytes ++ after) ≡ s
     step [] after r s e never p q = absurd (never e)
     step (b ∷ bytes) after r s e never p q = choose (class b) e
       where
-        choose : (v : Bool) → cond {A = Read X} v (f (b ∷ bytes)) (g (b ∷ bytes)) ≡ r → cond {A = Read X} v (f (b ∷ (bytes ++ after))) (g (b ∷ (bytes ++ after))) ≡ s
+        choose : (v : Bool) → cond {A = Read X} v (f (b ∷ bytes)) (g (b ∷ bytes)) ≡ r →
+        cond {A = Read X} v (f (b ∷ (bytes ++ after))) (g (b ∷ (bytes ++ after))) ≡ s
         choose true k = p k
         choose false k = q k
 
@@ -505,7 +551,8 @@ pub Law-done : {X : Type 0} (x : X) → Law (graph (done x)) (λ text y. (text �
 Law-done {X = X} x = record {
   takes = λ bytes y rest e. record { text = []; is = (refl, sym (done_read x y bytes rest e)); parts = done_rest x y bytes rest e };
   again = λ text y rest t f. ap (λ (u : List ℕ). done x (u ++ rest)) t.0 ∙ ap (λ (v : X). done v rest) (sym t.1);
-  more = λ bytes y rest after e. ap (λ (u : List ℕ). done x (u ++ after)) (done_rest x y bytes rest e) ∙ ap (λ (v : X). done v (rest ++ after)) (done_read x y bytes rest e);
+  more = λ bytes y rest after e. ap (λ (u : List ℕ). done x (u ++ after)) (done_rest x y bytes rest e)
+  ∙ ap (λ (v : X). done v (rest ++ after)) (done_read x y bytes rest e);
   bad = λ bytes after e. absurd cc;
   cut = λ bytes e. absurd cc;
   once = λ bytes r s e k. sym e ∙ k;

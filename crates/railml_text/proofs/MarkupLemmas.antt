@@ -1,5 +1,6 @@
 -- What stands after `<`: each kind of item that begins so, and all of them together.
-use Rattle.std.proofs.Common.{◌≡◌, ◌≢◌, ◌⊎◌, ℕ, Bool, true, false, ◌==◌, ◌&&◌, MatchBool, codes, List, [], ◌∷◌, ◌++◌, drop, Ok, Err, refl, sym, ap, ◌∙◌, subst, append_assoc, arith, inl, inr}
+use Rattle.std.proofs.Common.{◌≡◌, ◌≢◌, ◌⊎◌, ℕ, Bool, true, false, ◌==◌, ◌&&◌, MatchBool, codes, List, [], ◌∷◌, ◌++◌, drop, Ok, Err, refl, sym, ap, ◌∙◌, subst}
+use Rattle.std.proofs.Common.{append_assoc, arith, inl, inr}
 use Rattle.std.specs.Prelude.{⊤}
 use Rattle.std.proofs.lemmas.Bool.{both_ways, and_parts, false_from_ne_true, and_from, cases_Bool}
 use Rattle.plan_core.proofs.ListFacts.{same_heads}
@@ -8,10 +9,14 @@ use Rattle.railml_text.specs.declared.written.Closing.TheVariants.{Tag, Declarat
 use Rattle.railml_text.specs.Bytes.{is_blank, begins_name, goes_on_name}
 use Rattle.railml_text.specs.Grammar.{AreBlanks, Written, IsAttr, AreAttrs}
 use Rattle.railml_text.specs.Items.{declaration, instruction, comment, cdata, start_tag, end_tag}
-use Rattle.railml_text.specs.Reading.{Read, begins_blank, mapped, InTurn, skip, by_first, ByFirst, nothing_at, word_at, name_at, attr_at, end_tag_at, Tail, bracket_at, Found, item, doctype, comment_at, cdata_at, doctype_at, bang_at, blank_after, goes_on_xml, declared, DeclarationRead, instruction_at, QuestionRead, started, StartRead, closing_tag_at, MarkupRead}
+use Rattle.railml_text.specs.Reading.{Read, begins_blank, mapped, InTurn, skip, by_first, ByFirst, nothing_at, word_at, name_at, attr_at, end_tag_at, Tail}
+use Rattle.railml_text.specs.Reading.{bracket_at, Found, item, doctype, comment_at, cdata_at, doctype_at, bang_at, blank_after, goes_on_xml, declared}
+use Rattle.railml_text.specs.Reading.{DeclarationRead, instruction_at, QuestionRead, started, StartRead, closing_tag_at, MarkupRead}
 use Rattle.railml_text.proofs.RunLemmas.{same_if_eq, blank_no_name, name_no_blank}
-use Rattle.railml_text.proofs.LawLemmas.{Taken, GoesOn, Law, graph, Anything, MappedText, mapped_err, Law-mapped, TurnText, SomeText, SomeText-turn, Law-turn, Law-in_turn, NoBlankFirst, OtherFirst, FirstText, Law-ByFirst, Law-by_first, NoText, Law-nothing}
-use Rattle.railml_text.proofs.ReaderLemmas.{IsWord, Law-word, SomeText-word, EndsName, IsNameText, Law-name, SkipText, Law-skip, blanks_end_name, Law-attr, name_begins, attr_begins, AfterSlash, Law-end_tag}
+use Rattle.railml_text.proofs.LawLemmas.{Taken, GoesOn, Law, graph, Anything, MappedText, mapped_err, Law-mapped, TurnText, SomeText, SomeText-turn, Law-turn}
+use Rattle.railml_text.proofs.LawLemmas.{Law-in_turn, NoBlankFirst, OtherFirst, FirstText, Law-ByFirst, Law-by_first, NoText, Law-nothing}
+use Rattle.railml_text.proofs.ReaderLemmas.{IsWord, Law-word, SomeText-word, EndsName, IsNameText, Law-name, SkipText, Law-skip, blanks_end_name, Law-attr}
+use Rattle.railml_text.proofs.ReaderLemmas.{name_begins, attr_begins, AfterSlash, Law-end_tag}
 use Rattle.railml_text.proofs.TagLemmas.{closing_begins, TailText, Law-tail, some_tail}
 use Rattle.railml_text.proofs.BracketLemmas.{UpToFirst, bracket_not_bad, bracket_completed, Law-bracket}
 
@@ -44,11 +49,13 @@ some_cdata_end = let t = Law-cdata_end.takes (codes "]]>") tt [] refl in record 
 
 Law-comment : Law (graph comment_at) CommentText Anything
 unfolding comment_at
-Law-comment = Law-in_turn (λ _ _. item comment) (word_at (codes "-")) (bracket_at (codes "-->")) (Law-word (codes "-")) Law-comment_end (λ b x rest t f. tt) some_comment_end
+Law-comment = Law-in_turn (λ _ _. item comment) (word_at (codes "-")) (bracket_at (codes "-->")) (Law-word (codes "-")) Law-comment_end (λ b x rest t f. tt)
+    some_comment_end
 
 Law-cdata : Law (graph cdata_at) CdataText Anything
 unfolding cdata_at
-Law-cdata = Law-in_turn (λ _ _. item cdata) (word_at (codes "CDATA[")) (bracket_at (codes "]]>")) (Law-word (codes "CDATA[")) Law-cdata_end (λ b x rest t f. tt) some_cdata_end
+Law-cdata = Law-in_turn (λ _ _. item cdata) (word_at (codes "CDATA[")) (bracket_at (codes "]]>")) (Law-word (codes "CDATA[")) Law-cdata_end (λ b x rest t f. tt)
+    some_cdata_end
 
 Law-doctype : Law (graph doctype_at) DoctypeText Anything
 unfolding doctype_at
@@ -63,7 +70,9 @@ some_comment = SomeText-turn (λ _ _. item comment) (SomeText-word (codes "-")) 
 Law-bang : Law (graph bang_at) BangText Anything
 Law-bang = Law-by_first 45 comment_at (by_first 91 cdata_at (by_first 68 doctype_at nothing_at)) Law-comment
     (Law-by_first 91 cdata_at (by_first 68 doctype_at nothing_at) Law-cdata
-    (Law-by_first 68 doctype_at nothing_at Law-doctype (Law-nothing Anything) (record { text = codes "OCTYPE"; read = doctype; is = record { read = tt; is = refl; made = refl } }) (λ text x n. absurd n))
+    (Law-by_first 68 doctype_at nothing_at Law-doctype (Law-nothing Anything) (record {
+    text = codes "OCTYPE"; read = doctype; is = record { read = tt; is = refl; made = refl }
+    }) (λ text x n. absurd n))
     (SomeText-turn (λ _ _. item cdata) (SomeText-word (codes "CDATA[")) some_cdata_end) others)
     some_comment more_others
   where
@@ -82,11 +91,14 @@ abbrev pub DeclarationText : List ℕ → Found → Type 0
 DeclarationText = TurnText declared (SkipText IsAttr) (TailText Declaration)
 
 attr_no_blank : (text : List ℕ) (attr : Written) → IsAttr text attr → NoBlankFirst text
-attr_no_blank text attr i = let b = attr_begins text attr i in record { head = b.head; tail = b.tail; no_blank = name_no_blank b.head b.begins; parts = b.parts }
+attr_no_blank text attr i = let b = attr_begins text attr i in record {
+    head = b.head; tail = b.tail; no_blank = name_no_blank b.head b.begins; parts = b.parts
+    }
 
 Law-declaration : Law DeclarationRead DeclarationText Anything
 unfolding attr_at
-Law-declaration = Law-turn declared (skip attr_at) (Tail Declaration) (Law-skip attr_at Law-attr refl attr_no_blank) (Law-tail Declaration) (λ b x rest t f. tt) (some_tail Declaration)
+Law-declaration = Law-turn declared (skip attr_at) (Tail Declaration) (Law-skip attr_at Law-attr refl attr_no_blank) (Law-tail Declaration) (λ b x rest t f. tt)
+    (some_tail Declaration)
 
 -- ---- after `<?`
 
@@ -163,7 +175,8 @@ thing_begins thing found t = cases t.is_a.blanks refl
     cases [] e =
         let n = attr_no_blank t.is_a.thing t.x t.is_a.is in
         (n.head, n.tail ++ t.b, t.parts ∙ ap (λ (u : List ℕ). u ++ t.b) (t.is_a.parts ∙ ap (λ (u : List ℕ). u ++ t.is_a.thing) e ∙ n.parts))
-    cases (c ∷ blanks) e = (c, (blanks ++ t.is_a.thing) ++ t.b, t.parts ∙ ap (λ (u : List ℕ). u ++ t.b) (t.is_a.parts ∙ ap (λ (u : List ℕ). u ++ t.is_a.thing) e))
+    cases (c ∷ blanks) e = (c, (blanks ++ t.is_a.thing) ++ t.b, t.parts ∙ ap (λ (u : List ℕ). u ++ t.b)
+    (t.is_a.parts ∙ ap (λ (u : List ℕ). u ++ t.is_a.thing) e))
 
 Law-instruction : Law (graph instruction_at) (MappedText (λ _. item instruction) (UpToFirst (codes "?>"))) Anything
 unfolding instruction_at
@@ -176,7 +189,8 @@ never_bad bytes e = bracket_not_bad (codes "?>") bytes (mapped_err (λ _. item i
 -- where a closing is cut, a point and the closing complete it
 instruction_cut : (bytes tail : List ℕ) → instruction_at bytes ≡ Err Cut → instruction_at (bytes ++ ((46 ∷ codes "?>") ++ tail)) ≡ Ok (item instruction, tail)
 unfolding instruction_at
-instruction_cut bytes tail e = ap (mapped (λ _. item instruction)) (bracket_completed 46 63 (62 ∷ []) bytes tail (refl, (refl, tt)) (mapped_err (λ _. item instruction) (bracket_at (codes "?>") bytes) Cut e))
+instruction_cut bytes tail e = ap (mapped (λ _. item instruction)) (bracket_completed 46 63 (62 ∷ []) bytes tail (refl, (refl, tt))
+    (mapped_err (λ _. item instruction) (bracket_at (codes "?>") bytes) Cut e))
 
 pub Law-question : (first : Bool) → Law (QuestionRead first) (QuestionText first) Anything
 Law-question first = record {
@@ -192,11 +206,13 @@ Law-question first = record {
 }
   where
     -- by whether the bytes are taken for a declaration
-    at : (bytes : List ℕ) (r : Read Found) (v : Bool) → (first && goes_on_xml bytes) ≡ v → MatchBool v (DeclarationRead (drop 3 bytes) r) (instruction_at bytes ≡ r) → QuestionRead first bytes r
+    at : (bytes : List ℕ) (r : Read Found) (v : Bool) → (first && goes_on_xml bytes) ≡ v →
+    MatchBool v (DeclarationRead (drop 3 bytes) r) (instruction_at bytes ≡ r) → QuestionRead first bytes r
     at bytes r v e h = subst (λ (w : Bool). MatchBool w (DeclarationRead (drop 3 bytes) r) (instruction_at bytes ≡ r)) (sym e) h
 
     -- the other way: what a reading is in either case
-    of : (bytes : List ℕ) (r : Read Found) (v : Bool) → (first && goes_on_xml bytes) ≡ v → QuestionRead first bytes r → MatchBool v (DeclarationRead (drop 3 bytes) r) (instruction_at bytes ≡ r)
+    of : (bytes : List ℕ) (r : Read Found) (v : Bool) → (first && goes_on_xml bytes) ≡ v → QuestionRead first bytes r →
+    MatchBool v (DeclarationRead (drop 3 bytes) r) (instruction_at bytes ≡ r)
     of bytes r v e h = subst (λ (w : Bool). MatchBool w (DeclarationRead (drop 3 bytes) r) (instruction_at bytes ≡ r)) e h
 
     as_xml : (bytes : List ℕ) (r : Read Found) → first ≡ true → BeginsXml bytes → DeclarationRead (drop 3 bytes) r → QuestionRead first bytes r
@@ -206,9 +222,11 @@ Law-question first = record {
     no_xml bytes e f b = both_ways (first && goes_on_xml bytes) e (and_from first (goes_on_xml bytes) f (begins_xml bytes b))
 
     as_other : (bytes : List ℕ) (r : Read Found) → (first ≡ true → BeginsXml bytes → ⊥) → instruction_at bytes ≡ r → QuestionRead first bytes r
-    as_other bytes r never h = at bytes r false (false_from_ne_true (first && goes_on_xml bytes) (λ e. let b = and_parts first (goes_on_xml bytes) e in never b.0 (xml_begins bytes b.1))) h
+    as_other bytes r never h = at bytes r false (false_from_ne_true (first && goes_on_xml bytes)
+    (λ e. let b = and_parts first (goes_on_xml bytes) e in never b.0 (xml_begins bytes b.1))) h
 
-    takes_xml : (bytes : List ℕ) (x : Found) (rest : List ℕ) → first ≡ true → BeginsXml bytes → DeclarationRead (drop 3 bytes) (Ok (x, rest)) → Taken (QuestionText first) bytes x rest
+    takes_xml : (bytes : List ℕ) (x : Found) (rest : List ℕ) → first ≡ true → BeginsXml bytes → DeclarationRead (drop 3 bytes) (Ok (x, rest)) →
+    Taken (QuestionText first) bytes x rest
     takes_xml bytes x rest f b h =
         let t = Law-declaration.takes (drop 3 bytes) x rest h in
         let n = thing_begins t.text x t.is in
@@ -243,15 +261,20 @@ Law-question first = record {
     again : (text : List ℕ) (x : Found) (rest : List ℕ) → QuestionText first text x → Anything rest → QuestionRead first (text ++ rest) (Ok (x, rest))
     again text x rest (inl t) f =
         let dropped : t.thing ++ rest ≡ drop 3 (text ++ rest) = sym (ap (λ (u : List ℕ). drop 3 (u ++ rest)) t.parts) in
-        as_xml (text ++ rest) (Ok (x, rest)) t.only_first (xml_more text rest t.begins) (subst (λ (u : List ℕ). DeclarationRead u (Ok (x, rest))) dropped (Law-declaration.again t.thing x rest t.is f))
+        as_xml (text ++ rest) (Ok (x, rest)) t.only_first (xml_more text rest t.begins)
+        (subst (λ (u : List ℕ). DeclarationRead u (Ok (x, rest))) dropped (Law-declaration.again t.thing x rest t.is f))
     again text x rest (inr t) f =
-        as_other (text ++ rest) (Ok (x, rest)) (λ e b. t.no_xml e (within b)) (Law-instruction.again text x rest (record { read = tt; is = t.up_to; made = t.is }) f)
+        as_other (text ++ rest) (Ok (x, rest)) (λ e b. t.no_xml e (within b)) (Law-instruction.again text x rest (record {
+        read = tt; is = t.up_to; made = t.is
+        }) f)
       where
         -- the closing stands behind `xml` and the white space
         within : BeginsXml (text ++ rest) → BeginsXml text
         within b =
-            let e : text ++ rest ≡ t.up_to.inner ++ 63 ∷ 62 ∷ rest = ap (λ (u : List ℕ). u ++ rest) t.up_to.parts ∙ append_assoc t.up_to.inner (63 ∷ 62 ∷ []) rest in
-            let inner = xml_before 63 t.up_to.inner (62 ∷ rest) (λ h. absurd (omega arith)) (λ h. absurd (omega arith)) (λ h. absurd (omega arith)) refl (subst BeginsXml e b) in
+            let e : text ++ rest ≡ t.up_to.inner ++ 63 ∷ 62 ∷ rest = ap (λ (u : List ℕ). u ++ rest) t.up_to.parts
+            ∙ append_assoc t.up_to.inner (63 ∷ 62 ∷ []) rest in
+            let inner = xml_before 63 t.up_to.inner (62 ∷ rest) (λ h. absurd (omega arith)) (λ h. absurd (omega arith)) (λ h. absurd (omega arith)) refl
+            (subst BeginsXml e b) in
             subst BeginsXml (sym t.up_to.parts) (xml_more t.up_to.inner (63 ∷ 62 ∷ []) inner)
 
     after_xml : (bytes after : List ℕ) → BeginsXml bytes → drop 3 bytes ++ after ≡ drop 3 (bytes ++ after)
@@ -265,7 +288,8 @@ Law-question first = record {
             let b = and_parts first (goes_on_xml bytes) e in
             let x = xml_begins bytes b.1 in
             as_xml (bytes ++ after) (Err Bad) b.0 (xml_more bytes after x)
-            (subst (λ (u : List ℕ). DeclarationRead u (Err Bad)) (after_xml bytes after x) (Law-declaration.bad (drop 3 bytes) after (of bytes (Err Bad) true e h)))
+            (subst (λ (u : List ℕ). DeclarationRead u (Err Bad)) (after_xml bytes after x)
+            (Law-declaration.bad (drop 3 bytes) after (of bytes (Err Bad) true e h)))
         cases (inr e) = absurd (never_bad bytes (of bytes (Err Bad) false e h))
 
     cut : (bytes : List ℕ) → QuestionRead first bytes (Err Cut) → GoesOn (QuestionRead first) Anything bytes
@@ -286,7 +310,8 @@ Law-question first = record {
           more = 46 ∷ codes "?>";
           read = item instruction;
           whole = λ tail f. as_other (bytes ++ ((46 ∷ codes "?>") ++ tail)) (Ok (item instruction, tail))
-              (λ k b. no_xml bytes e k (xml_before 46 bytes (codes "?>" ++ tail) (λ q. absurd (omega arith)) (λ q. absurd (omega arith)) (λ q. absurd (omega arith)) refl b))
+              (λ k b. no_xml bytes e k (xml_before 46 bytes (codes "?>" ++ tail) (λ q. absurd (omega arith)) (λ q. absurd (omega arith))
+              (λ q. absurd (omega arith)) refl b))
               (instruction_cut bytes tail (of bytes (Err Cut) false e h));
         }
 
@@ -307,10 +332,12 @@ closes_end_name b (inl e) = rw e refl
 closes_end_name b (inr (inl e)) = rw e refl
 closes_end_name b (inr (inr e)) = rw e refl
 
-closing_parts : (b between blanks close tail rest : List ℕ) (head : ℕ) → b ≡ between ++ (blanks ++ close) → between ≡ [] → close ≡ head ∷ tail → b ++ rest ≡ blanks ++ head ∷ (tail ++ rest)
+closing_parts : (b between blanks close tail rest : List ℕ) (head : ℕ) → b ≡ between ++ (blanks ++ close) → between ≡ [] → close ≡ head ∷ tail →
+    b ++ rest ≡ blanks ++ head ∷ (tail ++ rest)
 closing_parts b between blanks close tail rest head e f g = rw (e, f, g) (simp append_assoc)
 
-gap_parts : (b between gap one others blanks close rest : List ℕ) → b ≡ between ++ (blanks ++ close) → between ≡ gap ++ one ++ others → b ++ rest ≡ gap ++ (one ++ (others ++ (blanks ++ (close ++ rest))))
+gap_parts : (b between gap one others blanks close rest : List ℕ) → b ≡ between ++ (blanks ++ close) → between ≡ gap ++ one ++ others →
+    b ++ rest ≡ gap ++ (one ++ (others ++ (blanks ++ (close ++ rest))))
 gap_parts b between gap one others blanks close rest e f = rw (e, f) (simp append_assoc)
 
 -- what follows a tag's name ends the name
@@ -328,7 +355,8 @@ tail_ends_name b tail rest t = cases tail.0 t.attributes
         gap [] n k e = absurd (n refl)
         gap (c ∷ blanks) n k e =
             let last = h.1 ++ (h.2 ++ (t.blanks ++ (t.close ++ rest))) in
-            let whole : b ++ rest ≡ c ∷ (blanks ++ last) = gap_parts b t.between h.0 h.1 h.2 t.blanks t.close rest t.parts h.7 ∙ ap (λ (u : List ℕ). u ++ last) e in
+            let whole : b ++ rest ≡ c ∷ (blanks ++ last) = gap_parts b t.between h.0 h.1 h.2 t.blanks t.close rest t.parts h.7
+            ∙ ap (λ (u : List ℕ). u ++ last) e in
             record { head = c; tail = blanks ++ last; no_name = blank_no_name c k.0; parts = whole }
 
 Law-start : Law StartRead StartText Anything
@@ -365,7 +393,9 @@ slash_others text found (inr (inl t)) = record { head = 33; tail = t.thing; othe
 slash_others text found (inr (inr t)) = start_others 63 refl text found t
 
 some_bang : SomeText BangText
-some_bang = record { text = 45 ∷ some_comment.text; read = some_comment.read; is = inl (record { thing = some_comment.text; is = some_comment.is; parts = refl }) }
+some_bang = record {
+    text = 45 ∷ some_comment.text; read = some_comment.read; is = inl (record { thing = some_comment.text; is = some_comment.is; parts = refl })
+    }
 
 -- `a>`
 some_closing_tag : SomeText ClosingTagText
@@ -378,7 +408,9 @@ some_closing_tag = record {
 -- `?>`
 some_question : (first : Bool) → SomeText (QuestionText first)
 unfolding instruction_at
-some_question first = let t = (Law-question first).takes (codes "?>") (item instruction) [] (reads first) in record { text = t.text; read = item instruction; is = t.is }
+some_question first = let t = (Law-question first).takes (codes "?>") (item instruction) [] (reads first) in record {
+    text = t.text; read = item instruction; is = t.is
+    }
   where
     ends : instruction_at (codes "?>") ≡ Ok (item instruction, [])
     ends = refl
@@ -395,8 +427,12 @@ Law-markup first = Law-ByFirst 63 (QuestionRead first) (ByFirst 47 (graph closin
 
 -- ---- for the code
 
-pub start_read : (bytes name mid : List ℕ) (attrs : List Written) (empty : Bool) (rest : List ℕ) → name_at bytes ≡ Ok (name, mid) → Tail Tag mid (Ok ((attrs, empty), rest)) → StartRead bytes (Ok (item (start_tag name attrs empty), rest))
-start_read bytes name mid attrs empty rest e t = subst (λ (r : Read (List ℕ)). InTurn started r (Tail Tag) (Ok (item (start_tag name attrs empty), rest))) (sym e) ((attrs, empty), t, refl)
+pub start_read : (bytes name mid : List ℕ) (attrs : List Written) (empty : Bool) (rest : List ℕ) → name_at bytes ≡ Ok (name, mid) →
+    Tail Tag mid (Ok ((attrs, empty), rest)) → StartRead bytes (Ok (item (start_tag name attrs empty), rest))
+start_read bytes name mid attrs empty rest e t = subst (λ (r : Read (List ℕ)). InTurn started r (Tail Tag) (Ok (item (start_tag name attrs empty), rest)))
+    (sym e) ((attrs, empty), t, refl)
 
-pub declaration_read : (bytes mid : List ℕ) (attr : Written) (attrs : List Written) (empty : Bool) (rest : List ℕ) → skip attr_at bytes ≡ Ok (attr, mid) → Tail Declaration mid (Ok ((attrs, empty), rest)) → DeclarationRead bytes (Ok (item (declaration (attr ∷ attrs)), rest))
-declaration_read bytes mid attr attrs empty rest e t = subst (λ (r : Read Written). InTurn declared r (Tail Declaration) (Ok (item (declaration (attr ∷ attrs)), rest))) (sym e) ((attrs, empty), t, refl)
+pub declaration_read : (bytes mid : List ℕ) (attr : Written) (attrs : List Written) (empty : Bool) (rest : List ℕ) → skip attr_at bytes ≡ Ok (attr, mid) →
+    Tail Declaration mid (Ok ((attrs, empty), rest)) → DeclarationRead bytes (Ok (item (declaration (attr ∷ attrs)), rest))
+declaration_read bytes mid attr attrs empty rest e t = subst (λ (r : Read Written). InTurn declared r (Tail Declaration)
+    (Ok (item (declaration (attr ∷ attrs)), rest))) (sym e) ((attrs, empty), t, refl)

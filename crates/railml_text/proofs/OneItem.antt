@@ -8,7 +8,8 @@ use Rattle.plan_core.proofs.ListFacts.{same_heads, same_tails}
 use Rattle.railml_text.specs.declared.miss.Miss.{Miss}
 use Rattle.railml_text.specs.declared.miss.Miss.TheVariants.{Cut, Bad}
 use Rattle.railml_text.specs.Bytes.{is_blank, is_in_text, AllOfClass, BeginsWith, front, past}
-use Rattle.railml_text.specs.Items.{Shape, declaration, instruction, comment, cdata, start_tag, end_tag, reference, chars, IsItem, IsLongest, HasItem, HasNoItem, IsFront}
+use Rattle.railml_text.specs.Items.{Shape, declaration, instruction, comment, cdata, start_tag, end_tag, reference, chars, IsItem, IsLongest, HasItem}
+use Rattle.railml_text.specs.Items.{HasNoItem, IsFront}
 use Rattle.railml_text.specs.Reading.{done, Found, item, doctype, MarkupRead}
 use Rattle.railml_text.proofs.LawLemmas.{Taken, GoesOn, Law, Anything, done_rest, done_read, Law-spelled}
 use Rattle.railml_text.proofs.ReferenceLemmas.{reference_first, one_reference}
@@ -51,7 +52,8 @@ markup_first first text (chars blank) m i = absurd m
 -- ---- after `<`
 
 -- an item that begins so is read
-pub item_read : (first : Bool) (bytes : List ℕ) (shape : Shape) (after : List ℕ) → HasItem first (60 ∷ bytes) shape after → MarkupRead first bytes (Ok (item shape, after))
+pub item_read : (first : Bool) (bytes : List ℕ) (shape : Shape) (after : List ℕ) → HasItem first (60 ∷ bytes) shape after →
+    MarkupRead first bytes (Ok (item shape, after))
 item_read first bytes shape after h = cases h.text h.is h.parts
   where
     cases : (text : List ℕ) → IsItem first text shape → 60 ∷ bytes ≡ text ++ after → MarkupRead first bytes (Ok (item shape, after))
@@ -78,12 +80,14 @@ longest first text reference after i = tt
 longest first text (chars blank) after i = let k : false ≡ true = i.0.within.0 in absurd cc
 
 -- what is read is an item
-pub read_item : (first : Bool) (bytes : List ℕ) (shape : Shape) (after : List ℕ) → MarkupRead first bytes (Ok (item shape, after)) → HasItem first (60 ∷ bytes) shape after
+pub read_item : (first : Bool) (bytes : List ℕ) (shape : Shape) (after : List ℕ) → MarkupRead first bytes (Ok (item shape, after)) →
+    HasItem first (60 ∷ bytes) shape after
 read_item first bytes shape after h =
     let t = (Law-found first).takes bytes (item shape) after h in
     record { text = 60 ∷ t.text; is = t.is; longest = longest first t.text shape after t.is; parts = ap (λ (u : List ℕ). 60 ∷ u) t.parts }
 
-pub doctype_read : (first : Bool) (bytes : List ℕ) → BeginsWith (60 ∷ bytes) (codes "<!DOCTYPE") → (after : List ℕ) × MarkupRead first bytes (Ok (doctype, after))
+pub doctype_read : (first : Bool) (bytes : List ℕ) → BeginsWith (60 ∷ bytes) (codes "<!DOCTYPE") →
+    (after : List ℕ) × MarkupRead first bytes (Ok (doctype, after))
 doctype_read first bytes b =
     let rest : bytes ≡ codes "!DOCTYPE" ++ b.0 = same_tails 60 60 bytes (codes "!DOCTYPE" ++ b.0) b.1 in
     (b.0, subst (λ (u : List ℕ). MarkupRead first u (Ok (doctype, b.0))) (sym rest) ((Law-found first).again (codes "!DOCTYPE") doctype b.0 refl tt))
@@ -100,12 +104,14 @@ shape_or other doctype = other
 item_same : (shape other : Shape) → item shape ≡ item other → shape ≡ other
 item_same shape other e = ap (λ (f : Found). shape_or shape f) e
 
-once : (first : Bool) (bytes : List ℕ) (found other : Found) (after last : List ℕ) → MarkupRead first bytes (Ok (found, after)) → MarkupRead first bytes (Ok (other, last)) → (found ≡ other) × (after ≡ last)
+once : (first : Bool) (bytes : List ℕ) (found other : Found) (after last : List ℕ) → MarkupRead first bytes (Ok (found, after)) →
+    MarkupRead first bytes (Ok (other, last)) → (found ≡ other) × (after ≡ last)
 once first bytes found other after last h k =
     let e : done found after ≡ done other last = (Law-found first).once bytes (Ok (found, after)) (Ok (other, last)) h k in
     (done_read found other after last e, done_rest found other after last e)
 
-never_both : (first : Bool) (bytes : List ℕ) (found : Found) (after : List ℕ) (miss : Miss) → MarkupRead first bytes (Ok (found, after)) → MarkupRead first bytes (Err miss) → ⊥
+never_both : (first : Bool) (bytes : List ℕ) (found : Found) (after : List ℕ) (miss : Miss) → MarkupRead first bytes (Ok (found, after)) →
+    MarkupRead first bytes (Err miss) → ⊥
 never_both first bytes found after miss h k = let e = (Law-found first).once bytes (Ok (found, after)) (Err miss) h k in cc
 
 item_no_doctype : (shape : Shape) → item shape ≡ doctype → ⊥
@@ -151,14 +157,17 @@ cut_front first bytes h = cases g.read t.is
         never_both first bytes g.read [] Cut (subst (λ (u : List ℕ). MarkupRead first u (Ok (g.read, []))) same whole) h
 
     cases : (found : Found) → IsFound first t.text found → IsFront first (60 ∷ bytes)
-    cases (item shape) i = inl (record { text = 60 ∷ t.text; shape = shape; is = i; front = record { more = g.more; some = some; parts = ap (λ (u : List ℕ). 60 ∷ u) parts } })
+    cases (item shape) i = inl (record {
+    text = 60 ∷ t.text; shape = shape; is = i; front = record { more = g.more; some = some; parts = ap (λ (u : List ℕ). 60 ∷ u) parts }
+    })
     cases doctype i = inr (record { more = g.more; some = some; parts = sym i ∙ ap (λ (u : List ℕ). 60 ∷ u) parts })
 
 -- what is bad is no front of either
 bad_no_text : (first : Bool) (bytes more : List ℕ) (found : Found) → MarkupRead first bytes (Err Bad) → IsFound first (bytes ++ more) found → ⊥
 bad_no_text first bytes more found h i =
     let read = (Law-found first).again (bytes ++ more) found [] i tt in
-    never_both first (bytes ++ more) found [] Bad (subst (λ (u : List ℕ). MarkupRead first u (Ok (found, []))) (append-nil (bytes ++ more)) read) ((Law-found first).bad bytes more h)
+    never_both first (bytes ++ more) found [] Bad (subst (λ (u : List ℕ). MarkupRead first u (Ok (found, []))) (append-nil (bytes ++ more)) read)
+    ((Law-found first).bad bytes more h)
 
 pub bad_no_front : (first : Bool) (bytes : List ℕ) → MarkupRead first bytes (Err Bad) → IsFront first (60 ∷ bytes) → ⊥
 bad_no_front first bytes h (inl f) = bad_no_text first bytes f.front.more (item f.shape) h (subst (λ (u : List ℕ). IsItem first u f.shape) f.front.parts f.is)
@@ -166,7 +175,8 @@ bad_no_front first bytes h (inr f) = bad_no_text first bytes f.more doctype h (s
 
 -- ---- one item
 
-text_front : (text after : List ℕ) (blank : Bool) → AllOfClass is_in_text text → IsLongest (chars blank) after → (front is_in_text (text ++ after) ≡ text) × (past is_in_text (text ++ after) ≡ after)
+text_front : (text after : List ℕ) (blank : Bool) → AllOfClass is_in_text text → IsLongest (chars blank) after →
+    (front is_in_text (text ++ after) ≡ text) × (past is_in_text (text ++ after) ≡ after)
 text_front [] [] blank h e = (refl, refl)
 text_front [] (c ∷ after) blank h e = (rw e refl, rw e refl)
 text_front (b ∷ text) after blank h e = let k = text_front text after blank h.1 e in (rw h.0 (ap (λ (t : List ℕ). b ∷ t) k.0), rw h.0 k.1)
@@ -204,16 +214,22 @@ one_sort first rest s t a b h k (inl m) (inl n) =
     let j = item_read first e.0 t b (subst (λ (u : List ℕ). HasItem first u t b) e.1 k) in
     let o = once first e.0 (item s) (item t) a b i j in
     (item_same s t o.0, o.1)
-one_sort first rest s t a b h k (inl m) (inr (inl r)) = let q = heads_differ 60 38 rest (markup_heads first rest s a m h) (reference_heads first rest b (subst (λ (u : Shape). HasItem first rest u b) r k)) in absurd (omega (arith, q))
-one_sort first rest s t a b h k (inl m) (inr (inr c)) = absurd (not_in_text first rest b c.0 60 refl (subst (λ (u : Shape). HasItem first rest u b) c.1 k) (markup_heads first rest s a m h))
-one_sort first rest s t a b h k (inr (inl r)) (inl n) = let q = heads_differ 60 38 rest (markup_heads first rest t b n k) (reference_heads first rest a (subst (λ (u : Shape). HasItem first rest u a) r h)) in absurd (omega (arith, q))
+one_sort first rest s t a b h k (inl m) (inr (inl r)) = let q = heads_differ 60 38 rest (markup_heads first rest s a m h)
+    (reference_heads first rest b (subst (λ (u : Shape). HasItem first rest u b) r k)) in absurd (omega (arith, q))
+one_sort first rest s t a b h k (inl m) (inr (inr c)) = absurd (not_in_text first rest b c.0 60 refl (subst (λ (u : Shape). HasItem first rest u b) c.1 k)
+    (markup_heads first rest s a m h))
+one_sort first rest s t a b h k (inr (inl r)) (inl n) = let q = heads_differ 60 38 rest (markup_heads first rest t b n k)
+    (reference_heads first rest a (subst (λ (u : Shape). HasItem first rest u a) r h)) in absurd (omega (arith, q))
 one_sort first rest s t a b h k (inr (inl r)) (inr (inl p)) =
     let i = subst (λ (u : Shape). HasItem first rest u a) r h in
     let j = subst (λ (u : Shape). HasItem first rest u b) p k in
     (r ∙ sym p, (one_reference i.text j.text i.is.0 j.is.0 a b i.is.1 j.is.1 (sym i.parts ∙ j.parts)).1)
-one_sort first rest s t a b h k (inr (inl r)) (inr (inr c)) = absurd (not_in_text first rest b c.0 38 refl (subst (λ (u : Shape). HasItem first rest u b) c.1 k) (reference_heads first rest a (subst (λ (u : Shape). HasItem first rest u a) r h)))
-one_sort first rest s t a b h k (inr (inr c)) (inl n) = absurd (not_in_text first rest a c.0 60 refl (subst (λ (u : Shape). HasItem first rest u a) c.1 h) (markup_heads first rest t b n k))
-one_sort first rest s t a b h k (inr (inr c)) (inr (inl p)) = absurd (not_in_text first rest a c.0 38 refl (subst (λ (u : Shape). HasItem first rest u a) c.1 h) (reference_heads first rest b (subst (λ (u : Shape). HasItem first rest u b) p k)))
+one_sort first rest s t a b h k (inr (inl r)) (inr (inr c)) = absurd (not_in_text first rest b c.0 38 refl (subst (λ (u : Shape). HasItem first rest u b) c.1 k)
+    (reference_heads first rest a (subst (λ (u : Shape). HasItem first rest u a) r h)))
+one_sort first rest s t a b h k (inr (inr c)) (inl n) = absurd (not_in_text first rest a c.0 60 refl (subst (λ (u : Shape). HasItem first rest u a) c.1 h)
+    (markup_heads first rest t b n k))
+one_sort first rest s t a b h k (inr (inr c)) (inr (inl p)) = absurd (not_in_text first rest a c.0 38 refl (subst (λ (u : Shape). HasItem first rest u a) c.1 h)
+    (reference_heads first rest b (subst (λ (u : Shape). HasItem first rest u b) p k)))
 one_sort first rest s t a b h k (inr (inr c)) (inr (inr d)) =
     let i = subst (λ (u : Shape). HasItem first rest u a) c.1 h in
     let j = subst (λ (u : Shape). HasItem first rest u b) d.1 k in

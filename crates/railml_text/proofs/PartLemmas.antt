@@ -1,5 +1,6 @@
 -- The names and values of an item of UTF-8 bytes are UTF-8, and so is what follows it.
-use Rattle.std.proofs.Common.{◌≡◌, ◌≢◌, ◌⊎◌, ℕ, ◌<◌, Bool, true, false, cond, codes, List, [], ◌∷◌, ◌++◌, length, refl, sym, ap, ◌∙◌, subst, append_assoc, length-append, arith, inl, inr, lit<}
+use Rattle.std.proofs.Common.{◌≡◌, ◌≢◌, ◌⊎◌, ℕ, ◌<◌, Bool, true, false, cond, codes, List, [], ◌∷◌, ◌++◌, length, refl, sym, ap, ◌∙◌, subst, append_assoc}
+use Rattle.std.proofs.Common.{length-append, arith, inl, inr, lit<}
 use Rattle.std.specs.Str.{IsUtf8}
 use Rattle.std.proofs.lemmas.Bool.Decides.{nat_tests}
 use Rattle.std.proofs.lemmas.Str.{IsUtf8-nil}
@@ -40,7 +41,8 @@ before_first name rest f u =
 
 -- ---- attributes
 
-attr_text : (text name before after value quote rest : List ℕ) → text ≡ name ++ before ++ codes "=" ++ after ++ quote ++ value ++ quote → text ++ rest ≡ name ++ (before ++ 61 ∷ (after ++ (quote ++ (value ++ (quote ++ rest)))))
+attr_text : (text name before after value quote rest : List ℕ) → text ≡ name ++ before ++ codes "=" ++ after ++ quote ++ value ++ quote →
+    text ++ rest ≡ name ++ (before ++ 61 ∷ (after ++ (quote ++ (value ++ (quote ++ rest)))))
 attr_text text name before after value quote rest e = rw e (simp append_assoc)
 
 quote_ascii : (quote : ℕ) → (quote ≡ 34) ⊎ (quote ≡ 39) → quote < 128
@@ -75,14 +77,17 @@ close_first : (empty : Bool) (rest : List ℕ) → (c : ℕ) × (tail : List ℕ
 close_first true rest = (47, 62 ∷ rest, lit< tt, refl)
 close_first false rest = (62, rest, lit< tt, refl)
 
-tag_text : (text name between blanks close rest : List ℕ) → text ≡ codes "<" ++ name ++ between ++ blanks ++ close → text ++ rest ≡ 60 ∷ (name ++ (between ++ (blanks ++ (close ++ rest))))
+tag_text : (text name between blanks close rest : List ℕ) → text ≡ codes "<" ++ name ++ between ++ blanks ++ close →
+    text ++ rest ≡ 60 ∷ (name ++ (between ++ (blanks ++ (close ++ rest))))
 tag_text text name between blanks close rest e = rw e (simp append_assoc)
 
 -- what follows a start tag's name
-after_name : (attrs : List Written) (between blanks : List ℕ) (empty : Bool) (rest : List ℕ) → AreAttrs between attrs → AreBlanks blanks → AsciiFirst (between ++ (blanks ++ (cond empty (codes "/>") (codes ">") ++ rest)))
+after_name : (attrs : List Written) (between blanks : List ℕ) (empty : Bool) (rest : List ℕ) → AreAttrs between attrs → AreBlanks blanks →
+    AsciiFirst (between ++ (blanks ++ (cond empty (codes "/>") (codes ">") ++ rest)))
 after_name [] between blanks empty rest h b =
     let c = close_first empty rest in
-    let e : blanks ++ c.0 ∷ c.1 ≡ between ++ (blanks ++ (cond empty (codes "/>") (codes ">") ++ rest)) = sym (ap (λ (t : List ℕ). t ++ (blanks ++ (cond empty (codes "/>") (codes ">") ++ rest))) h ∙ ap (λ (t : List ℕ). blanks ++ t) c.3) in
+    let e : blanks ++ c.0 ∷ c.1 ≡ between ++ (blanks ++ (cond empty (codes "/>") (codes ">") ++ rest)) = sym
+    (ap (λ (t : List ℕ). t ++ (blanks ++ (cond empty (codes "/>") (codes ">") ++ rest))) h ∙ ap (λ (t : List ℕ). blanks ++ t) c.3) in
     subst AsciiFirst e (blanks_first blanks c.0 c.1 b c.2)
 after_name (attr ∷ attrs) between blanks empty rest h b = gap h.0 h.3 h.4 refl
   where
@@ -91,14 +96,19 @@ after_name (attr ∷ attrs) between blanks empty rest h b = gap h.0 h.3 h.4 refl
 
     gap : (g : List ℕ) → g ≢ [] → AreBlanks g → h.0 ≡ g → AsciiFirst (between ++ last)
     gap [] n k e = absurd (n refl)
-    gap (c ∷ g) n k e = record { head = c; tail = g ++ (h.1 ++ (h.2 ++ last)); small = blank_ascii c k.0; parts = attrs_text between h.0 h.1 h.2 last h.7 ∙ ap (λ (t : List ℕ). t ++ (h.1 ++ (h.2 ++ last))) e }
+    gap (c ∷ g) n k e = record {
+    head = c; tail = g ++ (h.1 ++ (h.2 ++ last)); small = blank_ascii c k.0; parts = attrs_text between h.0 h.1 h.2 last h.7
+    ∙ ap (λ (t : List ℕ). t ++ (h.1 ++ (h.2 ++ last))) e
+    }
 
-start_utf8 : (text name : List ℕ) (attrs : List Written) (empty : Bool) (rest : List ℕ) → IsStartTag text name attrs empty → IsUtf8 (text ++ rest) → IsUtf8 name × AreUtf8 attrs
+start_utf8 : (text name : List ℕ) (attrs : List Written) (empty : Bool) (rest : List ℕ) → IsStartTag text name attrs empty → IsUtf8 (text ++ rest) →
+    IsUtf8 name × AreUtf8 attrs
 start_utf8 text name attrs empty rest i u =
     let close = cond empty (codes "/>") (codes ">") in
     let last = i.blanks ++ (close ++ rest) in
     let whole = subst IsUtf8 (tag_text text name i.between i.blanks close rest i.spelled) u in
-    let n = before_first name (i.between ++ last) (after_name attrs i.between i.blanks empty rest i.attributes i.blank) (text_after [] 60 (name ++ (i.between ++ last)) (lit< tt) whole) in
+    let n = before_first name (i.between ++ last) (after_name attrs i.between i.blanks empty rest i.attributes i.blank)
+    (text_after [] 60 (name ++ (i.between ++ last)) (lit< tt) whole) in
     (n.0, (attrs_utf8 attrs i.between last i.attributes n.1).0)
 
 end_text : (text name blanks rest : List ℕ) → text ≡ codes "</" ++ name ++ blanks ++ codes ">" → text ++ rest ≡ 60 ∷ 47 ∷ (name ++ (blanks ++ 62 ∷ rest))
@@ -108,7 +118,8 @@ end_utf8 : (text name rest : List ℕ) → IsEndTag text name → IsUtf8 (text +
 end_utf8 text name rest i u =
     let whole = subst IsUtf8 (end_text text name i.blanks rest i.spelled) u in
     let tail = name ++ (i.blanks ++ 62 ∷ rest) in
-    (before_first name (i.blanks ++ 62 ∷ rest) (blanks_first i.blanks 62 rest i.blank (lit< tt)) (text_after [] 47 tail (lit< tt) (text_after [] 60 (47 ∷ tail) (lit< tt) whole))).0
+    (before_first name (i.blanks ++ 62 ∷ rest) (blanks_first i.blanks 62 rest i.blank (lit< tt))
+    (text_after [] 47 tail (lit< tt) (text_after [] 60 (47 ∷ tail) (lit< tt) whole))).0
 
 pub parts_utf8 : (first : Bool) (rest : List ℕ) (shape : Shape) (after : List ℕ) → HasItem first rest shape after → IsUtf8 rest → IsUtf8Shape shape
 parts_utf8 first rest (declaration attrs) after h u = tt
@@ -144,9 +155,12 @@ tag_last text init false e = one_last text init 62 (lit< tt) e
 
 item_last : (first : Bool) (text : List ℕ) (shape : Shape) → IsMarkupShape shape → IsItem first text shape → AsciiLast text
 item_last first text (declaration attrs) m i = two_last text (codes "<?xml" ++ i.1.between ++ i.1.blanks) 63 62 (lit< tt) i.1.spelled
-item_last first text instruction m i = two_last text (codes "<?" ++ i.0.inner) 63 62 (lit< tt) (i.0.spelled ∙ sym (append_assoc (codes "<?") i.0.inner (codes "?>")))
-item_last first text comment m i = three_last text (codes "<!--" ++ i.inner) 45 45 62 (lit< tt) (i.spelled ∙ sym (append_assoc (codes "<!--") i.inner (codes "-->")))
-item_last first text cdata m i = three_last text (codes "<![CDATA[" ++ i.inner) 93 93 62 (lit< tt) (i.spelled ∙ sym (append_assoc (codes "<![CDATA[") i.inner (codes "]]>")))
+item_last first text instruction m i = two_last text (codes "<?" ++ i.0.inner) 63 62 (lit< tt)
+    (i.0.spelled ∙ sym (append_assoc (codes "<?") i.0.inner (codes "?>")))
+item_last first text comment m i = three_last text (codes "<!--" ++ i.inner) 45 45 62 (lit< tt)
+    (i.spelled ∙ sym (append_assoc (codes "<!--") i.inner (codes "-->")))
+item_last first text cdata m i = three_last text (codes "<![CDATA[" ++ i.inner) 93 93 62 (lit< tt)
+    (i.spelled ∙ sym (append_assoc (codes "<![CDATA[") i.inner (codes "]]>")))
 item_last first text (start_tag name attrs empty) m i = tag_last text (codes "<" ++ name ++ i.between ++ i.blanks) empty i.spelled
 item_last first text (end_tag name) m i = one_last text (codes "</" ++ name ++ i.blanks) 62 (lit< tt) i.spelled
 item_last first text reference m i = absurd m
@@ -172,7 +186,8 @@ after_utf8 first rest shape after h u = by_sort (sort_of shape)
   where
     by_sort : Sort shape → IsUtf8 after
     by_sort (inl m) = after_last rest h.text after (item_last first h.text shape m h.is) h.parts u
-    by_sort (inr (inl r)) = let i = subst (λ (s : Shape). HasItem first rest s after) r h in after_last rest i.text after (reference_last i.text i.is.0 i.is.1) i.parts u
+    by_sort (inr (inl r)) = let i = subst (λ (s : Shape). HasItem first rest s after) r h in after_last rest i.text after (reference_last i.text i.is.0 i.is.1)
+    i.parts u
     by_sort (inr (inr c)) = let i = subst (λ (s : Shape). HasItem first rest s after) c.1 h in after_chars i.text after rest c.0 i.longest i.parts u
 
 -- an item has a byte or more
@@ -188,5 +203,6 @@ item_some first rest shape after h = by_sort (sort_of shape)
 
     by_sort : Sort shape → length after < length rest
     by_sort (inl m) = let t = markup_first first h.text shape m h.is in longer h.text 60 t.0 t.1 h.parts
-    by_sort (inr (inl r)) = let i = subst (λ (s : Shape). HasItem first rest s after) r h in let s = reference_shape i.text i.is.0 i.is.1 in longer i.text 38 (s.inner ++ 59 ∷ []) s.spelled i.parts
+    by_sort (inr (inl r)) = let i = subst (λ (s : Shape). HasItem first rest s after) r h in let s = reference_shape i.text i.is.0 i.is.1 in longer i.text 38
+    (s.inner ++ 59 ∷ []) s.spelled i.parts
     by_sort (inr (inr c)) = let i = subst (λ (s : Shape). HasItem first rest s after) c.1 h in some i.text i.is.0.some i.parts

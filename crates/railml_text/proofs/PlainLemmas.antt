@@ -13,7 +13,13 @@ plain_spelled : (value : List ℕ) → list_all is_plain value ≡ true → AreS
 plain_spelled [] e = (refl, refl)
 plain_spelled (b ∷ bytes) e =
     let both = and_parts (is_plain b) (list_all is_plain bytes) e in
-    let differs : (b ≢ 38) × (b ≢ 9) × (b ≢ 10) × (b ≢ 13) = (is_not b 38 both.0 (λ h. cc), is_not b 9 both.0 (λ h. cc), is_not b 10 both.0 (λ h. cc), is_not b 13 both.0 (λ h. cc)) in
+    let differs : (b ≢ 38) × (b ≢ 9) × (b ≢ 10) × (b ≢ 13) = (
+      is_not b 38 both.0 (λ h. cc),
+      is_not b 9 both.0 (λ h. cc),
+      is_not b 10 both.0 (λ h. cc),
+      is_not b
+          13 both.0 (λ h. cc),
+    ) in
     (bytes, bytes, differs, refl, refl, plain_spelled bytes both.1)
 
 pub plain_text : (value : List ℕ) → list_all is_plain value ≡ true → IsValueText value value

@@ -1,12 +1,15 @@
 -- Words, names, values, attributes and end tags.
-use Rattle.std.proofs.Common.{◌≡◌, ◌⊎◌, ℕ, Bool, true, false, cond, ◌==◌, codes, List, [], ◌∷◌, ◌++◌, drop, Ok, Err, refl, sym, ap, ◌∙◌, subst, append_assoc, inl, inr}
+use Rattle.std.proofs.Common.{◌≡◌, ◌⊎◌, ℕ, Bool, true, false, cond, ◌==◌, codes, List, [], ◌∷◌, ◌++◌, drop, Ok, Err, refl, sym, ap, ◌∙◌, subst, append_assoc}
+use Rattle.std.proofs.Common.{inl, inr}
 use Rattle.std.specs.Prelude.{⊤}
 use Rattle.railml_text.specs.declared.miss.Miss.TheVariants.{Cut, Bad}
 use Rattle.railml_text.specs.Bytes.{is_blank, begins_name, goes_on_name, is_in_value, AllOfClass, front, past}
 use Rattle.railml_text.specs.Grammar.{AreBlanks, IsXmlName, Written, IsAttr, IsEndTag}
-use Rattle.railml_text.specs.Reading.{Read, done, skip, by_first, nothing_at, word_at, ended, name_at, closed_value, value_at, quoted_at, written, last_of_two, first_of_two, equals_at, attr_at, end_tag_at}
+use Rattle.railml_text.specs.Reading.{Read, done, skip, by_first, nothing_at, word_at, ended, name_at, closed_value, value_at, quoted_at, written, last_of_two}
+use Rattle.railml_text.specs.Reading.{first_of_two, equals_at, attr_at, end_tag_at}
 use Rattle.railml_text.proofs.RunLemmas.{eq-same, same_if_eq, blank_no_name, front-past, front_passes, front_run, past_run, past_more, front_more, passes_all}
-use Rattle.railml_text.proofs.LawLemmas.{Taken, GoesOn, Law, graph, Anything, done_rest, done_read, Law-spelled, TurnText, SomeText, SomeText-turn, Law-in_turn, NoBlankFirst, GapText, Law-gap, OtherFirst, AfterFirst, FirstText, Law-by_first, NoText, Law-nothing}
+use Rattle.railml_text.proofs.LawLemmas.{Taken, GoesOn, Law, graph, Anything, done_rest, done_read, Law-spelled, TurnText, SomeText, SomeText-turn}
+use Rattle.railml_text.proofs.LawLemmas.{Law-in_turn, NoBlankFirst, GapText, Law-gap, OtherFirst, AfterFirst, FirstText, Law-by_first, NoText, Law-nothing}
 
 -- ---- words
 
@@ -18,7 +21,8 @@ word_takes [] bytes x rest e = done_rest tt x bytes rest e
 word_takes (c ∷ word) [] x rest e = absurd cc
 word_takes (c ∷ word) (b ∷ bytes) x rest e = choose (b == c) refl e (word_takes word bytes x rest)
   where
-    choose : (v : Bool) → (b == c) ≡ v → cond {A = Read ⊤} v (word_at word bytes) (Err Bad) ≡ Ok (x, rest) → (word_at word bytes ≡ Ok (x, rest) → bytes ≡ word ++ rest) → b ∷ bytes ≡ c ∷ (word ++ rest)
+    choose : (v : Bool) → (b == c) ≡ v → cond {A = Read ⊤} v (word_at word bytes) (Err Bad) ≡ Ok (x, rest) →
+    (word_at word bytes ≡ Ok (x, rest) → bytes ≡ word ++ rest) → b ∷ bytes ≡ c ∷ (word ++ rest)
     choose true p h ih = ap (λ (d : ℕ). d ∷ bytes) (same_if_eq b c p) ∙ ap (λ (u : List ℕ). c ∷ u) (ih h)
     choose false p h ih = absurd cc
 
@@ -31,7 +35,8 @@ word_bad [] bytes after e = absurd cc
 word_bad (c ∷ word) [] after e = absurd cc
 word_bad (c ∷ word) (b ∷ bytes) after e = choose (b == c) e (word_bad word bytes after)
   where
-    choose : (v : Bool) → cond {A = Read ⊤} v (word_at word bytes) (Err Bad) ≡ Err Bad → (word_at word bytes ≡ Err Bad → word_at word (bytes ++ after) ≡ Err Bad) → cond {A = Read ⊤} v (word_at word (bytes ++ after)) (Err Bad) ≡ Err Bad
+    choose : (v : Bool) → cond {A = Read ⊤} v (word_at word bytes) (Err Bad) ≡ Err Bad →
+    (word_at word bytes ≡ Err Bad → word_at word (bytes ++ after) ≡ Err Bad) → cond {A = Read ⊤} v (word_at word (bytes ++ after)) (Err Bad) ≡ Err Bad
     choose true h ih = ih h
     choose false h ih = refl
 
@@ -40,7 +45,8 @@ word_cut [] bytes e = absurd cc
 word_cut (c ∷ word) [] e = record { more = c ∷ word; read = tt; whole = λ tail f. word_again (c ∷ word) tail }
 word_cut (c ∷ word) (b ∷ bytes) e = choose (b == c) refl e (word_cut word bytes)
   where
-    choose : (v : Bool) → (b == c) ≡ v → cond {A = Read ⊤} v (word_at word bytes) (Err Bad) ≡ Err Cut → (word_at word bytes ≡ Err Cut → GoesOn (graph (word_at word)) Anything bytes) → GoesOn (graph (word_at (c ∷ word))) Anything (b ∷ bytes)
+    choose : (v : Bool) → (b == c) ≡ v → cond {A = Read ⊤} v (word_at word bytes) (Err Bad) ≡ Err Cut →
+    (word_at word bytes ≡ Err Cut → GoesOn (graph (word_at word)) Anything bytes) → GoesOn (graph (word_at (c ∷ word))) Anything (b ∷ bytes)
     choose true p h ih = let g = ih h in record { more = g.more; read = g.read; whole = λ tail f. rw p (g.whole tail f) }
     choose false p h ih = absurd cc
 
@@ -48,7 +54,8 @@ pub Law-word : (word : List ℕ) → Law (graph (word_at word)) (IsWord word) An
 Law-word word = record {
   takes = λ bytes x rest e. record { text = word; is = refl; parts = word_takes word bytes x rest e };
   again = λ text x rest t f. ap (λ (u : List ℕ). word_at word (u ++ rest)) t ∙ word_again word rest;
-  more = λ bytes x rest after e. ap (λ (u : List ℕ). word_at word (u ++ after)) (word_takes word bytes x rest e) ∙ ap (word_at word) (append_assoc word rest after) ∙ word_again word (rest ++ after);
+  more = λ bytes x rest after e. ap (λ (u : List ℕ). word_at word (u ++ after)) (word_takes word bytes x rest e)
+  ∙ ap (word_at word) (append_assoc word rest after) ∙ word_again word (rest ++ after);
   bad = word_bad word;
   cut = word_cut word;
   once = λ bytes r s e k. sym e ∙ k;
@@ -74,7 +81,8 @@ pub name_again : (name rest : List ℕ) → IsXmlName name → EndsName rest →
 name_again [] rest h e = absurd h
 name_again (b ∷ name) rest h e =
     ap (λ (u : List ℕ). name_at ((b ∷ name) ++ u)) e.parts
-    ∙ rw (h.0, front_run goes_on_name name e.head e.tail h.1 e.no_name, past_run goes_on_name name e.head e.tail h.1 e.no_name) (ap (λ (u : List ℕ). done (b ∷ name) u) (sym e.parts))
+    ∙ rw (h.0, front_run goes_on_name name e.head e.tail h.1 e.no_name, past_run goes_on_name name e.head e.tail h.1 e.no_name)
+    (ap (λ (u : List ℕ). done (b ∷ name) u) (sym e.parts))
 
 -- what was read where the first byte may begin a name
 record IsWhole (b : ℕ) (bytes name rest : List ℕ) : Type 0 where
@@ -88,7 +96,8 @@ record IsWhole (b : ℕ) (bytes name rest : List ℕ) : Type 0 where
 name_whole : (b : ℕ) (bytes name rest : List ℕ) → name_at (b ∷ bytes) ≡ Ok (name, rest) → IsWhole b bytes name rest
 name_whole b bytes name rest e = choose (begins_name b) refl (past goes_on_name bytes) refl e
   where
-    choose : (v : Bool) → begins_name b ≡ v → (p : List ℕ) → past goes_on_name bytes ≡ p → cond {A = Read (List ℕ)} v (ended (b ∷ front goes_on_name bytes) p) (Err Bad) ≡ Ok (name, rest) → IsWhole b bytes name rest
+    choose : (v : Bool) → begins_name b ≡ v → (p : List ℕ) → past goes_on_name bytes ≡ p →
+    cond {A = Read (List ℕ)} v (ended (b ∷ front goes_on_name bytes) p) (Err Bad) ≡ Ok (name, rest) → IsWhole b bytes name rest
     choose true h [] p k = absurd cc
     choose true h (c ∷ r) p k = record {
       head = c;
@@ -107,7 +116,8 @@ name_takes (b ∷ bytes) name rest e =
     record {
       text = name;
       is = record { same = refl; named = subst IsXmlName w.is_name (w.begins, front_passes goes_on_name bytes) };
-      parts = ap (λ (u : List ℕ). b ∷ u) (sym (front-past goes_on_name bytes)) ∙ ap (λ (u : List ℕ). b ∷ (front goes_on_name bytes ++ u)) (w.ends ∙ w.is_rest) ∙ ap (λ (u : List ℕ). u ++ rest) w.is_name;
+      parts = ap (λ (u : List ℕ). b ∷ u) (sym (front-past goes_on_name bytes)) ∙ ap (λ (u : List ℕ). b ∷ (front goes_on_name bytes ++ u)) (w.ends ∙ w.is_rest)
+      ∙ ap (λ (u : List ℕ). u ++ rest) w.is_name;
     }
 
 name_more : (bytes name rest after : List ℕ) → name_at bytes ≡ Ok (name, rest) → name_at (bytes ++ after) ≡ Ok (name, rest ++ after)
@@ -131,7 +141,8 @@ name_cut : (bytes : List ℕ) → name_at bytes ≡ Err Cut → GoesOn (graph na
 name_cut [] e = record { more = 97 ∷ []; read = 97 ∷ []; whole = λ tail f. name_again (97 ∷ []) tail (refl, tt) f }
 name_cut (b ∷ bytes) e = choose (begins_name b) refl (past goes_on_name bytes) refl e
   where
-    choose : (v : Bool) → begins_name b ≡ v → (p : List ℕ) → past goes_on_name bytes ≡ p → cond {A = Read (List ℕ)} v (ended (b ∷ front goes_on_name bytes) p) (Err Bad) ≡ Err Cut → GoesOn (graph name_at) EndsName (b ∷ bytes)
+    choose : (v : Bool) → begins_name b ≡ v → (p : List ℕ) → past goes_on_name bytes ≡ p →
+    cond {A = Read (List ℕ)} v (ended (b ∷ front goes_on_name bytes) p) (Err Bad) ≡ Err Cut → GoesOn (graph name_at) EndsName (b ∷ bytes)
     choose true h [] p k = record { more = []; read = b ∷ bytes; whole = λ tail f. name_again (b ∷ bytes) tail (h, passes_all goes_on_name bytes p) f }
     choose true h (c ∷ r) p k = absurd cc
     choose false h p q k = absurd cc
@@ -167,11 +178,13 @@ record IsClosed (quote : ℕ) (bytes value rest : List ℕ) : Type 0 where
 value_closed : (quote : ℕ) (bytes value rest : List ℕ) → value_at quote bytes ≡ Ok (value, rest) → IsClosed quote bytes value rest
 value_closed quote bytes value rest e = cases (past (is_in_value quote) bytes) refl e
   where
-    cases : (p : List ℕ) → past (is_in_value quote) bytes ≡ p → closed_value quote (front (is_in_value quote) bytes) p ≡ Ok (value, rest) → IsClosed quote bytes value rest
+    cases : (p : List ℕ) → past (is_in_value quote) bytes ≡ p → closed_value quote (front (is_in_value quote) bytes) p ≡ Ok (value, rest) →
+    IsClosed quote bytes value rest
     cases [] p k = absurd cc
     cases (c ∷ r) p k = choose (c == quote) refl k
       where
-        choose : (v : Bool) → (c == quote) ≡ v → cond {A = Read (List ℕ)} v (Ok (front (is_in_value quote) bytes, r)) (Err Bad) ≡ Ok (value, rest) → IsClosed quote bytes value rest
+        choose : (v : Bool) → (c == quote) ≡ v → cond {A = Read (List ℕ)} v (Ok (front (is_in_value quote) bytes, r)) (Err Bad) ≡ Ok (value, rest) →
+        IsClosed quote bytes value rest
         choose true h q = record {
           ends = p ∙ ap (λ (d : ℕ). d ∷ r) (same_if_eq c quote h) ∙ ap (λ (u : List ℕ). quote ∷ u) (done_rest (front (is_in_value quote) bytes) value r rest q);
           is_value = done_read (front (is_in_value quote) bytes) value r rest q;
@@ -184,13 +197,15 @@ value_takes quote bytes value rest e =
     record {
       text = value ++ quote ∷ [];
       is = record { within = subst (AllOfClass (is_in_value quote)) c.is_value (front_passes (is_in_value quote) bytes); parts = refl };
-      parts = sym (front-past (is_in_value quote) bytes) ∙ ap (λ (u : List ℕ). front (is_in_value quote) bytes ++ u) c.ends ∙ ap (λ (u : List ℕ). u ++ quote ∷ rest) c.is_value ∙ sym (append_assoc value (quote ∷ []) rest);
+      parts = sym (front-past (is_in_value quote) bytes) ∙ ap (λ (u : List ℕ). front (is_in_value quote) bytes ++ u) c.ends
+      ∙ ap (λ (u : List ℕ). u ++ quote ∷ rest) c.is_value ∙ sym (append_assoc value (quote ∷ []) rest);
     }
 
 value_bad : (quote : ℕ) (bytes after : List ℕ) → value_at quote bytes ≡ Err Bad → value_at quote (bytes ++ after) ≡ Err Bad
 value_bad quote bytes after e = cases (past (is_in_value quote) bytes) refl e
   where
-    cases : (p : List ℕ) → past (is_in_value quote) bytes ≡ p → closed_value quote (front (is_in_value quote) bytes) p ≡ Err Bad → value_at quote (bytes ++ after) ≡ Err Bad
+    cases : (p : List ℕ) → past (is_in_value quote) bytes ≡ p → closed_value quote (front (is_in_value quote) bytes) p ≡ Err Bad →
+    value_at quote (bytes ++ after) ≡ Err Bad
     cases [] p k = absurd cc
     cases (c ∷ r) p k = rw (past_more (is_in_value quote) bytes c r after p) (choose (c == quote) k)
       where
@@ -202,11 +217,13 @@ value_bad quote bytes after e = cases (past (is_in_value quote) bytes) refl e
 value_cut : (quote : ℕ) (bytes : List ℕ) → value_at quote bytes ≡ Err Cut → GoesOn (graph (value_at quote)) Anything bytes
 value_cut quote bytes e = cases (past (is_in_value quote) bytes) refl e
   where
-    cases : (p : List ℕ) → past (is_in_value quote) bytes ≡ p → closed_value quote (front (is_in_value quote) bytes) p ≡ Err Cut → GoesOn (graph (value_at quote)) Anything bytes
+    cases : (p : List ℕ) → past (is_in_value quote) bytes ≡ p → closed_value quote (front (is_in_value quote) bytes) p ≡ Err Cut →
+    GoesOn (graph (value_at quote)) Anything bytes
     cases [] p k = record { more = quote ∷ []; read = bytes; whole = λ tail f. value_again quote bytes tail (passes_all (is_in_value quote) bytes p) }
     cases (c ∷ r) p k = choose (c == quote) k
       where
-        choose : (v : Bool) → cond {A = Read (List ℕ)} v (Ok (front (is_in_value quote) bytes, r)) (Err Bad) ≡ Err Cut → GoesOn (graph (value_at quote)) Anything bytes
+        choose : (v : Bool) → cond {A = Read (List ℕ)} v (Ok (front (is_in_value quote) bytes, r)) (Err Bad) ≡ Err Cut →
+        GoesOn (graph (value_at quote)) Anything bytes
         choose true q = absurd cc
         choose false q = absurd cc
 
@@ -216,14 +233,16 @@ Law-value quote = record {
   again = again;
   more = λ bytes value rest after e.
       let t = value_takes quote bytes value rest e in
-      ap (λ (u : List ℕ). value_at quote (u ++ after)) t.parts ∙ ap (value_at quote) (append_assoc t.text rest after) ∙ again t.text value (rest ++ after) t.is tt;
+      ap (λ (u : List ℕ). value_at quote (u ++ after)) t.parts ∙ ap (value_at quote) (append_assoc t.text rest after)
+      ∙ again t.text value (rest ++ after) t.is tt;
   bad = value_bad quote;
   cut = value_cut quote;
   once = λ bytes r s e k. sym e ∙ k;
 }
   where
     again : (text value rest : List ℕ) → IsValueText quote text value → Anything rest → value_at quote (text ++ rest) ≡ Ok (value, rest)
-    again text value rest t f = ap (λ (u : List ℕ). value_at quote (u ++ rest)) t.parts ∙ ap (value_at quote) (append_assoc value (quote ∷ []) rest) ∙ value_again quote value rest t.within
+    again text value rest t f = ap (λ (u : List ℕ). value_at quote (u ++ rest)) t.parts ∙ ap (value_at quote) (append_assoc value (quote ∷ []) rest)
+    ∙ value_again quote value rest t.within
 
 pub record IsQuoted (text value : List ℕ) : Type 0 where
   pub quote : ℕ
@@ -233,7 +252,9 @@ pub record IsQuoted (text value : List ℕ) : Type 0 where
 
 quoted_says : (text value : List ℕ) → FirstText 34 (IsValueText 34) (FirstText 39 (IsValueText 39) NoText) text value → IsQuoted text value
 quoted_says text value (inl t) = record { quote = 34; is_quote = inl refl; within = t.is.within; spelled = t.parts ∙ ap (λ (u : List ℕ). 34 ∷ u) t.is.parts }
-quoted_says text value (inr (inl t)) = record { quote = 39; is_quote = inr refl; within = t.is.within; spelled = t.parts ∙ ap (λ (u : List ℕ). 39 ∷ u) t.is.parts }
+quoted_says text value (inr (inl t)) = record {
+    quote = 39; is_quote = inr refl; within = t.is.within; spelled = t.parts ∙ ap (λ (u : List ℕ). 39 ∷ u) t.is.parts
+    }
 quoted_says text value (inr (inr n)) = absurd n
 
 quoted_said : (text value : List ℕ) → IsQuoted text value → FirstText 34 (IsValueText 34) (FirstText 39 (IsValueText 39) NoText) text value
@@ -255,7 +276,8 @@ some_value quote = record { text = quote ∷ []; read = []; is = record { within
 
 pub Law-quoted : Law (graph quoted_at) IsQuoted Anything
 Law-quoted = Law-spelled (Law-by_first 34 (value_at 34) (by_first 39 (value_at 39) nothing_at) (Law-value 34)
-    (Law-by_first 39 (value_at 39) nothing_at (Law-value 39) (Law-nothing Anything) (some_value 39) (λ text x n. absurd n)) (some_value 34) others) quoted_says quoted_said
+    (Law-by_first 39 (value_at 39) nothing_at (Law-value 39) (Law-nothing Anything) (some_value 39) (λ text x n. absurd n)) (some_value 34) others) quoted_says
+    quoted_said
   where
     others : (text value : List ℕ) → FirstText 39 (IsValueText 39) NoText text value → OtherFirst 34 text
     others text value (inl t) = record { head = 39; tail = t.thing; other = refl; parts = t.parts }
@@ -269,7 +291,8 @@ SomeText-quoted = record { text = 34 ∷ 34 ∷ []; read = []; is = record { quo
 abbrev pub SkipText : {X : Type 0} → (List ℕ → X → Type 0) → List ℕ → X → Type 0
 SkipText Is text x = GapText (λ v. Is) text x
 
-pub Law-skip : {X : Type 0} (f : List ℕ → Read X) {Is : List ℕ → X → Type 0} {F : List ℕ → Type 0} → Law (graph f) Is F → f [] ≡ Err Cut → ((text : List ℕ) (x : X) → Is text x → NoBlankFirst text)
+pub Law-skip : {X : Type 0} (f : List ℕ → Read X) {Is : List ℕ → X → Type 0} {F : List ℕ → Type 0} → Law (graph f) Is F → f [] ≡ Err Cut →
+    ((text : List ℕ) (x : X) → Is text x → NoBlankFirst text)
     → Law (graph (skip f)) (SkipText Is) F
 Law-skip f l none begins = Law-gap (λ v. f) (λ v. l) (λ v. none) (λ v. begins)
 
@@ -304,7 +327,8 @@ Law-equals = Law-in_turn last_of_two (skip (word_at (codes "="))) (skip quoted_a
     (λ b y rest t g. tt)
     (SomeText-skip SomeText-quoted)
 
-attr_parts : (text a b n e f v g h q : List ℕ) → text ≡ a ++ b → a ≡ n → b ≡ e ++ f → e ≡ g ++ codes "=" → f ≡ h ++ (q ++ (v ++ q)) → text ≡ n ++ g ++ codes "=" ++ h ++ q ++ v ++ q
+attr_parts : (text a b n e f v g h q : List ℕ) → text ≡ a ++ b → a ≡ n → b ≡ e ++ f → e ≡ g ++ codes "=" → f ≡ h ++ (q ++ (v ++ q)) →
+    text ≡ n ++ g ++ codes "=" ++ h ++ q ++ v ++ q
 attr_parts text a b n e f v g h q t u w x y = rw (t, u, w, x, y) (simp append_assoc)
 
 attr_says : (text : List ℕ) (attr : Written) → TurnText written IsNameText EqualsText text attr → IsAttr text attr
@@ -321,7 +345,8 @@ attr_says text attr t =
       blank_after = s.is_b.blank;
       is_quote = quoted.is_quote;
       within = quoted.within;
-      spelled = attr_parts text t.a t.b t.x s.a s.b s.y s.is_a.blanks s.is_b.blanks (quoted.quote ∷ []) t.parts t.is_a.same s.parts (s.is_a.parts ∙ ap (λ (u : List ℕ). s.is_a.blanks ++ u) s.is_a.is) (s.is_b.parts ∙ ap (λ (u : List ℕ). s.is_b.blanks ++ u) quoted.spelled);
+      spelled = attr_parts text t.a t.b t.x s.a s.b s.y s.is_a.blanks s.is_b.blanks (quoted.quote ∷ []) t.parts t.is_a.same s.parts
+      (s.is_a.parts ∙ ap (λ (u : List ℕ). s.is_a.blanks ++ u) s.is_a.is) (s.is_b.parts ∙ ap (λ (u : List ℕ). s.is_b.blanks ++ u) quoted.spelled);
     })
 
 attr_said : (text : List ℕ) (attr : Written) → IsAttr text attr → TurnText written IsNameText EqualsText text attr
@@ -339,7 +364,11 @@ attr_said text attr i =
         x = tt;
         y = attr.value;
         is_a = record { blanks = i.before; thing = codes "="; blank = i.blank_before; is = refl; parts = refl };
-        is_b = record { blanks = i.after; thing = value; blank = i.blank_after; is = record { quote = i.quote; is_quote = i.is_quote; within = i.within; spelled = refl }; parts = refl };
+        is_b = record {
+        blanks = i.after; thing = value; blank = i.blank_after; is = record {
+        quote = i.quote; is_quote = i.is_quote; within = i.within; spelled = refl
+        }; parts = refl
+        };
         parts = refl;
         made = refl;
       };
@@ -357,7 +386,8 @@ some_equals = SomeText-turn last_of_two (SomeText-skip (SomeText-word (codes "="
 
 pub Law-attr : Law (graph attr_at) IsAttr Anything
 unfolding attr_at
-Law-attr = Law-spelled (Law-in_turn written name_at equals_at Law-name Law-equals (λ b value rest t g. equals_ends_name b value rest t) some_equals) attr_says attr_said
+Law-attr = Law-spelled (Law-in_turn written name_at equals_at Law-name Law-equals (λ b value rest t g. equals_ends_name b value rest t) some_equals) attr_says
+    attr_said
 
 pub record BeginsName (text : List ℕ) : Type 0 where
   pub head : ℕ
@@ -409,5 +439,6 @@ close_ends_name b x rest t =
 
 pub Law-end_tag : Law (graph end_tag_at) AfterSlash Anything
 unfolding end_tag_at
-Law-end_tag = Law-spelled (Law-in_turn first_of_two name_at (skip (word_at (codes ">"))) Law-name (Law-skip (word_at (codes ">")) (Law-word (codes ">")) refl (λ text x. word_begins 62 text x refl))
+Law-end_tag = Law-spelled (Law-in_turn first_of_two name_at (skip (word_at (codes ">"))) Law-name
+    (Law-skip (word_at (codes ">")) (Law-word (codes ">")) refl (λ text x. word_begins 62 text x refl))
     (λ b x rest t g. close_ends_name b x rest t) (SomeText-skip (SomeText-word (codes ">")))) end_says end_said

@@ -1,5 +1,7 @@
 -- References.
-use Rattle.std.proofs.Common.{◌≡◌, ◌≢◌, ℕ, zero, suc, ◌<◌, ◌≤◌, Bool, true, false, cond, ◌==◌, ◌&&◌, not, nat_le, nat_lt, codes, Option, Some, None, List, [], ◌∷◌, ◌++◌, length, length-take, get_or, take, ◌+◌, ◌*◌, ◌^◌, lit<, Ok, Err, refl, sym, ap, ◌∙◌, subst, append_assoc, arith, inl, inr}
+use Rattle.std.proofs.Common.{◌≡◌, ◌≢◌, ℕ, zero, suc, ◌<◌, ◌≤◌, Bool, true, false, cond, ◌==◌, ◌&&◌, not, nat_le, nat_lt, codes, Option, Some, None, List, []}
+use Rattle.std.proofs.Common.{◌∷◌, ◌++◌, length, length-take, get_or, take, ◌+◌, ◌*◌, ◌^◌, lit<, Ok, Err, refl, sym, ap, ◌∙◌, subst, append_assoc, arith, inl}
+use Rattle.std.proofs.Common.{inr}
 use Rattle.std.specs.Prelude.{⊤, Contains}
 use Rattle.std.specs.Char.{IsScalar, is_digit, digit_value}
 use Rattle.std.specs.Str.Parse.{AllDigits, digits_value}
@@ -12,7 +14,8 @@ use Rattle.std.proofs.lemmas.Bool.{and_parts, false_from_ne_true}
 use lib.Utf8.{scalar}
 use Rattle.railml_text.specs.Bytes.{AllOfClass, front, past}
 use Rattle.railml_text.specs.References.{named_references, IsNumbered, IsReference}
-use Rattle.railml_text.specs.Reading.{Read, word_at, named_or, find_named, character_and, ended_number, number_at, number_or, or_else, by_number_at, reference_at}
+use Rattle.railml_text.specs.Reading.{Read, word_at, named_or, find_named, character_and, ended_number, number_at, number_or, or_else, by_number_at}
+use Rattle.railml_text.specs.Reading.{reference_at}
 use Rattle.railml_text.proofs.RunLemmas.{same_if_eq, front-past, front_passes, front_run, past_run}
 use Rattle.railml_text.proofs.ReaderLemmas.{Law-word}
 
@@ -61,7 +64,8 @@ find_takes : (table : List (List ℕ × ℕ)) (bytes : List ℕ) (c : ℕ) (rest
 find_takes [] bytes c rest e = absurd cc
 find_takes (entry ∷ table) bytes c rest e = cases (word_at entry.0 bytes) refl e (find_takes table bytes c rest)
   where
-    cases : (r : Read ⊤) → word_at entry.0 bytes ≡ r → named_or r entry.1 (find_named table bytes) ≡ Some (c, rest) → (find_named table bytes ≡ Some (c, rest) → TakesNamed table bytes c rest) → TakesNamed (entry ∷ table) bytes c rest
+    cases : (r : Read ⊤) → word_at entry.0 bytes ≡ r → named_or r entry.1 (find_named table bytes) ≡ Some (c, rest) →
+    (find_named table bytes ≡ Some (c, rest) → TakesNamed table bytes c rest) → TakesNamed (entry ∷ table) bytes c rest
     cases (Ok x) h k ih =
         let t = (Law-word entry.0).takes bytes x.0 x.1 h in
         let character : entry.1 ≡ c = found_value entry.1 c x.1 rest k in
@@ -76,7 +80,8 @@ find_takes (entry ∷ table) bytes c rest e = cases (word_at entry.0 bytes) refl
         record { text = t.text; among = Contains-append_right (entry ∷ []) table (t.text, c) t.among; parts = t.parts }
 
 find_again : (text : List ℕ) (c : ℕ) (rest : List ℕ) → Contains named_references (text, c) → find_named named_references (text ++ rest) ≡ Some (c, rest)
-find_again text c rest k = named_each (λ entry. (after : List ℕ) → find_named named_references (entry.0 ++ after) ≡ Some (entry.1, after)) ((λ after. refl), ((λ after. refl), ((λ after. refl), ((λ after. refl), ((λ after. refl), tt))))) text c k rest
+find_again text c rest k = named_each (λ entry. (after : List ℕ) → find_named named_references (entry.0 ++ after) ≡ Some (entry.1, after))
+    ((λ after. refl), ((λ after. refl), ((λ after. refl), ((λ after. refl), ((λ after. refl), tt))))) text c k rest
 
 -- ---- by number
 
@@ -128,7 +133,8 @@ number_takes base bytes c rest e = counted (nat_le 1 (length digits) && nat_le (
     n : ℕ
     n = digits_value base digits
 
-    character : (tail : List ℕ) → past (digit base) bytes ≡ 59 ∷ tail → (v : Bool) → (scalar n && not (n == 0)) ≡ v → cond {A = Option (ℕ × List ℕ)} v (Some (n, tail)) None ≡ Some (c, rest)
+    character : (tail : List ℕ) → past (digit base) bytes ≡ 59 ∷ tail → (v : Bool) → (scalar n && not (n == 0)) ≡ v →
+    cond {A = Option (ℕ × List ℕ)} v (Some (n, tail)) None ≡ Some (c, rest)
         → (1 ≤ length digits) × (length digits ≤ 8) → TakesNumber base bytes c rest
     character tail p true q k counts =
         let b = and_parts (scalar n) (not (n == 0)) q in
@@ -146,7 +152,8 @@ number_takes base bytes c rest e = counted (nat_le 1 (length digits) && nat_le (
         }
     character tail p false q k counts = absurd cc
 
-    ended : (p : List ℕ) → past (digit base) bytes ≡ p → ended_number n p ≡ Some (c, rest) → (1 ≤ length digits) × (length digits ≤ 8) → TakesNumber base bytes c rest
+    ended : (p : List ℕ) → past (digit base) bytes ≡ p → ended_number n p ≡ Some (c, rest) → (1 ≤ length digits) × (length digits ≤ 8) →
+    TakesNumber base bytes c rest
     ended [] p k counts = absurd cc
     ended (b ∷ tail) p k counts = choose (b == 59) refl k
       where
@@ -154,35 +161,43 @@ number_takes base bytes c rest e = counted (nat_le 1 (length digits) && nat_le (
         choose true h q = character tail (p ∙ ap (λ (d : ℕ). d ∷ tail) (same_if_eq b 59 h)) (scalar n && not (n == 0)) refl q counts
         choose false h q = absurd cc
 
-    counted : (v : Bool) → (nat_le 1 (length digits) && nat_le (length digits) 8) ≡ v → cond {A = Option (ℕ × List ℕ)} v (ended_number n (past (digit base) bytes)) None ≡ Some (c, rest) → TakesNumber base bytes c rest
+    counted : (v : Bool) → (nat_le 1 (length digits) && nat_le (length digits) 8) ≡ v →
+    cond {A = Option (ℕ × List ℕ)} v (ended_number n (past (digit base) bytes)) None ≡ Some (c, rest) → TakesNumber base bytes c rest
     counted true h k =
         let b = and_parts (nat_le 1 (length digits)) (nat_le (length digits) 8) h in
         ended (past (digit base) bytes) refl k (le_true 1 (length digits) b.0, le_true (length digits) 8 b.1)
     counted false h k = absurd cc
 
-number_again : (base : ℕ) (digits : List ℕ) (c : ℕ) (rest : List ℕ) → digit base 59 ≡ false → 1 ≤ length digits → length digits ≤ 8 → AllDigits base digits → digits_value base digits ≡ c → IsScalar c → c ≢ 0
+number_again : (base : ℕ) (digits : List ℕ) (c : ℕ) (rest : List ℕ) → digit base 59 ≡ false → 1 ≤ length digits → length digits ≤ 8 → AllDigits base digits →
+    digits_value base digits ≡ c → IsScalar c → c ≢ 0
     → number_at base (digits ++ 59 ∷ rest) ≡ Some (c, rest)
 number_again base digits c rest no_digit some few each value is_scalar not_zero =
     let p = digits_pass base digits each in
-    rw (front_run (digit base) digits 59 rest p no_digit, past_run (digit base) digits 59 rest p no_digit, true_le 1 (length digits) some, true_le (length digits) 8 few, value)
+    rw (front_run (digit base) digits 59 rest p no_digit, past_run (digit base) digits 59 rest p no_digit, true_le 1 (length digits) some, true_le
+    (length digits) 8 few, value)
     (rw (is_scalar, is_not_zero c not_zero) refl)
 
-numbered_again : (base : ℕ) (opening text : List ℕ) (c : ℕ) (rest : List ℕ) (t : IsNumbered base opening text c) → digit base 59 ≡ false → number_at base (t.digits ++ 59 ∷ rest) ≡ Some (c, rest)
+numbered_again : (base : ℕ) (opening text : List ℕ) (c : ℕ) (rest : List ℕ) (t : IsNumbered base opening text c) → digit base 59 ≡ false →
+    number_at base (t.digits ++ 59 ∷ rest) ≡ Some (c, rest)
 numbered_again base opening text c rest t no_digit = number_again base t.digits c rest no_digit t.some t.few t.each t.value t.scalar t.not_zero
 
-numbered_parts : (base : ℕ) (opening text : List ℕ) (c : ℕ) (rest : List ℕ) (t : IsNumbered base opening text c) → text ++ rest ≡ opening ++ (t.digits ++ 59 ∷ rest)
+numbered_parts : (base : ℕ) (opening text : List ℕ) (c : ℕ) (rest : List ℕ) (t : IsNumbered base opening text c) →
+    text ++ rest ≡ opening ++ (t.digits ++ 59 ∷ rest)
 numbered_parts base opening text c rest t = ap (λ (u : List ℕ). u ++ rest) t.spelled ∙ simp append_assoc
 
 -- no digit of the base ten is an `x`
 no_x : (d : ℕ) → digit_value d < 10 → (d == 120) ≡ false
-no_x d h = false_from_ne_true (d == 120) (λ e. let same : d ≡ 120 = same_if_eq d 120 e in let k : digit_value 120 < 10 = subst (λ (m : ℕ). digit_value m < 10) same h in absurd (omega (arith, k)))
+no_x d h = false_from_ne_true (d == 120) (λ e. let same : d ≡ 120 = same_if_eq d 120 e in let k : digit_value 120 < 10 = subst (λ (m : ℕ). digit_value m < 10)
+    same h in absurd (omega (arith, k)))
 
-decimal_again : (digits rest : List ℕ) (c : ℕ) → 1 ≤ length digits → AllDigits 10 digits → number_at 10 (digits ++ 59 ∷ rest) ≡ Some (c, rest) → by_number_at (codes "&#" ++ (digits ++ 59 ∷ rest)) ≡ Some (c, rest)
+decimal_again : (digits rest : List ℕ) (c : ℕ) → 1 ≤ length digits → AllDigits 10 digits → number_at 10 (digits ++ 59 ∷ rest) ≡ Some (c, rest) →
+    by_number_at (codes "&#" ++ (digits ++ 59 ∷ rest)) ≡ Some (c, rest)
 unfolding by_number_at
 decimal_again [] rest c some each h = absurd (omega arith)
 decimal_again (d ∷ digits) rest c some each h = rw (no_x d each.0) h
 
-hexadecimal_again : (digits rest : List ℕ) (c : ℕ) → number_at 16 (digits ++ 59 ∷ rest) ≡ Some (c, rest) → by_number_at (codes "&#x" ++ (digits ++ 59 ∷ rest)) ≡ Some (c, rest)
+hexadecimal_again : (digits rest : List ℕ) (c : ℕ) → number_at 16 (digits ++ 59 ∷ rest) ≡ Some (c, rest) →
+    by_number_at (codes "&#x" ++ (digits ++ 59 ∷ rest)) ≡ Some (c, rest)
 unfolding by_number_at
 hexadecimal_again digits rest c h = h
 
@@ -190,7 +205,8 @@ by_number_takes : (bytes : List ℕ) (c : ℕ) (rest : List ℕ) → by_number_a
 unfolding by_number_at
 by_number_takes bytes c rest e = hexadecimal (word_at (codes "&#x") bytes) refl e
   where
-    numbered : (base : ℕ) (opening tail : List ℕ) → bytes ≡ opening ++ tail → number_at base tail ≡ Some (c, rest) → (t : List ℕ) × IsNumbered base opening t c × (bytes ≡ t ++ rest)
+    numbered : (base : ℕ) (opening tail : List ℕ) → bytes ≡ opening ++ tail → number_at base tail ≡ Some (c, rest) →
+    (t : List ℕ) × IsNumbered base opening t c × (bytes ≡ t ++ rest)
     numbered base opening tail p k =
         let t = number_takes base tail c rest k in (
           opening ++ t.digits ++ codes ";",
@@ -205,7 +221,8 @@ by_number_takes bytes c rest e = hexadecimal (word_at (codes "&#x") bytes) refl 
     decimal (Ok x) h k = let t = numbered 10 (codes "&#") x.1 (parts (codes "&#") x h) k in record { text = t.0; is = inr (inl t.1); parts = t.2 }
     decimal (Err m) h k = absurd cc
 
-    hexadecimal : (r : Read ⊤) → word_at (codes "&#x") bytes ≡ r → number_or r 16 (number_or (word_at (codes "&#") bytes) 10 None) ≡ Some (c, rest) → TakesReference bytes c rest
+    hexadecimal : (r : Read ⊤) → word_at (codes "&#x") bytes ≡ r → number_or r 16 (number_or (word_at (codes "&#") bytes) 10 None) ≡ Some (c, rest) →
+    TakesReference bytes c rest
     hexadecimal (Ok x) h k = let t = numbered 16 (codes "&#x") x.1 (parts (codes "&#x") x h) k in record { text = t.0; is = inr (inr t.1); parts = t.2 }
     hexadecimal (Err m) h k = decimal (word_at (codes "&#") bytes) refl k
 
@@ -222,11 +239,14 @@ reference_takes bytes c rest e = cases (find_named named_references bytes) refl 
 pub reference_again : (text : List ℕ) (c : ℕ) (rest : List ℕ) → IsReference text c → reference_at (text ++ rest) ≡ Some (c, rest)
 unfolding reference_at
 reference_again text c rest (inl k) = rw (find_again text c rest k) refl
-reference_again text c rest (inr (inl t)) = ap reference_at (numbered_parts 10 (codes "&#") text c rest t) ∙ decimal_again t.digits rest c t.some t.each (numbered_again 10 (codes "&#") text c rest t refl)
-reference_again text c rest (inr (inr t)) = ap reference_at (numbered_parts 16 (codes "&#x") text c rest t) ∙ hexadecimal_again t.digits rest c (numbered_again 16 (codes "&#x") text c rest t refl)
+reference_again text c rest (inr (inl t)) = ap reference_at (numbered_parts 10 (codes "&#") text c rest t)
+    ∙ decimal_again t.digits rest c t.some t.each (numbered_again 10 (codes "&#") text c rest t refl)
+reference_again text c rest (inr (inr t)) = ap reference_at (numbered_parts 16 (codes "&#x") text c rest t)
+    ∙ hexadecimal_again t.digits rest c (numbered_again 16 (codes "&#x") text c rest t refl)
 
 -- bytes begin with at most one reference
-pub one_reference : (text other : List ℕ) (c d : ℕ) (rest tail : List ℕ) → IsReference text c → IsReference other d → text ++ rest ≡ other ++ tail → (c ≡ d) × (rest ≡ tail)
+pub one_reference : (text other : List ℕ) (c d : ℕ) (rest tail : List ℕ) → IsReference text c → IsReference other d → text ++ rest ≡ other ++ tail →
+    (c ≡ d) × (rest ≡ tail)
 one_reference text other c d rest tail r s e =
     let both : found c rest ≡ found d tail = sym (reference_again text c rest r) ∙ ap reference_at e ∙ reference_again other d tail s in
     (found_value c d rest tail both, found_rest c d rest tail both)
@@ -240,7 +260,8 @@ pub record HasShape (text : List ℕ) (c : ℕ) : Type 0 where
   pub scalar : IsScalar c
 
 digit_no_ampersand : (base d : ℕ) → base ≤ 16 → digit_value d < base → not (d == 38) ≡ true
-digit_no_ampersand base d l h = ap not (false_from_ne_true (d == 38) (λ e. let same : d ≡ 38 = same_if_eq d 38 e in let k : digit_value 38 < base = subst (λ (m : ℕ). digit_value m < base) same h in absurd (omega (arith, k, l))))
+digit_no_ampersand base d l h = ap not (false_from_ne_true (d == 38) (λ e. let same : d ≡ 38 = same_if_eq d 38 e in let k : digit_value 38 < base = subst
+    (λ (m : ℕ). digit_value m < base) same h in absurd (omega (arith, k, l))))
 
 digits_no_ampersand : (base : ℕ) (digits : List ℕ) → base ≤ 16 → AllDigits base digits → AllOfClass (λ b. not (b == 38)) digits
 digits_no_ampersand base [] l h = tt
@@ -281,7 +302,8 @@ AllDigits-take base (suc n) [] h = tt
 AllDigits-take base (suc n) (d ∷ digits) h = (h.0, AllDigits-take base n digits h.1)
 
 -- one more digit of at most eight
-pub number_room : (base : ℕ) (digits : List ℕ) (i : ℕ) → base ≤ 16 → length digits ≤ 8 → AllDigits base digits → i < length digits → digits_value base (take i digits) * base + digit_value (get_or digits i 0) < 2 ^ 32
+pub number_room : (base : ℕ) (digits : List ℕ) (i : ℕ) → base ≤ 16 → length digits ≤ 8 → AllDigits base digits → i < length digits →
+    digits_value base (take i digits) * base + digit_value (get_or digits i 0) < 2 ^ 32
 number_room base digits i small few each within =
     let front = take (i + 1) digits in
     let below : digits_value base front < base ^ length front = digits_value-lt base front (AllDigits-take base (i + 1) digits each) in

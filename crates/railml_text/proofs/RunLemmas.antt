@@ -61,25 +61,28 @@ past_run p (b ∷ run) c rest h n = rw h.0 (past_run p run c rest h.1 n)
 -- a run that ended ends there again
 pub past_more : (p : ℕ → Bool) (bytes : List ℕ) (c : ℕ) (rest more : List ℕ) → past p bytes ≡ c ∷ rest → past p (bytes ++ more) ≡ c ∷ (rest ++ more)
 past_more p [] c rest more e = absurd cc
-past_more p (b ∷ bytes) c rest more e = elim (p b) as (λ v. cond v (past p bytes) (b ∷ bytes) ≡ c ∷ rest → cond v (past p (bytes ++ more)) (b ∷ (bytes ++ more)) ≡ c ∷ (rest ++ more)) [
-  | true ↦ past_more p bytes c rest more
-  | false ↦ λ h. ap (λ (t : List ℕ). t ++ more) h
-] e
+past_more p (b ∷ bytes) c rest more e = elim (p b) as (λ v. cond v (past p bytes) (b ∷ bytes) ≡ c ∷ rest → cond v (past p (bytes ++ more)) (b ∷ (bytes ++ more))
+    ≡ c ∷ (rest ++ more)) [
+      | true ↦ past_more p bytes c rest more
+      | false ↦ λ h. ap (λ (t : List ℕ). t ++ more) h
+    ] e
 
 pub front_more : (p : ℕ → Bool) (bytes : List ℕ) (c : ℕ) (rest more : List ℕ) → past p bytes ≡ c ∷ rest → front p (bytes ++ more) ≡ front p bytes
 front_more p [] c rest more e = absurd cc
-front_more p (b ∷ bytes) c rest more e = elim (p b) as (λ v. cond v (past p bytes) (b ∷ bytes) ≡ c ∷ rest → cond v (b ∷ front p (bytes ++ more)) [] ≡ cond v (b ∷ front p bytes) []) [
-  | true ↦ λ h. ap (λ (t : List ℕ). b ∷ t) (front_more p bytes c rest more h)
-  | false ↦ λ h. refl
-] e
+front_more p (b ∷ bytes) c rest more e = elim (p b) as (λ v. cond v (past p bytes) (b ∷ bytes) ≡ c ∷ rest → cond v (b ∷ front p (bytes ++ more)) [] ≡ cond v
+    (b ∷ front p bytes) []) [
+      | true ↦ λ h. ap (λ (t : List ℕ). b ∷ t) (front_more p bytes c rest more h)
+      | false ↦ λ h. refl
+    ] e
 
 -- a run to the end goes on
 pub past_all : (p : ℕ → Bool) (bytes more : List ℕ) → past p bytes ≡ [] → past p (bytes ++ more) ≡ past p more
 past_all p [] more e = refl
-past_all p (b ∷ bytes) more e = elim (p b) as (λ v. cond v (past p bytes) (b ∷ bytes) ≡ [] → cond v (past p (bytes ++ more)) (b ∷ (bytes ++ more)) ≡ past p more) [
-  | true ↦ past_all p bytes more
-  | false ↦ λ h. absurd cc
-] e
+past_all p (b ∷ bytes) more e = elim (p b) as (λ v. cond v (past p bytes) (b ∷ bytes) ≡ [] → cond v (past p (bytes ++ more)) (b ∷ (bytes ++ more)) ≡ past p
+    more) [
+      | true ↦ past_all p bytes more
+      | false ↦ λ h. absurd cc
+    ] e
 
 pub passes_all : (p : ℕ → Bool) (bytes : List ℕ) → past p bytes ≡ [] → AllOfClass p bytes
 passes_all p [] e = tt

@@ -1,5 +1,6 @@
 -- The item at a place.
-use Rattle.std.proofs.Common.{◌≡◌, ◌≢◌, ℕ, ◌-◌, ◌<◌, Bool, true, Some, None, List, [], ◌∷◌, ◌++◌, length, take, drop, get_or, Ok, refl, sym, ap, ◌∙◌, subst, append_assoc, length-append, length-drop, take-append-drop, arith}
+use Rattle.std.proofs.Common.{◌≡◌, ◌≢◌, ℕ, ◌-◌, ◌<◌, Bool, true, Some, None, List, [], ◌∷◌, ◌++◌, length, take, drop, get_or, Ok, refl, sym, ap, ◌∙◌, subst}
+use Rattle.std.proofs.Common.{append_assoc, length-append, length-drop, take-append-drop, arith}
 use Rattle.std.specs.List.{list_all}
 use Rattle.std.specs.Str.{IsUtf8, IsCharBoundary}
 use Rattle.std.proofs.lemmas.List.{drop_at, take_all}
@@ -23,13 +24,15 @@ front_is [] lt = absurd (omega arith)
 front_is (b ∷ rest) lt = refl
 
 -- the names and values of what was read
-pub found_utf8 : (first : Bool) (bytes : List ℕ) (found : Found) (after : List ℕ) → MarkupRead first bytes (Ok (found, after)) → IsUtf8 (60 ∷ bytes) → IsUtf8Found found
+pub found_utf8 : (first : Bool) (bytes : List ℕ) (found : Found) (after : List ℕ) → MarkupRead first bytes (Ok (found, after)) → IsUtf8 (60 ∷ bytes) →
+    IsUtf8Found found
 found_utf8 first bytes (item shape) after h u = parts_utf8 first (60 ∷ bytes) shape after (read_item first bytes shape after h) u
 found_utf8 first bytes doctype after h u = tt
 
 -- ---- references and characters
 
-pub reference_sound : (first : Bool) (rest : List ℕ) (c : ℕ) (after : List ℕ) → reference_at rest ≡ Some (c, after) → HasSoundItem first rest kinds.Reference after
+pub reference_sound : (first : Bool) (rest : List ℕ) (c : ℕ) (after : List ℕ) → reference_at rest ≡ Some (c, after) →
+    HasSoundItem first rest kinds.Reference after
 reference_sound first rest c after e =
     let t = reference_takes rest c after e in
     quiet_item first rest reference after kinds.Reference tt (record { text = t.text; is = (c, t.is); longest = tt; parts = t.parts }) refl
@@ -75,14 +78,18 @@ between first bytes at kind after h = record { text = h.item.text; parts = h.ite
 end_drop : (bytes : List ℕ) (at : ℕ) (after : List ℕ) → at < length bytes → Between bytes at after → drop (length bytes - length after) bytes ≡ after
 end_drop bytes at after lt b =
     let front = take at bytes ++ b.text in
-    let whole : bytes ≡ front ++ after = sym (take-append-drop at bytes) ∙ ap (λ (u : List ℕ). take at bytes ++ u) b.parts ∙ sym (append_assoc (take at bytes) b.text after) in
+    let whole : bytes ≡ front ++ after = sym (take-append-drop at bytes) ∙ ap (λ (u : List ℕ). take at bytes ++ u) b.parts
+    ∙ sym (append_assoc (take at bytes) b.text after) in
     let count : length front ≡ length bytes - length after = omega (arith, ap length whole, length-append front after) in
     ap (λ (u : List ℕ). drop (length bytes - length after) u) whole ∙ drop_at front after (length bytes - length after) count
 
-pub end_sound : (first : Bool) (bytes : List ℕ) (at : ℕ) (kind : ItemKind) (after : List ℕ) → at < length bytes → HasSoundItem first (drop at bytes) kind after → HasSoundItem first (drop at bytes) kind (drop (length bytes - length after) bytes)
-end_sound first bytes at kind after lt h = subst (HasSoundItem first (drop at bytes) kind) (sym (end_drop bytes at after lt (between first bytes at kind after h))) h
+pub end_sound : (first : Bool) (bytes : List ℕ) (at : ℕ) (kind : ItemKind) (after : List ℕ) → at < length bytes →
+    HasSoundItem first (drop at bytes) kind after → HasSoundItem first (drop at bytes) kind (drop (length bytes - length after) bytes)
+end_sound first bytes at kind after lt h = subst (HasSoundItem first (drop at bytes) kind)
+    (sym (end_drop bytes at after lt (between first bytes at kind after h))) h
 
-pub end_boundary : (first : Bool) (bytes : List ℕ) (at : ℕ) (kind : ItemKind) (after : List ℕ) → at < length bytes → IsUtf8 bytes → IsCharBoundary bytes at → HasSoundItem first (drop at bytes) kind after
+pub end_boundary : (first : Bool) (bytes : List ℕ) (at : ℕ) (kind : ItemKind) (after : List ℕ) → at < length bytes → IsUtf8 bytes → IsCharBoundary bytes at →
+    HasSoundItem first (drop at bytes) kind after
     → IsCharBoundary bytes (length bytes - length after)
 end_boundary first bytes at kind after lt u c h =
     let rest = after_utf8 first (drop at bytes) h.shape after h.item (IsUtf8-drop bytes at u c) in

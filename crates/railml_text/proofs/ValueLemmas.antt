@@ -1,5 +1,6 @@
 -- The text of an attribute.
-use Rattle.std.proofs.Common.{◌≡◌, ◌≢◌, ◌⊎◌, ℕ, ◌<◌, Bool, true, false, cond, ◌==◌, ◌||◌, not, Option, Some, None, List, [], ◌∷◌, ◌++◌, length, refl, sym, ap, ◌∙◌, subst, append_assoc, length-append, arith, inl, inr, lit<}
+use Rattle.std.proofs.Common.{◌≡◌, ◌≢◌, ◌⊎◌, ℕ, ◌<◌, Bool, true, false, cond, ◌==◌, ◌||◌, not, Option, Some, None, List, [], ◌∷◌, ◌++◌, length, refl, sym, ap}
+use Rattle.std.proofs.Common.{◌∙◌, subst, append_assoc, length-append, arith, inl, inr, lit<}
 use Rattle.std.specs.Prelude.{encode_utf8}
 use Rattle.std.specs.Str.{IsUtf8}
 use Rattle.std.proofs.lemmas.Bool.Decides.{nat_tests}
@@ -36,7 +37,10 @@ reference_piece bytes text after None h e = absurd cc
 reference_piece bytes text after (Some x) h e =
     let t = reference_takes bytes x.0 x.1 h in
     let last : x.1 ≡ after = found_rest (encode_utf8 x.0) text x.1 after e in
-    record { piece = reference t.text x.0; is = t.is; parts = t.parts ∙ ap (λ (u : List ℕ). t.text ++ u) last; made = sym (found_value (encode_utf8 x.0) text x.1 after e) }
+    record {
+    piece = reference t.text x.0; is = t.is; parts = t.parts ∙ ap (λ (u : List ℕ). t.text ++ u) last; made = sym
+    (found_value (encode_utf8 x.0) text x.1 after e)
+    }
 
 -- a carriage return is a piece with its line feed, or alone
 return_piece : (bytes text after : List ℕ) → found (32 ∷ []) (past_line_feed bytes) ≡ Some (text, after) → TakesPiece (13 ∷ bytes) text after
@@ -70,14 +74,17 @@ either_is : (b : ℕ) → ((b == 9) || (b == 10)) ≡ true → (b ≡ 9) ⊎ (b 
 either_is b e = grind (arith, nat_tests)
 
 neither_is : (b : ℕ) → ((b == 9) || (b == 10)) ≡ false → (b ≢ 9) × (b ≢ 10)
-neither_is b e = (λ h. let k : ((9 == 9) || (9 == 10)) ≡ false = subst (λ (c : ℕ). ((c == 9) || (c == 10)) ≡ false) h e in cc, λ h. let k : ((10 == 9) || (10 == 10)) ≡ false = subst (λ (c : ℕ). ((c == 9) || (c == 10)) ≡ false) h e in cc)
+neither_is b e = (λ h. let k : ((9 == 9) || (9 == 10)) ≡ false = subst (λ (c : ℕ). ((c == 9) || (c == 10)) ≡ false) h e in cc, λ h. let k :
+    ((10 == 9) || (10 == 10)) ≡ false = subst (λ (c : ℕ). ((c == 9) || (c == 10)) ≡ false) h e in cc)
 
 pub piece_takes : (bytes text after : List ℕ) → piece_at bytes ≡ Some (text, after) → TakesPiece bytes text after
 piece_takes [] text after e = absurd cc
 piece_takes (b ∷ bytes) text after e = choose (b == 38) (b == 13) ((b == 9) || (b == 10)) refl refl refl e
   where
     choose : (v w u : Bool) → (b == 38) ≡ v → (b == 13) ≡ w → ((b == 9) || (b == 10)) ≡ u
-        → cond {A = Option (List ℕ × List ℕ)} v (encoded (reference_at (b ∷ bytes))) (cond w (Some (32 ∷ [], past_line_feed bytes)) (cond u (Some (32 ∷ [], bytes)) (Some (b ∷ [], bytes)))) ≡ Some (text, after) → TakesPiece (b ∷ bytes) text after
+        → cond {A = Option (List ℕ × List ℕ)} v (encoded (reference_at (b ∷ bytes)))
+        (cond w (Some (32 ∷ [], past_line_feed bytes)) (cond u (Some (32 ∷ [], bytes)) (Some (b ∷ [], bytes)))) ≡ Some (text, after) →
+        TakesPiece (b ∷ bytes) text after
     choose true w u p q r h = reference_piece (b ∷ bytes) text after (reference_at (b ∷ bytes)) refl h
     choose false true u p q r h = subst (λ (c : ℕ). TakesPiece (c ∷ bytes) text after) (sym (same_if_eq b 13 q)) (return_piece bytes text after h)
     choose false false true p q r h = record {
@@ -118,12 +125,16 @@ piece_again (reference text c) after h =
 pub piece_none : (b : ℕ) (bytes : List ℕ) → piece_at (b ∷ bytes) ≡ None → BeginsLoose (b ∷ bytes)
 piece_none b bytes e = choose (b == 38) (b == 13) ((b == 9) || (b == 10)) refl e
   where
-    no_reference : (o : Option (ℕ × List ℕ)) → reference_at (b ∷ bytes) ≡ o → encoded o ≡ None → (text after : List ℕ) (c : ℕ) → b ∷ bytes ≡ text ++ after → IsReference text c → ⊥
+    no_reference : (o : Option (ℕ × List ℕ)) → reference_at (b ∷ bytes) ≡ o → encoded o ≡ None → (text after : List ℕ) (c : ℕ) → b ∷ bytes ≡ text ++ after →
+    IsReference text c → ⊥
     no_reference None h k text after c q r = let both : None ≡ found c after = sym h ∙ ap reference_at q ∙ reference_again text c after r in cc
     no_reference (Some x) h k text after c q r = cc
 
-    choose : (v w u : Bool) → (b == 38) ≡ v → cond {A = Option (List ℕ × List ℕ)} v (encoded (reference_at (b ∷ bytes))) (cond w (Some (32 ∷ [], past_line_feed bytes)) (cond u (Some (32 ∷ [], bytes)) (Some (b ∷ [], bytes)))) ≡ None → BeginsLoose (b ∷ bytes)
-    choose true w u p h = record { rest = bytes; ampersand = ap (λ (c : ℕ). c ∷ bytes) (same_if_eq b 38 p); none = no_reference (reference_at (b ∷ bytes)) refl h }
+    choose : (v w u : Bool) → (b == 38) ≡ v → cond {A = Option (List ℕ × List ℕ)} v (encoded (reference_at (b ∷ bytes)))
+    (cond w (Some (32 ∷ [], past_line_feed bytes)) (cond u (Some (32 ∷ [], bytes)) (Some (b ∷ [], bytes)))) ≡ None → BeginsLoose (b ∷ bytes)
+    choose true w u p h = record {
+    rest = bytes; ampersand = ap (λ (c : ℕ). c ∷ bytes) (same_if_eq b 38 p); none = no_reference (reference_at (b ∷ bytes)) refl h
+    }
     choose false true u p h = absurd cc
     choose false false true p h = absurd cc
     choose false false false p h = absurd cc
@@ -140,12 +151,16 @@ piece_some (reference text c) after h = let s = reference_shape text c h in (38,
 abbrev pub SpelledTo : List ValuePiece → List ℕ → List ℕ → List ℕ → Type 0
 SpelledTo [] value text rest = (value ≡ rest) × (text ≡ [])
 SpelledTo (piece ∷ pieces) value text rest =
-    (after others : List ℕ) × IsPiece piece after × (value ≡ piece_value piece ++ after) × (text ≡ piece_text piece ++ others) × SpelledTo pieces after others rest
+    (after others : List ℕ) × IsPiece piece after × (value ≡ piece_value piece ++ after) × (text ≡ piece_text piece ++ others) × SpelledTo pieces after others
+    rest
 
-pub SpelledTo-push : (pieces : List ValuePiece) (piece : ValuePiece) (value text rest after : List ℕ) → SpelledTo pieces value text rest → IsPiece piece after → rest ≡ piece_value piece ++ after → SpelledTo (pieces ++ piece ∷ []) value (text ++ piece_text piece) after
-SpelledTo-push [] piece value text rest after h is e = (after, [], is, h.0 ∙ e, ap (λ (u : List ℕ). u ++ piece_text piece) h.1 ∙ sym (append-nil (piece_text piece)), (refl, refl))
+pub SpelledTo-push : (pieces : List ValuePiece) (piece : ValuePiece) (value text rest after : List ℕ) → SpelledTo pieces value text rest → IsPiece piece after →
+    rest ≡ piece_value piece ++ after → SpelledTo (pieces ++ piece ∷ []) value (text ++ piece_text piece) after
+SpelledTo-push [] piece value text rest after h is e = (after, [], is, h.0 ∙ e, ap (λ (u : List ℕ). u ++ piece_text piece) h.1
+    ∙ sym (append-nil (piece_text piece)), (refl, refl))
 SpelledTo-push (one ∷ pieces) piece value text rest after h is e =
-    (h.0, h.1 ++ piece_text piece, h.2, h.3, ap (λ (u : List ℕ). u ++ piece_text piece) h.4 ∙ append_assoc (piece_text one) h.1 (piece_text piece), SpelledTo-push pieces piece h.0 h.1 rest after h.5 is e)
+    (h.0, h.1 ++ piece_text piece, h.2, h.3, ap (λ (u : List ℕ). u ++ piece_text piece) h.4
+    ∙ append_assoc (piece_text one) h.1 (piece_text piece), SpelledTo-push pieces piece h.0 h.1 rest after h.5 is e)
 
 pub spelled_all : (pieces : List ValuePiece) (value text : List ℕ) → SpelledTo pieces value text [] → AreSpelled pieces value text
 spelled_all [] value text h = h
@@ -167,7 +182,8 @@ SoFar-more value text rest more after s e =
     let t = piece_takes rest more after e in
     record {
       pieces = s.pieces ++ t.piece ∷ [];
-      spelled = subst (λ (u : List ℕ). SpelledTo (s.pieces ++ t.piece ∷ []) value (text ++ u) after) (sym t.made) (SpelledTo-push s.pieces t.piece value text rest after s.spelled t.is t.parts);
+      spelled = subst (λ (u : List ℕ). SpelledTo (s.pieces ++ t.piece ∷ []) value (text ++ u) after) (sym t.made)
+      (SpelledTo-push s.pieces t.piece value text rest after s.spelled t.is t.parts);
     }
 
 pub SoFar-all : (value text rest : List ℕ) → SoFar value text rest → (length rest == 0) ≡ true → IsValueText value text
@@ -190,8 +206,10 @@ piece_shorter bytes text after e =
 
 spelled_once : (pieces others : List ValuePiece) (value text other : List ℕ) → AreSpelled pieces value text → AreSpelled others value other → text ≡ other
 spelled_once [] [] value text other h k = h.1 ∙ sym k.1
-spelled_once [] (q ∷ others) value text other h k = let s = piece_some q k.0 k.2 in let e : [] ≡ s.0 ∷ (s.1 ++ k.0) = sym h.0 ∙ k.3 ∙ ap (λ (u : List ℕ). u ++ k.0) s.2 in absurd cc
-spelled_once (p ∷ pieces) [] value text other h k = let s = piece_some p h.0 h.2 in let e : [] ≡ s.0 ∷ (s.1 ++ h.0) = sym k.0 ∙ h.3 ∙ ap (λ (u : List ℕ). u ++ h.0) s.2 in absurd cc
+spelled_once [] (q ∷ others) value text other h k = let s = piece_some q k.0 k.2 in let e : [] ≡ s.0 ∷ (s.1 ++ k.0) = sym h.0 ∙ k.3
+    ∙ ap (λ (u : List ℕ). u ++ k.0) s.2 in absurd cc
+spelled_once (p ∷ pieces) [] value text other h k = let s = piece_some p h.0 h.2 in let e : [] ≡ s.0 ∷ (s.1 ++ h.0) = sym k.0 ∙ h.3
+    ∙ ap (λ (u : List ℕ). u ++ h.0) s.2 in absurd cc
 spelled_once (p ∷ pieces) (q ∷ others) value text other h k =
     let both : found (piece_text p) h.0 ≡ found (piece_text q) k.0 = sym (piece_again p h.0 h.2) ∙ ap piece_at (sym h.3 ∙ k.3) ∙ piece_again q k.0 k.2 in
     let same : piece_text p ≡ piece_text q = found_value (piece_text p) (piece_text q) h.0 k.0 both in
@@ -217,7 +235,8 @@ behind (b ∷ run) after [] rest n e =
 behind (b ∷ run) after (x ∷ before) rest n e = behind run after before rest n.1 (same_tails b x (run ++ after) (before ++ 38 ∷ rest) e)
 
 -- the `&` stands behind the piece, or it is the piece
-beyond : (piece : ValuePiece) (after before rest : List ℕ) → IsPiece piece after → piece_value piece ++ after ≡ before ++ 38 ∷ rest → BeginsLoose (38 ∷ rest) → (others : List ℕ) × (after ≡ others ++ 38 ∷ rest)
+beyond : (piece : ValuePiece) (after before rest : List ℕ) → IsPiece piece after → piece_value piece ++ after ≡ before ++ 38 ∷ rest → BeginsLoose (38 ∷ rest) →
+    (others : List ℕ) × (after ≡ others ++ 38 ∷ rest)
 beyond (plain b) after before rest h e l = behind (b ∷ []) after before rest (ap not (eq_false b 38 h.0), tt) e
 beyond line_end after before rest h e l = behind (13 ∷ 10 ∷ []) after before rest (refl, (refl, tt)) e
 beyond (blank b) after before rest (inl (inl q)) e l = behind (b ∷ []) after before rest (rw q refl, tt) e
@@ -227,11 +246,13 @@ beyond (reference text c) after [] rest h e l = absurd (l.none text after c (sym
 beyond (reference text c) after (x ∷ before) rest h e l =
     let s = reference_shape text c h in
     let whole : 38 ∷ ((s.inner ++ 59 ∷ []) ++ after) ≡ x ∷ (before ++ 38 ∷ rest) = ap (λ (u : List ℕ). u ++ after) (sym s.spelled) ∙ e in
-    let tail : s.inner ++ 59 ∷ after ≡ before ++ 38 ∷ rest = sym (append_assoc s.inner (59 ∷ []) after) ∙ same_tails 38 x ((s.inner ++ 59 ∷ []) ++ after) (before ++ 38 ∷ rest) whole in
+    let tail : s.inner ++ 59 ∷ after ≡ before ++ 38 ∷ rest = sym (append_assoc s.inner (59 ∷ []) after)
+    ∙ same_tails 38 x ((s.inner ++ 59 ∷ []) ++ after) (before ++ 38 ∷ rest) whole in
     let first = behind s.inner (59 ∷ after) before rest s.no_ampersand tail in
     behind (59 ∷ []) after first.0 rest (refl, tt) first.1
 
-spelled_no_loose : (pieces : List ValuePiece) (value text before rest : List ℕ) → AreSpelled pieces value text → value ≡ before ++ 38 ∷ rest → BeginsLoose (38 ∷ rest) → ⊥
+spelled_no_loose : (pieces : List ValuePiece) (value text before rest : List ℕ) → AreSpelled pieces value text → value ≡ before ++ 38 ∷ rest →
+    BeginsLoose (38 ∷ rest) → ⊥
 spelled_no_loose [] value text [] rest h e l = let k : [] ≡ 38 ∷ rest = sym h.0 ∙ e in cc
 spelled_no_loose [] value text (x ∷ before) rest h e l = let k : [] ≡ x ∷ (before ++ 38 ∷ rest) = sym h.0 ∙ e in cc
 spelled_no_loose (piece ∷ pieces) value text before rest h e l =
@@ -271,12 +292,14 @@ spelled_utf8 (blank b ∷ pieces) run value text h u =
     blank_small b after (inr e) = rw e.0 (lit< tt)
 spelled_utf8 (reference ref c ∷ pieces) run value text h u =
     let s = reference_shape ref c h.2 in
-    let e : run ++ value ≡ run ++ 38 ∷ (s.inner ++ 59 ∷ h.0) = ap (λ (t : List ℕ). run ++ t) (h.3 ∙ ap (λ (t : List ℕ). t ++ h.0) s.spelled ∙ ap (λ (t : List ℕ). 38 ∷ t) (append_assoc s.inner (59 ∷ []) h.0)) in
+    let e : run ++ value ≡ run ++ 38 ∷ (s.inner ++ 59 ∷ h.0) = ap (λ (t : List ℕ). run ++ t)
+    (h.3 ∙ ap (λ (t : List ℕ). t ++ h.0) s.spelled ∙ ap (λ (t : List ℕ). 38 ∷ t) (append_assoc s.inner (59 ∷ []) h.0)) in
     let whole = subst IsUtf8 e u in
     let after = text_after s.inner 59 h.0 (lit< tt) (text_after run 38 (s.inner ++ 59 ∷ h.0) (lit< tt) whole) in
     let rest = spelled_utf8 pieces [] h.0 h.1 h.5 after in
     subst (λ (t : List ℕ). IsUtf8 (run ++ t)) (sym h.4)
-    (IsUtf8-append run (encode_utf8 c ++ h.1) (text_before run 38 (s.inner ++ 59 ∷ h.0) (lit< tt) whole) (IsUtf8-append (encode_utf8 c) h.1 (IsUtf8-encode c s.scalar) rest))
+    (IsUtf8-append run (encode_utf8 c ++ h.1) (text_before run 38 (s.inner ++ 59 ∷ h.0) (lit< tt) whole)
+    (IsUtf8-append (encode_utf8 c) h.1 (IsUtf8-encode c s.scalar) rest))
 
 pub text_utf8 : (value text : List ℕ) → IsValueText value text → IsUtf8 value → IsUtf8 text
 text_utf8 value text t u = spelled_utf8 t.0 [] value text t.1 u

@@ -37,5 +37,7 @@ module _ (rows : List Elem) (formed : AreFormed rows) where
   resolves (Ok t) is_topology faultless = record { faultless = faultless; is_topology = is_topology }
   resolves (Err e) is_topology faultless = tt
 
-pub resolves_exactly : (rows : List Elem) (r : Result Resolved ResolveFault) → AreFormed rows → IfOk r (λ t. IsTopologyOf rows t) → OnOk r (HasNoFault rows) → IfErr r (λ e. (e ≡ Memory) ⊎ IsResolveFault rows e) → AnswersExactly r Memory (ResolvesTo rows) (IsResolveFault rows)
-resolves_exactly rows r formed is_topology faultless fault = answers_exactly r Memory (ResolvesTo rows) (IsResolveFault rows) (resolves rows formed r is_topology faultless) fault (one_resolved rows formed) (one_resolve_fault rows formed) (topology_or_fault rows formed)
+pub resolves_exactly : (rows : List Elem) (r : Result Resolved ResolveFault) → AreFormed rows → IfOk r (λ t. IsTopologyOf rows t) → OnOk r (HasNoFault rows) →
+    IfErr r (λ e. (e ≡ Memory) ⊎ IsResolveFault rows e) → AnswersExactly r Memory (ResolvesTo rows) (IsResolveFault rows)
+resolves_exactly rows r formed is_topology faultless fault = answers_exactly r Memory (ResolvesTo rows) (IsResolveFault rows)
+    (resolves rows formed r is_topology faultless) fault (one_resolved rows formed) (one_resolve_fault rows formed) (topology_or_fault rows formed)

@@ -1,5 +1,6 @@
 -- Switches and crossings are put in their order.
-use Rattle.std.proofs.Common.{◌≡◌, ◌≢◌, ◌⊎◌, ℕ, suc, ◌+◌, ◌<◌, ◌≤◌, Bool, true, false, List, [], ◌∷◌, ◌++◌, length, map, get_or, drop, refl, sym, ap, ◌∙◌, subst, inl, inr, append_assoc, eqb, arith}
+use Rattle.std.proofs.Common.{◌≡◌, ◌≢◌, ◌⊎◌, ℕ, suc, ◌+◌, ◌<◌, ◌≤◌, Bool, true, false, List, [], ◌∷◌, ◌++◌, length, map, get_or, drop, refl, sym, ap, ◌∙◌}
+use Rattle.std.proofs.Common.{subst, inl, inr, append_assoc, eqb, arith}
 use Rattle.std.specs.Prelude.{filter, ℤ, ◌<ℤ◌, nat_lt, ◌||◌}
 use Rattle.std.specs.declared.cmp.Ordering.{Ordering}
 use Rattle.std.specs.declared.cmp.Ordering.TheVariants.{Less, Equal, Greater}
@@ -29,7 +30,9 @@ use Rattle.railml_topology.specs.Plans.{is_inner, IsStanding}
 use Rattle.railml_topology.proofs.ElementLemmas.{numbers_apart}
 
 -- one more number of those that pass
-pub one_kept : (p : ℕ → Bool) (list : List Standing) (numbers : List ℕ) (i : ℕ) (s : Standing) → i < length numbers → p (get_or numbers i 0) ≡ true → s.row ≡ get_or numbers i 0 → map (λ (v : Standing). v.row) list ++ filter p (drop i numbers) ≡ filter p numbers → map (λ (v : Standing). v.row) (list ++ s ∷ []) ++ filter p (drop (i + 1) numbers) ≡ filter p numbers
+pub one_kept : (p : ℕ → Bool) (list : List Standing) (numbers : List ℕ) (i : ℕ) (s : Standing) → i < length numbers → p (get_or numbers i 0) ≡ true →
+    s.row ≡ get_or numbers i 0 → map (λ (v : Standing). v.row) list ++ filter p (drop i numbers) ≡ filter p numbers →
+    map (λ (v : Standing). v.row) (list ++ s ∷ []) ++ filter p (drop (i + 1) numbers) ≡ filter p numbers
 one_kept p list numbers i s within passes is so_far =
     let rest : filter p (drop i numbers) ≡ s.row ∷ filter p (drop (i + 1) numbers) =
     ap (filter p) (drop_more numbers i 0 within) ∙ (rw passes (ap (λ n. n ∷ filter p (drop (i + 1) numbers)) (sym is))) in
@@ -38,7 +41,9 @@ one_kept p list numbers i s within passes is so_far =
     ∙ (ap (λ v. map (λ (w : Standing). w.row) list ++ v) (sym rest) ∙ so_far))
 
 -- one more number of those that don't
-pub one_passed : (p : ℕ → Bool) (list : List Standing) (numbers : List ℕ) (i : ℕ) → i < length numbers → p (get_or numbers i 0) ≡ false → map (λ (v : Standing). v.row) list ++ filter p (drop i numbers) ≡ filter p numbers → map (λ (v : Standing). v.row) list ++ filter p (drop (i + 1) numbers) ≡ filter p numbers
+pub one_passed : (p : ℕ → Bool) (list : List Standing) (numbers : List ℕ) (i : ℕ) → i < length numbers → p (get_or numbers i 0) ≡ false →
+    map (λ (v : Standing). v.row) list ++ filter p (drop i numbers) ≡ filter p numbers →
+    map (λ (v : Standing). v.row) list ++ filter p (drop (i + 1) numbers) ≡ filter p numbers
 one_passed p list numbers i within passes so_far =
     let rest : filter p (drop i numbers) ≡ filter p (drop (i + 1) numbers) = ap (filter p) (drop_more numbers i 0 within) ∙ (rw passes refl) in
     ap (λ v. map (λ (w : Standing). w.row) list ++ v) (sym rest) ∙ so_far
@@ -51,7 +56,8 @@ Chain R [] = Unit {0}
 Chain R (x ∷ []) = Unit {0}
 Chain R (x ∷ y ∷ ys) = R x y × Chain R (y ∷ ys)
 
-chain_from_places : {X : Type 0} (R : X → X → Type 0) (xs : List X) → ((k : ℕ) (d : X) → k + 1 < length xs → R (get_or xs k d) (get_or xs (k + 1) d)) → Chain R xs
+chain_from_places : {X : Type 0} (R : X → X → Type 0) (xs : List X) → ((k : ℕ) (d : X) → k + 1 < length xs → R (get_or xs k d) (get_or xs (k + 1) d)) →
+    Chain R xs
 chain_from_places R [] h = tt
 chain_from_places R (x ∷ []) h = tt
 chain_from_places {X} R (x ∷ y ∷ ys) h = (
@@ -84,10 +90,12 @@ no_later a b h = choose (int_cmp b.position a.position) (int_ranks b.position a.
     rows : is_lt (nat_cmp b.row a.row) ≡ false → a.row ≤ b.row
     rows e = elim (leb_tells a.row b.row) [
       | inl le ↦ le.1
-      | inr lt ↦ absurd (let below : b.row < a.row = lt.1 in let t : nat_lt b.row a.row ≡ true = lt-ltb b.row a.row below in let u : is_lt (nat_cmp b.row a.row) ≡ true = rw t refl in cc)
+      | inr lt ↦ absurd (let below : b.row < a.row = lt.1 in let t : nat_lt b.row a.row ≡ true = lt-ltb b.row a.row below in let u : is_lt (nat_cmp b.row a.row)
+      ≡ true = rw t refl in cc)
     ]
 
-    choose : (r : Ordering) → MatchOrdering r (b.position <ℤ a.position) (b.position ≡ a.position) (a.position <ℤ b.position) → is_lt (ordering_then r (nat_cmp b.row a.row)) ≡ false → NoLater a b
+    choose : (r : Ordering) → MatchOrdering r (b.position <ℤ a.position) (b.position ≡ a.position) (a.position <ℤ b.position) →
+    is_lt (ordering_then r (nat_cmp b.row a.row)) ≡ false → NoLater a b
     choose Less m e = absurd cc
     choose Equal m e = inr (sym m, rows e)
     choose Greater m e = inl m
@@ -111,10 +119,12 @@ stands_both R S [] h k = tt
 stands_both R S (x ∷ xs) h k = (all_both (R x) (S x) xs h.0 k.0, stands_both R S xs h.1 k.1)
 
 pub in_order : (rows : List Elem) (list : List Standing) → All (IsStanding rows) list → AllPairs (λ (a b : Standing). a.row ≢ b.row) list
-    → ((k : ℕ) (d : Standing) → 0 ≤ k → k + 1 < length list → is_lt (ordering_then (int_cmp (get_or list (k + 1) d).position (get_or list k d).position) (nat_cmp (get_or list (k + 1) d).row (get_or list k d).row)) ≡ false)
+    → ((k : ℕ) (d : Standing) → 0 ≤ k → k + 1 < length list → is_lt (ordering_then (int_cmp (get_or list (k + 1) d).position (get_or list k d).position)
+    (nat_cmp (get_or list (k + 1) d).row (get_or list k d).row)) ≡ false)
     → AllPairs (StandsBefore rows) (map (λ (s : Standing). s.row) list)
 in_order rows list standing differ sorted =
-    let order : Stands NoLater list = stands_from_chain NoLater later_again list (chain_from_places NoLater list (λ k d within. no_later (get_or list k d) (get_or list (k + 1) d) (sorted k d (omega arith) within))) in
+    let order : Stands NoLater list = stands_from_chain NoLater later_again list (chain_from_places NoLater list
+    (λ k d within. no_later (get_or list k d) (get_or list (k + 1) d) (sorted k d (omega arith) within))) in
     pairs_from_stands (StandsBefore rows) (map (λ (s : Standing). s.row) list)
     (stands_mapped (IsStanding rows) (λ (a b : Standing). NoLater a b × (a.row ≢ b.row)) (StandsBefore rows) (λ (s : Standing). s.row) (before_from rows) list
     (recursion_from_All (IsStanding rows) list standing)
@@ -131,7 +141,8 @@ stands_unmapped {X} R f (x ∷ xs) h = (all_unmapped xs h.0, stands_unmapped R f
     all_unmapped (y ∷ ys) h = (h.0, all_unmapped ys h.1)
 
 apart_filtered : (p : ℕ → Bool) (xs : List ℕ) → Apart xs → Apart (filter p xs)
-apart_filtered p xs h = stands_from_pairs (λ (x y : ℕ). x ≢ y) (filter p xs) (AllPairs-filter (λ (x y : ℕ). x ≢ y) p xs (pairs_from_stands (λ (x y : ℕ). x ≢ y) xs h))
+apart_filtered p xs h = stands_from_pairs (λ (x y : ℕ). x ≢ y) (filter p xs) (AllPairs-filter (λ (x y : ℕ). x ≢ y) p xs
+    (pairs_from_stands (λ (x y : ℕ). x ≢ y) xs h))
 
 flips : (x y : ℕ) → eqb x y ≡ eqb y x
 flips x y = nat_eq_equiv.symm x y
@@ -143,16 +154,21 @@ apart_permuted xs ys p h =
     (IsDistinct-IsPermutation eqb flips xs ys p (IsDistinct-from_AllPairs {eq = eqb} Decides-eqb xs (pairs_from_stands (λ (x y : ℕ). x ≢ y) xs h))))
 
 -- a child that is a switch or a crossing
-inner_child : (rows : List Elem) (topology i : ℕ) → Among (filter (is_inner rows) (all_children rows topology)) i → Contains (children rows topology Switch) i ⊎ Contains (children rows topology Crossing) i
+inner_child : (rows : List Elem) (topology i : ℕ) → Among (filter (is_inner rows) (all_children rows topology)) i →
+    Contains (children rows topology Switch) i ⊎ Contains (children rows topology Crossing) i
 inner_child rows topology i a =
     let f = among_filtered (is_inner rows) (all_children rows topology) i a in
     choose (is_of_kind rows Switch i) refl f.0 f.1
   where
-    choose : (v : Bool) → is_of_kind rows Switch i ≡ v → Among (all_children rows topology) i → (v || is_of_kind rows Crossing i) ≡ true → Contains (children rows topology Switch) i ⊎ Contains (children rows topology Crossing) i
-    choose true e among h = inl (contains_from_among (children rows topology Switch) i (filtered_among (is_of_kind rows Switch) (all_children rows topology) i among e))
-    choose false e among h = inr (contains_from_among (children rows topology Crossing) i (filtered_among (is_of_kind rows Crossing) (all_children rows topology) i among h))
+    choose : (v : Bool) → is_of_kind rows Switch i ≡ v → Among (all_children rows topology) i → (v || is_of_kind rows Crossing i) ≡ true →
+    Contains (children rows topology Switch) i ⊎ Contains (children rows topology Crossing) i
+    choose true e among h = inl (contains_from_among (children rows topology Switch) i
+    (filtered_among (is_of_kind rows Switch) (all_children rows topology) i among e))
+    choose false e among h = inr (contains_from_among (children rows topology Crossing) i
+    (filtered_among (is_of_kind rows Crossing) (all_children rows topology) i among h))
 
-child_inner : (rows : List Elem) (topology i : ℕ) → Contains (children rows topology Switch) i ⊎ Contains (children rows topology Crossing) i → Among (filter (is_inner rows) (all_children rows topology)) i
+child_inner : (rows : List Elem) (topology i : ℕ) → Contains (children rows topology Switch) i ⊎ Contains (children rows topology Crossing) i →
+    Among (filter (is_inner rows) (all_children rows topology)) i
 child_inner rows topology i (inl c) =
     let f = among_filtered (is_of_kind rows Switch) (all_children rows topology) i (among_from_contains (children rows topology Switch) i c) in
     filtered_among (is_inner rows) (all_children rows topology) i f.0 (let e = f.1 in rw e refl)
@@ -160,18 +176,24 @@ child_inner rows topology i (inr c) =
     let f = among_filtered (is_of_kind rows Crossing) (all_children rows topology) i (among_from_contains (children rows topology Crossing) i c) in
     filtered_among (is_inner rows) (all_children rows topology) i f.0 (let e = f.1 in rw e (or-true (is_of_kind rows Switch i)))
 
-pub inner_sorted : (rows : List Elem) (topology : ℕ) (list sorted : List Standing) → map (λ (s : Standing). s.row) list ≡ filter (is_inner rows) (all_children rows topology) → All (IsStanding rows) list → IsPermutation list sorted
-    → ((k : ℕ) (d : Standing) → 0 ≤ k → k + 1 < length sorted → is_lt (ordering_then (int_cmp (get_or sorted (k + 1) d).position (get_or sorted k d).position) (nat_cmp (get_or sorted (k + 1) d).row (get_or sorted k d).row)) ≡ false)
+pub inner_sorted : (rows : List Elem) (topology : ℕ) (list sorted : List Standing) →
+    map (λ (s : Standing). s.row) list ≡ filter (is_inner rows) (all_children rows topology) → All (IsStanding rows) list → IsPermutation list sorted
+    → ((k : ℕ) (d : Standing) → 0 ≤ k → k + 1 < length sorted → is_lt (ordering_then (int_cmp (get_or sorted (k + 1) d).position (get_or sorted k d).position)
+    (nat_cmp (get_or sorted (k + 1) d).row (get_or sorted k d).row)) ≡ false)
     → AreInner rows topology (map (λ (s : Standing). s.row) sorted)
 inner_sorted rows topology list sorted same standing permuted order =
     let f : Standing → ℕ = λ s. s.row in
-    let moved : IsPermutation (filter (is_inner rows) (all_children rows topology)) (map f sorted) = subst (λ (v : List ℕ). IsPermutation v (map f sorted)) same (IsPermutation-map f list sorted permuted) in
+    let moved : IsPermutation (filter (is_inner rows) (all_children rows topology)) (map f sorted) = subst (λ (v : List ℕ). IsPermutation v (map f sorted)) same
+    (IsPermutation-map f list sorted permuted) in
     let apart : Apart (map f sorted) = apart_permuted (filter (is_inner rows) (all_children rows topology)) (map f sorted) moved
     (apart_filtered (is_inner rows) (all_children rows topology) (numbers_apart (is_child_of topology) 0 rows)) in
     record {
       all = (λ i. (
-        (λ c. inner_child rows topology i (among_from_contains (filter (is_inner rows) (all_children rows topology)) i (Contains-permutation (map f sorted) (filter (is_inner rows) (all_children rows topology)) i (IsPermutation-sym (filter (is_inner rows) (all_children rows topology)) (map f sorted) moved) c))),
-        (λ c. Contains-permutation (filter (is_inner rows) (all_children rows topology)) (map f sorted) i moved (contains_from_among (filter (is_inner rows) (all_children rows topology)) i (child_inner rows topology i c))),
+        (λ c. inner_child rows topology i (among_from_contains (filter (is_inner rows) (all_children rows topology)) i
+        (Contains-permutation (map f sorted) (filter (is_inner rows) (all_children rows topology)) i
+        (IsPermutation-sym (filter (is_inner rows) (all_children rows topology)) (map f sorted) moved) c))),
+        (λ c. Contains-permutation (filter (is_inner rows) (all_children rows topology)) (map f sorted) i moved
+        (contains_from_among (filter (is_inner rows) (all_children rows topology)) i (child_inner rows topology i c))),
       ));
       ordered = in_order rows sorted (All-permutation (IsStanding rows) list sorted permuted standing)
           (pairs_from_stands (λ (a b : Standing). a.row ≢ b.row) sorted (stands_unmapped (λ (x y : ℕ). x ≢ y) f sorted apart)) order;

@@ -1,5 +1,6 @@
 -- Where the connections of rows are.
-use Rattle.std.proofs.Common.{Vec, Global, ◌^◌, ◌≡◌, ◌≢◌, ◌⊎◌, ℕ, suc, zero, ◌+◌, ◌<◌, ◌≤◌, Bool, true, false, cond, Option, Some, None, List, [], ◌∷◌, length, map, get_or, slice_get, set, refl, sym, ap, ◌∙◌, subst, inl, inr, length-set, replicate, arith}
+use Rattle.std.proofs.Common.{Vec, Global, ◌^◌, ◌≡◌, ◌≢◌, ◌⊎◌, ℕ, suc, zero, ◌+◌, ◌<◌, ◌≤◌, Bool, true, false, cond, Option, Some, None, List, [], ◌∷◌, length}
+use Rattle.std.proofs.Common.{map, get_or, slice_get, set, refl, sym, ap, ◌∙◌, subst, inl, inr, length-set, replicate, arith}
 use Rattle.std.proofs.lemmas.List.{length-replicate, length-map}
 use Rattle.std.proofs.lemmas.List.Elements.{All-from_recursion}
 use Rattle.std.proofs.Math.Bool.{or-true}
@@ -23,7 +24,8 @@ use Rattle.railml_faults.specs.Rows.{is_of_kind, is_word, all_children, children
 use Rattle.railml_faults.specs.Faults.{HasTwoWays, IsConnectionOf}
 use Rattle.railml_faults.specs.Tables.{entry_in, AreTablesOf}
 use Rattle.railml_faults.proofs.Apart.{Apart, Among, all_more, stands_weaker, stands_from_pairs, apart_short}
-use Rattle.railml_faults.proofs.Family.{among_from_contains, contains_from_among, among_filtered, filtered_among, of_kind, is_of_its_kind, IsChild, child, has_child, only_child}
+use Rattle.railml_faults.proofs.Family.{among_from_contains, contains_from_among, among_filtered, filtered_among, of_kind, is_of_its_kind, IsChild, child}
+use Rattle.railml_faults.proofs.Family.{has_child, only_child}
 use Rattle.railml_faults.proofs.TableLemmas.{entry_written, slice_get-set_other}
 use Rattle.railml_topology.specs.declared.layout.Layout.{Layout}
 use Rattle.railml_topology.specs.Resolved.{StandsBefore, way_word, IsLayout, IsBranchOf, IsWayOf, IsAtPart, IsAtPlace}
@@ -42,7 +44,8 @@ set_there [] i x h = absurd (omega arith)
 set_there (y ∷ ys) zero x h = refl
 set_there (y ∷ ys) (suc i) x h = set_there ys i x (omega arith)
 
-pub put_one : (table : List (Option Place)) (row : ℕ) (place : Place) → row < length table → Adds (λ i p. (i ≡ row) × (p ≡ place)) table (set table row (Some place))
+pub put_one : (table : List (Option Place)) (row : ℕ) (place : Place) → row < length table →
+    Adds (λ i p. (i ≡ row) × (p ≡ place)) table (set table row (Some place))
 put_one table row place within = record {
   whole = length-set table row (Some place);
   only = (λ i p e. option_and_then_some (λ (x : Option Place). x) (slice_get (set table row (Some place)) i) p e
@@ -51,10 +54,16 @@ put_one table row place within = record {
         | inr other ↦ inl (let old = other.1 in rw old is)
       ]));
   kept = (λ i there. elim (eqb_tells i row) [
-    | inl same ↦ record { entry = place; is = (let at : slice_get (set table row (Some place)) i ≡ Some (Some place) = ap (slice_get (set table row (Some place))) same.1 ∙ set_there table row (Some place) within in rw at refl) }
+    | inl same ↦ record {
+    entry = place; is = (let at : slice_get (set table row (Some place)) i ≡ Some (Some place) = ap (slice_get (set table row (Some place))) same.1
+    ∙ set_there table row (Some place) within in rw at refl)
+    }
     | inr differ ↦ record { entry = there.entry; is = (let at = slice_get-set_other table row (Some place) i differ.1 in rw at there.is) }
   ]);
-  added = (λ i p t. record { entry = place; is = (let at : slice_get (set table row (Some place)) i ≡ Some (Some place) = ap (slice_get (set table row (Some place))) t.0 ∙ set_there table row (Some place) within in rw at refl) });
+  added = (λ i p t. record {
+  entry = place; is = (let at : slice_get (set table row (Some place)) i ≡ Some (Some place) = ap (slice_get (set table row (Some place))) t.0
+  ∙ set_there table row (Some place) within in rw at refl)
+  });
 }
 
 -- ---- several
@@ -70,7 +79,8 @@ adds_then T U a b c h k = record {
   added = (λ i p e. elim e [ inl t ↦ k.kept i (h.added i p t) | inr u ↦ k.added i p u ]);
 }
 
-pub adds_as : (T U : ℕ → Place → Type 0) (a b : List (Option Place)) → ((i : ℕ) (p : Place) → T i p → U i p) → ((i : ℕ) (p : Place) → U i p → T i p) → Adds T a b → Adds U a b
+pub adds_as : (T U : ℕ → Place → Type 0) (a b : List (Option Place)) → ((i : ℕ) (p : Place) → T i p → U i p) → ((i : ℕ) (p : Place) → U i p → T i p) →
+    Adds T a b → Adds U a b
 adds_as T U a b to from h = record {
   whole = h.whole;
   only = (λ i p e. elim (h.only i p e) [ inl old ↦ inl old | inr t ↦ inr (to i p t) ]);
@@ -109,7 +119,8 @@ word_from word (Some other) h = ap (λ (v : List ℕ). Some v) ((bytes_eq-Decide
 goes_true : (rows : List Elem) (word : List ℕ) (n : ℕ) → goes_by rows word n ≡ true → Goes rows word n
 goes_true rows word n h = choose (is_of_kind rows Connection n) refl h
   where
-    choose : (v : Bool) → is_of_kind rows Connection n ≡ v → (v && option_map_or (λ (row : Elem). is_word word row.attrs.orientation) (slice_get rows n) false) ≡ true → Goes rows word n
+    choose : (v : Bool) → is_of_kind rows Connection n ≡ v → (v && option_map_or (λ (row : Elem). is_word word row.attrs.orientation) (slice_get rows n) false)
+    ≡ true → Goes rows word n
     choose true e h =
         let (row, is, kind_is) = of_kind rows Connection n e in
         let way : is_word word row.attrs.orientation ≡ true = (rw is at h) in
@@ -123,29 +134,38 @@ goes_if rows word n g =
     let way = g.way in
     rw (is, kind, way) ((bytes_eq-Decides word word).1 refl)
 
-pub way_found : (rows : List Elem) (crossing n : ℕ) (outgoing : Bool) → is_of_kind rows Crossing crossing ≡ true → find (goes_by rows (way_word outgoing)) (all_children rows crossing) ≡ Some n → IsWayOf rows crossing outgoing n
+pub way_found : (rows : List Elem) (crossing n : ℕ) (outgoing : Bool) → is_of_kind rows Crossing crossing ≡ true →
+    find (goes_by rows (way_word outgoing)) (all_children rows crossing) ≡ Some n → IsWayOf rows crossing outgoing n
 way_found rows crossing n outgoing a e =
     let f = found_passes (goes_by rows (way_word outgoing)) (all_children rows crossing) n e in
     let g = goes_true rows (way_word outgoing) n f.1 in
     record {
       a_crossing = a;
-      among = contains_from_among (children rows crossing Connection) n (filtered_among (is_of_kind rows Connection) (all_children rows crossing) n f.0 (subst (λ (v : ElemKind). is_of_kind rows v n ≡ true) g.kind_is (is_of_its_kind rows n g.row g.is)));
+      among = contains_from_among (children rows crossing Connection) n (filtered_among (is_of_kind rows Connection) (all_children rows crossing) n f.0
+      (subst (λ (v : ElemKind). is_of_kind rows v n ≡ true) g.kind_is (is_of_its_kind rows n g.row g.is)));
       way = record { row = g.row; is = g.is; way = g.way };
     }
 
 -- a child of a row is one of its connections
-pub connection_of_row : (rows : List Elem) (i k : ℕ) (parent : Elem) (kind : ElemKind) → slice_get rows i ≡ Some parent → parent.kind ≡ kind → (c : IsChild rows i Connection k) → IsConnectionOf rows c.row kind parent
+pub connection_of_row : (rows : List Elem) (i k : ℕ) (parent : Elem) (kind : ElemKind) → slice_get rows i ≡ Some parent → parent.kind ≡ kind →
+    (c : IsChild rows i Connection k) → IsConnectionOf rows c.row kind parent
 connection_of_row rows i k parent kind is kind_is c =
     let up = c.parent_is in record { connection = c.kind_is; holds = rw up is; of_kind = kind_is }
 
 -- the way of a child of a crossing
-pub way_of_child : (rows : List Elem) → AreSoundRows rows → (crossing k : ℕ) → is_of_kind rows Crossing crossing ≡ true → IsChild rows crossing Connection k → (outgoing : Bool) × IsWayOf rows crossing outgoing k
+pub way_of_child : (rows : List Elem) → AreSoundRows rows → (crossing k : ℕ) → is_of_kind rows Crossing crossing ≡ true → IsChild rows crossing Connection k →
+    (outgoing : Bool) × IsWayOf rows crossing outgoing k
 way_of_child rows s crossing k a c =
     let (parent, is, kind_is) = of_kind rows Crossing crossing a in
     let (outgoing, way) = s.ways k c.row parent c.is (inr (connection_of_row rows crossing k parent Crossing is kind_is c)) in
-    (outgoing, record { a_crossing = a; among = contains_from_among (children rows crossing Connection) k (has_child rows crossing Connection k c); way = record { row = c.row; is = c.is; way = way } })
+    (outgoing, record {
+    a_crossing = a; among = contains_from_among (children rows crossing Connection) k (has_child rows crossing Connection k c); way = record {
+    row = c.row; is = c.is; way = way
+    }
+    })
 
-pub has_way : (rows : List Elem) → AreSoundRows rows → (crossing : ℕ) (outgoing : Bool) → is_of_kind rows Crossing crossing ≡ true → (k : ℕ) × IsWayOf rows crossing outgoing k
+pub has_way : (rows : List Elem) → AreSoundRows rows → (crossing : ℕ) (outgoing : Bool) → is_of_kind rows Crossing crossing ≡ true →
+    (k : ℕ) × IsWayOf rows crossing outgoing k
 has_way rows s crossing outgoing a =
     let (row, is, kind_is) = of_kind rows Crossing crossing a in
     let two : HasTwoWays rows crossing = (rw kind_is at (s.parts crossing row is)) in
@@ -170,25 +190,31 @@ has_way rows s crossing outgoing a =
     choose false i j true false g h n = (j, h)
     choose false i j true true g h n = absurd (n refl)
 
-pub way_not_missing : (rows : List Elem) → AreSoundRows rows → (crossing : ℕ) (outgoing : Bool) → is_of_kind rows Crossing crossing ≡ true → find (goes_by rows (way_word outgoing)) (all_children rows crossing) ≡ None → ⊥
+pub way_not_missing : (rows : List Elem) → AreSoundRows rows → (crossing : ℕ) (outgoing : Bool) → is_of_kind rows Crossing crossing ≡ true →
+    find (goes_by rows (way_word outgoing)) (all_children rows crossing) ≡ None → ⊥
 way_not_missing rows s crossing outgoing a e =
     let (k, w) = has_way rows s crossing outgoing a in
     let c = way_child rows crossing k outgoing w in
     let same : c.row ≡ w.way.row = one_row rows k c.row w.way.row c.is w.way.is in
     none_found (goes_by rows (way_word outgoing)) (all_children rows crossing) k e
     (among_filtered (is_of_kind rows Connection) (all_children rows crossing) k (has_child rows crossing Connection k c)).0
-    (goes_if rows (way_word outgoing) k (record { row = w.way.row; is = w.way.is; kind_is = ap (λ (v : Elem). v.kind) (sym same) ∙ c.kind_is; way = w.way.way }))
+    (goes_if rows (way_word outgoing) k (record {
+    row = w.way.row; is = w.way.is; kind_is = ap (λ (v : Elem). v.kind) (sym same) ∙ c.kind_is; way = w.way.way
+    }))
 
-pub branch_entry : (rows : List Elem) → AreSoundRows rows → (t : Tables) → AreTablesOf rows t → (switch : ℕ) → is_of_kind rows Switch switch ≡ true → (k : ℕ) × (entry_in t.connections.items switch ≡ Some k)
+pub branch_entry : (rows : List Elem) → AreSoundRows rows → (t : Tables) → AreTablesOf rows t → (switch : ℕ) → is_of_kind rows Switch switch ≡ true →
+    (k : ℕ) × (entry_in t.connections.items switch ≡ Some k)
 branch_entry rows s t h switch a =
     let (row, is, kind_is) = of_kind rows Switch switch a in
     let one : (part : ℕ) × (children rows switch Connection ≡ part ∷ []) = (rw kind_is at (s.parts switch row is)) in
     (one.0, only_child_entry rows Connection t.connections.items switch one.0 h.connections (slice_get_within rows switch row is) one.1)
 
-pub branch_found : (rows : List Elem) (t : Tables) → AreTablesOf rows t → (switch k : ℕ) → is_of_kind rows Switch switch ≡ true → entry_in t.connections.items switch ≡ Some k → IsBranchOf rows switch k
+pub branch_found : (rows : List Elem) (t : Tables) → AreTablesOf rows t → (switch k : ℕ) → is_of_kind rows Switch switch ≡ true →
+    entry_in t.connections.items switch ≡ Some k → IsBranchOf rows switch k
 branch_found rows t h switch k a e = record { a_switch = a; only = entry_child rows Connection t.connections.items switch k h.connections e }
 
-pub read_children : (rows : List Elem) (t : Tables) → AreTablesOf rows t → (i : ℕ) (list : Vec ℕ Global) → i < length rows → list ≡ get_or t.children.items i list → list.items ≡ all_children rows i
+pub read_children : (rows : List Elem) (t : Tables) → AreTablesOf rows t → (i : ℕ) (list : Vec ℕ Global) → i < length rows →
+    list ≡ get_or t.children.items i list → list.items ≡ all_children rows i
 read_children rows t h i list within is =
     let inside : i < length t.children.items = subst (λ n. i < n) (sym h.children.whole) within in
     h.children.entry i list (slice_get_read t.children.items (length t.children.items) i list refl inside is)
@@ -199,25 +225,36 @@ read_children rows t h i list within is =
 abbrev pub at_part : ℕ → Part → Place
 at_part track part = record { track = track; part = part }
 
-crossing_places : (rows : List Elem) → AreSoundRows rows → (track n inner coming leaving : ℕ) → IsWayOf rows inner false coming → IsWayOf rows inner true leaving → (i : ℕ) (track' : ℕ) (part : Part) → track' ≡ track → IsAtInner rows n inner i part
+crossing_places : (rows : List Elem) → AreSoundRows rows → (track n inner coming leaving : ℕ) → IsWayOf rows inner false coming →
+    IsWayOf rows inner true leaving → (i : ℕ) (track' : ℕ) (part : Part) → track' ≡ track → IsAtInner rows n inner i part
     → ((i ≡ coming) × (at_part track' part ≡ at_part track (parts.Incoming n))) ⊎ ((i ≡ leaving) × (at_part track' part ≡ at_part track (parts.Outgoing n)))
 crossing_places rows s track n inner coming leaving c l i t parts.Begin e h = absurd h
 crossing_places rows s track n inner coming leaving c l i t parts.End e h = absurd h
 crossing_places rows s track n inner coming leaving c l i t (parts.Branch k) e h = absurd (kinds_clash rows inner h.1.a_switch c.a_crossing)
 crossing_places rows s track n inner coming leaving c l i t (parts.Incoming k) e h =
-    inl (one_way rows s inner false i coming h.1 c, same_place (at_part t (parts.Incoming k)) (at_part track (parts.Incoming n)) e (ap (λ m. parts.Incoming m) h.0))
+    inl (one_way rows s inner false i coming h.1 c, same_place (at_part t (parts.Incoming k)) (at_part track (parts.Incoming n)) e
+    (ap (λ m. parts.Incoming m) h.0))
 crossing_places rows s track n inner coming leaving c l i t (parts.Outgoing k) e h =
-    inr (one_way rows s inner true i leaving h.1 l, same_place (at_part t (parts.Outgoing k)) (at_part track (parts.Outgoing n)) e (ap (λ m. parts.Outgoing m) h.0))
+    inr (one_way rows s inner true i leaving h.1 l, same_place (at_part t (parts.Outgoing k)) (at_part track (parts.Outgoing n)) e
+    (ap (λ m. parts.Outgoing m) h.0))
 
-pub crossing_put : (rows : List Elem) → AreSoundRows rows → (track n inner coming leaving : ℕ) (old middle new : List (Option Place)) → IsWayOf rows inner false coming → IsWayOf rows inner true leaving
-    → Adds (λ i p. (i ≡ coming) × (p ≡ at_part track (parts.Incoming n))) old middle → Adds (λ i p. (i ≡ leaving) × (p ≡ at_part track (parts.Outgoing n))) middle new → Adds (IsOnInner rows track n inner) old new
+pub crossing_put : (rows : List Elem) → AreSoundRows rows → (track n inner coming leaving : ℕ) (old middle new : List (Option Place)) →
+    IsWayOf rows inner false coming → IsWayOf rows inner true leaving
+    → Adds (λ i p. (i ≡ coming) × (p ≡ at_part track (parts.Incoming n))) old middle →
+    Adds (λ i p. (i ≡ leaving) × (p ≡ at_part track (parts.Outgoing n))) middle new → Adds (IsOnInner rows track n inner) old new
 crossing_put rows s track n inner coming leaving old middle new c l h k =
     let T : ℕ → Place → Type 0 = λ i p. (i ≡ coming) × (p ≡ at_part track (parts.Incoming n)) in
     let U : ℕ → Place → Type 0 = λ i p. (i ≡ leaving) × (p ≡ at_part track (parts.Outgoing n)) in
     adds_as (λ i p. T i p ⊎ U i p) (IsOnInner rows track n inner) old new
     (λ i p e. elim e [
-      | inl t ↦ record { on = ap (λ (v : Place). v.track) t.1; here = subst (λ (v : Place). IsAtInner rows n inner i v.part) (sym t.1) (refl, subst (λ m. IsWayOf rows inner false m) (sym t.0) c) }
-      | inr u ↦ record { on = ap (λ (v : Place). v.track) u.1; here = subst (λ (v : Place). IsAtInner rows n inner i v.part) (sym u.1) (refl, subst (λ m. IsWayOf rows inner true m) (sym u.0) l) }
+      | inl t ↦ record {
+      on = ap (λ (v : Place). v.track) t.1; here = subst (λ (v : Place). IsAtInner rows n inner i v.part) (sym t.1)
+      (refl, subst (λ m. IsWayOf rows inner false m) (sym t.0) c)
+      }
+      | inr u ↦ record {
+      on = ap (λ (v : Place). v.track) u.1; here = subst (λ (v : Place). IsAtInner rows n inner i v.part) (sym u.1)
+      (refl, subst (λ m. IsWayOf rows inner true m) (sym u.0) l)
+      }
     ])
     (λ i p u. crossing_places rows s track n inner coming leaving c l i p.track p.part u.on u.here)
     (adds_then T U old middle new h k)
@@ -225,7 +262,8 @@ crossing_put rows s track n inner coming leaving old middle new c l h k =
 pub branch_within : (rows : List Elem) (switch k : ℕ) → IsBranchOf rows switch k → k < length rows
 branch_within rows switch k b = let c = only_child rows switch Connection k b.only in slice_get_within rows k c.row c.is
 
-pub first_more : (rows : List Elem) (track : ℕ) (inner : List ℕ) (n x : ℕ) (old middle new : List (Option Place)) → n < length inner → x ≡ get_or inner n x → Adds (IsOnFirst rows track inner n) old middle → Adds (IsOnInner rows track n x) middle new → Adds (IsOnFirst rows track inner (n + 1)) old new
+pub first_more : (rows : List Elem) (track : ℕ) (inner : List ℕ) (n x : ℕ) (old middle new : List (Option Place)) → n < length inner → x ≡ get_or inner n x →
+    Adds (IsOnFirst rows track inner n) old middle → Adds (IsOnInner rows track n x) middle new → Adds (IsOnFirst rows track inner (n + 1)) old new
 first_more rows track inner n x old middle new within is h k =
     let at : slice_get inner n ≡ Some x = slice_get_read inner (length inner) n x refl within is in
     adds_as (λ i p. IsOnFirst rows track inner n i p ⊎ IsOnInner rows track n x i p) (IsOnFirst rows track inner (n + 1)) old new
@@ -236,7 +274,9 @@ first_more rows track inner n x old middle new within is h k =
     (λ i p f. elim (eqb_tells f.number n) [
       | inl same ↦ inr (let row : f.row ≡ x = same_Some f.row x (sym f.is ∙ (ap (slice_get inner) same.1 ∙ at)) in
           subst (λ m. IsOnInner rows track m x i p) same.1 (subst (λ r. IsOnInner rows track f.number r i p) row f.on))
-      | inr differ ↦ inl (record { number = f.number; below = (let b : f.number < n + 1 = f.below in let d = differ.1 in omega arith); row = f.row; is = f.is; on = f.on })
+      | inr differ ↦ inl (record {
+      number = f.number; below = (let b : f.number < n + 1 = f.below in let d = differ.1 in omega arith); row = f.row; is = f.is; on = f.on
+      })
     ])
     (adds_then (IsOnFirst rows track inner n) (IsOnInner rows track n x) old middle new h k)
 
@@ -251,13 +291,23 @@ entry_within rows t h holder i e =
     let c = only_child rows holder Connection i (entry_child rows Connection t.connections.items holder i h.connections e) in
     slice_get_within rows i c.row c.is
 
-track_places : (rows : List Elem) (t : Tables) → AreTablesOf rows t → (track : ℕ) (l : Layout) → l.begin < length rows → l.end < length rows → (i : ℕ) (track' : ℕ) (part : Part) → track' ≡ track → IsAtPart rows l i part
-    → (AtEnd t.connections.items l.begin (at_part track parts.Begin) i (at_part track' part) ⊎ AtEnd t.connections.items l.end (at_part track parts.End) i (at_part track' part)) ⊎ IsOnFirst rows track l.inner (length l.inner) i (at_part track' part)
-track_places rows t h track l begin end i u parts.Begin e a = inl (inl (only_child_entry rows Connection t.connections.items l.begin i h.connections begin a, same_place (at_part u parts.Begin) (at_part track parts.Begin) e refl))
-track_places rows t h track l begin end i u parts.End e a = inl (inr (only_child_entry rows Connection t.connections.items l.end i h.connections end a, same_place (at_part u parts.End) (at_part track parts.End) e refl))
-track_places rows t h track l begin end i u (parts.Branch k) e (row, is, b) = inr (record { number = k; below = slice_get_within l.inner k row is; row = row; is = is; on = record { on = e; here = (refl, b) } })
-track_places rows t h track l begin end i u (parts.Incoming k) e (row, is, b) = inr (record { number = k; below = slice_get_within l.inner k row is; row = row; is = is; on = record { on = e; here = (refl, b) } })
-track_places rows t h track l begin end i u (parts.Outgoing k) e (row, is, b) = inr (record { number = k; below = slice_get_within l.inner k row is; row = row; is = is; on = record { on = e; here = (refl, b) } })
+track_places : (rows : List Elem) (t : Tables) → AreTablesOf rows t → (track : ℕ) (l : Layout) → l.begin < length rows → l.end < length rows →
+    (i : ℕ) (track' : ℕ) (part : Part) → track' ≡ track → IsAtPart rows l i part
+    → (AtEnd t.connections.items l.begin (at_part track parts.Begin) i (at_part track' part) ⊎ AtEnd t.connections.items l.end (at_part track parts.End) i
+    (at_part track' part)) ⊎ IsOnFirst rows track l.inner (length l.inner) i (at_part track' part)
+track_places rows t h track l begin end i u parts.Begin e a = inl (inl (only_child_entry rows Connection t.connections.items l.begin i h.connections begin a,
+    same_place (at_part u parts.Begin) (at_part track parts.Begin) e refl))
+track_places rows t h track l begin end i u parts.End e a = inl (inr (only_child_entry rows Connection t.connections.items l.end i h.connections end a,
+    same_place (at_part u parts.End) (at_part track parts.End) e refl))
+track_places rows t h track l begin end i u (parts.Branch k) e (row, is, b) = inr (record {
+    number = k; below = slice_get_within l.inner k row is; row = row; is = is; on = record { on = e; here = (refl, b) }
+    })
+track_places rows t h track l begin end i u (parts.Incoming k) e (row, is, b) = inr (record {
+    number = k; below = slice_get_within l.inner k row is; row = row; is = is; on = record { on = e; here = (refl, b) }
+    })
+track_places rows t h track l begin end i u (parts.Outgoing k) e (row, is, b) = inr (record {
+    number = k; below = slice_get_within l.inner k row is; row = row; is = is; on = record { on = e; here = (refl, b) }
+    })
 
 inner_part : (rows : List Elem) (l : Layout) (n row i : ℕ) (part : Part) → slice_get l.inner n ≡ Some row → IsAtInner rows n row i part → IsAtPart rows l i part
 inner_part rows l n row i parts.Begin is h = absurd h
@@ -267,7 +317,8 @@ inner_part rows l n row i (parts.Incoming k) is h = (row, ap (slice_get l.inner)
 inner_part rows l n row i (parts.Outgoing k) is h = (row, ap (slice_get l.inner) h.0 ∙ is, h.1)
 
 pub track_put : (rows : List Elem) (t : Tables) → AreTablesOf rows t → (track : ℕ) (l : Layout) → IsLayout rows l → (a b c d : List (Option Place))
-    → Adds (AtEnd t.connections.items l.begin (at_part track parts.Begin)) a b → Adds (AtEnd t.connections.items l.end (at_part track parts.End)) b c → Adds (IsOnFirst rows track l.inner (length l.inner)) c d → Adds (IsOnTrack rows track l) a d
+    → Adds (AtEnd t.connections.items l.begin (at_part track parts.Begin)) a b → Adds (AtEnd t.connections.items l.end (at_part track parts.End)) b c →
+    Adds (IsOnFirst rows track l.inner (length l.inner)) c d → Adds (IsOnTrack rows track l) a d
 track_put rows t h track l laid a b c d one two three =
     let begin = only_child rows l.topology Begin l.begin laid.one_begin in
     let end = only_child rows l.topology End l.end laid.one_end in
@@ -277,12 +328,19 @@ track_put rows t h track l laid a b c d one two three =
     adds_as (λ i p. (T i p ⊎ U i p) ⊎ V i p) (IsOnTrack rows track l) a d
     (λ i p e. elim e [
       | inl ends ↦ elim ends [
-        | inl x ↦ record { track = ap (λ (v : Place). v.track) x.1; here = subst (λ (v : Place). IsAtPart rows l i v.part) (sym x.1) (entry_child rows Connection t.connections.items l.begin i h.connections x.0) }
-        | inr x ↦ record { track = ap (λ (v : Place). v.track) x.1; here = subst (λ (v : Place). IsAtPart rows l i v.part) (sym x.1) (entry_child rows Connection t.connections.items l.end i h.connections x.0) }
+        | inl x ↦ record {
+        track = ap (λ (v : Place). v.track) x.1; here = subst (λ (v : Place). IsAtPart rows l i v.part) (sym x.1)
+        (entry_child rows Connection t.connections.items l.begin i h.connections x.0)
+        }
+        | inr x ↦ record {
+        track = ap (λ (v : Place). v.track) x.1; here = subst (λ (v : Place). IsAtPart rows l i v.part) (sym x.1)
+        (entry_child rows Connection t.connections.items l.end i h.connections x.0)
+        }
       ]
       | inr f ↦ record { track = f.on.on; here = inner_part rows l f.number f.row i p.part f.is f.on.here }
     ])
-    (λ i p o. track_places rows t h track l (slice_get_within rows l.begin begin.row begin.is) (slice_get_within rows l.end end.row end.is) i p.track p.part o.track o.here)
+    (λ i p o. track_places rows t h track l (slice_get_within rows l.begin begin.row begin.is) (slice_get_within rows l.end end.row end.is) i p.track p.part
+    o.track o.here)
     (adds_then (λ i p. T i p ⊎ U i p) V a c d (adds_then T U a b c one two) three)
 
 -- ---- all tracks
@@ -293,7 +351,8 @@ pub record PlacedUpTo (rows : List Elem) (layouts : List Layout) (k : ℕ) (tabl
   pub only : (i : ℕ) (p : Place) → entry_in table i ≡ Some p → IsAtPlace rows layouts i p
   pub all : (i : ℕ) (p : Place) → p.track < k → IsAtPlace rows layouts i p → IsFilled table i
 
-pub placed_more : (rows : List Elem) (layouts : List Layout) (k : ℕ) (l : Layout) (old new : List (Option Place)) → k < length layouts → slice_get layouts k ≡ Some l → PlacedUpTo rows layouts k old → Adds (IsOnTrack rows k l) old new → PlacedUpTo rows layouts (k + 1) new
+pub placed_more : (rows : List Elem) (layouts : List Layout) (k : ℕ) (l : Layout) (old new : List (Option Place)) → k < length layouts →
+    slice_get layouts k ≡ Some l → PlacedUpTo rows layouts k old → Adds (IsOnTrack rows k l) old new → PlacedUpTo rows layouts (k + 1) new
 placed_more rows layouts k l old new within at h a = record {
   whole = a.whole ∙ h.whole;
   only = (λ i p e. elim (a.only i p e) [
@@ -301,12 +360,16 @@ placed_more rows layouts k l old new within at h a = record {
     | inr t ↦ record { layout = l; is = ap (slice_get layouts) t.track ∙ at; here = t.here }
   ]);
   all = (λ i p below here. elim (eqb_tells p.track k) [
-    | inl same ↦ a.added i p (record { track = same.1; here = (let layout : here.layout ≡ l = same_Some here.layout l (sym here.is ∙ (ap (slice_get layouts) same.1 ∙ at)) in subst (λ (v : Layout). IsAtPart rows v i p.part) layout here.here) })
+    | inl same ↦ a.added i p (record {
+    track = same.1; here = (let layout : here.layout ≡ l = same_Some here.layout l (sym here.is ∙ (ap (slice_get layouts) same.1 ∙ at)) in subst
+    (λ (v : Layout). IsAtPart rows v i p.part) layout here.here)
+    })
     | inr differ ↦ a.kept i (h.all i p (let d = differ.1 in omega arith) here)
   ]);
 }
 
-pub placed_all : (rows : List Elem) (layouts : List Layout) (k : ℕ) (table : List (Option Place)) → length layouts ≤ k → PlacedUpTo rows layouts k table → HasPlaces rows layouts table
+pub placed_all : (rows : List Elem) (layouts : List Layout) (k : ℕ) (table : List (Option Place)) → length layouts ≤ k → PlacedUpTo rows layouts k table →
+    HasPlaces rows layouts table
 placed_all rows layouts k table all h = record {
   whole = h.whole;
   only = h.only;
@@ -315,19 +378,25 @@ placed_all rows layouts k table all h = record {
 
 -- ---- what is inner
 
-inner_of_kind : (rows : List Elem) (topology i : ℕ) → Contains (children rows topology Switch) i ⊎ Contains (children rows topology Crossing) i → is_inner rows i ≡ true
-inner_of_kind rows topology i (inl c) = let e = (among_filtered (is_of_kind rows Switch) (all_children rows topology) i (among_from_contains (children rows topology Switch) i c)).1 in rw e refl
-inner_of_kind rows topology i (inr c) = let e = (among_filtered (is_of_kind rows Crossing) (all_children rows topology) i (among_from_contains (children rows topology Crossing) i c)).1 in rw e (or-true (is_of_kind rows Switch i))
+inner_of_kind : (rows : List Elem) (topology i : ℕ) → Contains (children rows topology Switch) i ⊎ Contains (children rows topology Crossing) i →
+    is_inner rows i ≡ true
+inner_of_kind rows topology i (inl c) = let e = (among_filtered (is_of_kind rows Switch) (all_children rows topology) i
+    (among_from_contains (children rows topology Switch) i c)).1 in rw e refl
+inner_of_kind rows topology i (inr c) = let e = (among_filtered (is_of_kind rows Crossing) (all_children rows topology) i
+    (among_from_contains (children rows topology Crossing) i c)).1 in rw e (or-true (is_of_kind rows Switch i))
 
 inner_each : (rows : List Elem) (l : Layout) → IsLayout rows l → AllByRecursion (λ i. is_inner rows i ≡ true) l.inner
-inner_each rows l h = all_that_among (λ i. is_inner rows i ≡ true) l.inner (λ i a. inner_of_kind rows l.topology i ((h.between.all i).0 (contains_from_among l.inner i a)))
+inner_each rows l h = all_that_among (λ i. is_inner rows i ≡ true) l.inner (λ i a. inner_of_kind rows l.topology i
+    ((h.between.all i).0 (contains_from_among l.inner i a)))
 
 pub inner_all : (rows : List Elem) (l : Layout) → IsLayout rows l → All (λ i. is_inner rows i ≡ true) l.inner
 inner_all rows l h = All-from_recursion (λ i. is_inner rows i ≡ true) l.inner (inner_each rows l h)
 
 pub inner_few : (rows : List Elem) → AreSoundRows rows → (l : Layout) → IsLayout rows l → length l.inner < 2 ^ 32
 inner_few rows s l h =
-    let apart : Apart l.inner = stands_weaker (StandsBefore rows) (λ (i j : ℕ). i ≢ j) (before_differs rows) l.inner (stands_from_pairs (StandsBefore rows) l.inner h.between.ordered) in
-    let short : length l.inner ≤ length rows = apart_short (length rows) l.inner apart (all_more (λ i. is_inner rows i ≡ true) (λ i. i < length rows) (inner_within rows s) l.inner (inner_each rows l h)) in
+    let apart : Apart l.inner = stands_weaker (StandsBefore rows) (λ (i j : ℕ). i ≢ j) (before_differs rows) l.inner
+    (stands_from_pairs (StandsBefore rows) l.inner h.between.ordered) in
+    let short : length l.inner ≤ length rows = apart_short (length rows) l.inner apart
+    (all_more (λ i. is_inner rows i ≡ true) (λ i. i < length rows) (inner_within rows s) l.inner (inner_each rows l h)) in
     let few = s.formed.few in
     omega arith

@@ -57,12 +57,14 @@ kept_within z h = subst (IsOfSize (10 ^ 15)) (sym (to_z-of_z w64 z (fits_64 z h)
 pub inner_kind : (rows : List Elem) (i : ℕ) → is_inner rows i ≡ true → (row : Elem) × (slice_get rows i ≡ Some row) × (bears_position row.kind ≡ true)
 inner_kind rows i h = choose (is_of_kind rows Switch i) refl h
   where
-    choose : (v : Bool) → is_of_kind rows Switch i ≡ v → (v || is_of_kind rows Crossing i) ≡ true → (row : Elem) × (slice_get rows i ≡ Some row) × (bears_position row.kind ≡ true)
+    choose : (v : Bool) → is_of_kind rows Switch i ≡ v → (v || is_of_kind rows Crossing i) ≡ true →
+    (row : Elem) × (slice_get rows i ≡ Some row) × (bears_position row.kind ≡ true)
     choose true e h = let (row, is, kind) = of_kind rows Switch i e in (row, is, rw kind refl)
     choose false e h = let (row, is, kind) = of_kind rows Crossing i h in (row, is, rw kind refl)
 
 -- a switch or a crossing has a position
-pub inner_position : (rows : List Elem) → AreSoundRows rows → (i : ℕ) → is_inner rows i ≡ true → (row : Elem) × (slice_get rows i ≡ Some row) × ((z : ℤ) × HasPosition row z)
+pub inner_position : (rows : List Elem) → AreSoundRows rows → (i : ℕ) → is_inner rows i ≡ true →
+    (row : Elem) × (slice_get rows i ≡ Some row) × ((z : ℤ) × HasPosition row z)
 inner_position rows s i h = let (row, is, bears) = inner_kind rows i h in (row, is, s.positions i row is bears)
 
 pub inner_within : (rows : List Elem) → AreSoundRows rows → (i : ℕ) → is_inner rows i ≡ true → i < length rows
@@ -72,7 +74,8 @@ pub word_is : (z : ℤ) → IsOfSize (10 ^ 15) z → to_z w64 (of_z w64 z) ≡ z
 word_is z h = to_z-of_z w64 z (fits_64 z h)
 
 -- the row that is read at the number of a switch or a crossing
-pub inner_read : (rows : List Elem) → AreSoundRows rows → (i : ℕ) → is_inner rows i ≡ true → (read : Elem) → read ≡ get_or rows i read → (slice_get rows i ≡ Some read) × ((z : ℤ) × HasPosition read z)
+pub inner_read : (rows : List Elem) → AreSoundRows rows → (i : ℕ) → is_inner rows i ≡ true → (read : Elem) → read ≡ get_or rows i read →
+    (slice_get rows i ≡ Some read) × ((z : ℤ) × HasPosition read z)
 inner_read rows s i h read e =
     let (row, is, there) = inner_position rows s i h in
     let at : slice_get rows i ≡ Some read = slice_get_read rows (length rows) i read refl (inner_within rows s i h) e in

@@ -1,5 +1,6 @@
 -- A topology that rows resolve to is resolved: its ids and places differ, and its mileages stay in range.
-use Rattle.std.proofs.Common.{◌≡◌, ◌≢◌, ℕ, ◌+◌, ◌*◌, ◌<◌, ◌≤◌, ◌^◌, Option, Some, None, List, [], ◌∷◌, length, map, refl, sym, ap, ◌∙◌, subst, inl, inr, lit≤, arith}
+use Rattle.std.proofs.Common.{◌≡◌, ◌≢◌, ℕ, ◌+◌, ◌*◌, ◌<◌, ◌≤◌, ◌^◌, Option, Some, None, List, [], ◌∷◌, length, map, refl, sym, ap, ◌∙◌, subst, inl, inr, lit≤}
+use Rattle.std.proofs.Common.{arith}
 use Rattle.std.specs.Prelude.{ℤ, ◌+ℤ◌, ◌-ℤ◌, MatchOption}
 use Rattle.std.proofs.lemmas.Int.{ints}
 use Rattle.std.proofs.lemmas.List.{length-map}
@@ -28,7 +29,8 @@ use Rattle.railml_topology.proofs.Zips.{zip_length}
 
 pub few_elements : (rows : List Elem) (t : Topology) → AreSoundRows rows → Covers (element_of rows) (Bears rows) (elements t) → length (elements t) < 2 ^ 32
 few_elements rows t s c =
-    let short : length c.ks ≤ length rows = apart_short (length rows) c.ks c.apart (all_more (Bears rows) (λ k. k < length rows) (λ k b. slice_get_within rows k b.row b.is) c.ks c.good) in
+    let short : length c.ks ≤ length rows = apart_short (length rows) c.ks c.apart
+    (all_more (Bears rows) (λ k. k < length rows) (λ k b. slice_get_within rows k b.row b.is) c.ks c.good) in
     let same : length (elements t) ≡ length c.ks = ap length c.same ∙ length-map c.ks (element_of rows) in
     let few = s.formed.few in
     omega arith
@@ -50,7 +52,8 @@ id_at rows s k b =
       is = ap (λ (e : Element). e.id) (element_is rows k b.row good.id b.row.at b.is good.has refl);
     }
 
-pub ids_good : (rows : List Elem) (t : Topology) → AreSoundRows rows → Covers (element_of rows) (Bears rows) (elements t) → All (λ (e : Element). IsId e.id) (elements t)
+pub ids_good : (rows : List Elem) (t : Topology) → AreSoundRows rows → Covers (element_of rows) (Bears rows) (elements t) →
+    All (λ (e : Element). IsId e.id) (elements t)
 ids_good rows t s c =
     subst (λ (v : List Element). All (λ (e : Element). IsId e.id) v) (sym c.same)
     (All-from_recursion (λ (e : Element). IsId e.id) (map (element_of rows) c.ks)
@@ -64,7 +67,8 @@ ids_apart rows s i j a b differ same =
     let ids : k.id ≡ h.id = sym k.is ∙ (sym same ∙ h.is) in
     differ (s.ids_differ i j h.id h.bears (subst (λ (v : List ℕ). BearsId rows j v) ids k.bears))
 
-pub ids_differ : (rows : List Elem) (t : Topology) → AreSoundRows rows → Covers (element_of rows) (Bears rows) (elements t) → AllPairs (λ (d e : Element). d.id ≢ e.id) (elements t)
+pub ids_differ : (rows : List Elem) (t : Topology) → AreSoundRows rows → Covers (element_of rows) (Bears rows) (elements t) →
+    AllPairs (λ (d e : Element). d.id ≢ e.id) (elements t)
 ids_differ rows t s c =
     subst (λ (v : List Element). AllPairs (λ (d e : Element). d.id ≢ e.id) v) (sym c.same)
     (pairs_from_stands (λ (d e : Element). d.id ≢ e.id) (map (element_of rows) c.ks)
@@ -86,7 +90,8 @@ places_apart rows s i j a b differ same =
       | inr lt ↦ (let k : j < i = lt.1 in let up : b.row.at < a.row.at = s.formed.rising j i b.row a.row k b.is a.is in omega arith)
     ]
 
-pub places_differ : (rows : List Elem) (t : Topology) → AreSoundRows rows → Covers (element_of rows) (Bears rows) (elements t) → AllPairs (λ (d e : Element). d.at ≢ e.at) (elements t)
+pub places_differ : (rows : List Elem) (t : Topology) → AreSoundRows rows → Covers (element_of rows) (Bears rows) (elements t) →
+    AllPairs (λ (d e : Element). d.at ≢ e.at) (elements t)
 places_differ rows t s c =
     subst (λ (v : List Element). AllPairs (λ (d e : Element). d.at ≢ e.at) v) (sym c.same)
     (pairs_from_stands (λ (d e : Element). d.at ≢ e.at) (map (element_of rows) c.ks)
@@ -118,20 +123,23 @@ mile_within begin row z h = choose row.attrs.abs_pos h
         (number_within m.starts.text m.start m.starts.reads) (position_within row m.to m.row_at) (position_within begin m.from m.begin_at))
     choose (Some text) r = mileage_from z (wider (10 ^ 15) (3000000000 * 1000000) z (lit≤ tt) (number_within text z r))
 
-inner_miles : (rows : List Elem) (layouts : List Layout) (begin : Elem) (is : List ℕ) (xs : List Inner) → AllZip (IsInnerOf rows layouts begin) is xs → AllByRecursion IsMileage (map (λ (x : Inner). x.mile.0) xs)
+inner_miles : (rows : List Elem) (layouts : List Layout) (begin : Elem) (is : List ℕ) (xs : List Inner) → AllZip (IsInnerOf rows layouts begin) is xs →
+    AllByRecursion IsMileage (map (λ (x : Inner). x.mile.0) xs)
 inner_miles rows layouts begin [] [] h = tt
 inner_miles rows layouts begin [] (x ∷ xs) h = absurd h
 inner_miles rows layouts begin (i ∷ is) [] h = absurd h
 inner_miles rows layouts begin (i ∷ is) (x ∷ xs) h = (mile_within begin h.0.row x.mile.0 h.0.mile, inner_miles rows layouts begin is xs h.1)
 
-miles_of_track : (rows : List Elem) (layouts : List Layout) (l : Layout) (track : Track) → IsTrackOf rows layouts l track → AllByRecursion IsMileage (track_miles track)
+miles_of_track : (rows : List Elem) (layouts : List Layout) (l : Layout) (track : Track) → IsTrackOf rows layouts l track →
+    AllByRecursion IsMileage (track_miles track)
 miles_of_track rows layouts l track h = (
   mile_within h.begin_row h.begin.row track.begin.mile.0 h.begin.mile,
   all_joined IsMileage (map (λ (x : Inner). x.mile.0) track.inner) (track.end.mile.0 ∷ [])
       (inner_miles rows layouts h.begin_row l.inner track.inner h.inner) (mile_within h.begin_row h.end.row track.end.mile.0 h.end.mile, tt),
 )
 
-all_miles : (rows : List Elem) (layouts : List Layout) (ls : List Layout) (tracks : List Track) → AllZip (IsTrackOf rows layouts) ls tracks → AllByRecursion IsMileage (flat_map track_miles tracks)
+all_miles : (rows : List Elem) (layouts : List Layout) (ls : List Layout) (tracks : List Track) → AllZip (IsTrackOf rows layouts) ls tracks →
+    AllByRecursion IsMileage (flat_map track_miles tracks)
 all_miles rows layouts [] [] h = tt
 all_miles rows layouts [] (track ∷ tracks) h = absurd h
 all_miles rows layouts (l ∷ ls) [] h = absurd h

@@ -1,5 +1,6 @@
 -- What holds of each row where nothing is wrong with the rows.
-use Rattle.std.proofs.Common.{◌≡◌, ◌⊎◌, ℕ, suc, zero, ◌<◌, ◌≤◌, Bool, true, false, cond, Option, Some, None, List, [], ◌∷◌, length, get_or, slice_get, refl, sym, ap, ◌∙◌, subst, inl, inr, arith}
+use Rattle.std.proofs.Common.{◌≡◌, ◌⊎◌, ℕ, suc, zero, ◌<◌, ◌≤◌, Bool, true, false, cond, Option, Some, None, List, [], ◌∷◌, length, get_or, slice_get, refl}
+use Rattle.std.proofs.Common.{sym, ap, ◌∙◌, subst, inl, inr, arith}
 use Rattle.std.specs.Prelude.{codes, bytes_eq, chars, ℤ}
 use Rattle.std.specs.List.{All, AllByRecursion, filter}
 use Rattle.std.specs.Option.{option_map, is_none}
@@ -21,9 +22,12 @@ use Rattle.railml_read.specs.declared.rows.ElemKind.TheVariants as kinds
 use Rattle.railml_read.specs.Formed.{AreFormed}
 use Rattle.railml_faults.specs.declared.attributes.Attribute.{Attribute}
 use Rattle.railml_faults.specs.declared.attributes.Attribute.TheVariants as attributes
-use Rattle.railml_faults.specs.declared.fault.TopologyWhat.TheVariants.{TooMany, Missing, Id, RepeatedId, Number, UnknownRef, NotMutual, SelfRef, EndKind, Course, Orientation}
-use Rattle.railml_faults.specs.Rows.{same_kind, track_rows, all_children, children, parent_of, bears_id, bears_position, id_of, BearsId, IsConnectionNamed, attribute_text, attribute_name, is_word, required_of, required, lacking, ReadsMetres, HasPosition}
-use Rattle.railml_faults.specs.Faults.{IsNoNumber, HasNoNumber, RefersTo, IsWholeTrack, AreOrientedAlike, HasTwoWays, HasItsParts, IsHand, IsStraight, IsCourseAt, IsConnectionOf, IsWay, HasNoFault}
+use Rattle.railml_faults.specs.declared.fault.TopologyWhat.TheVariants.{TooMany, Missing, Id, RepeatedId, Number, UnknownRef, NotMutual, SelfRef, EndKind}
+use Rattle.railml_faults.specs.declared.fault.TopologyWhat.TheVariants.{Course, Orientation}
+use Rattle.railml_faults.specs.Rows.{same_kind, track_rows, all_children, children, parent_of, bears_id, bears_position, id_of, BearsId, IsConnectionNamed}
+use Rattle.railml_faults.specs.Rows.{attribute_text, attribute_name, is_word, required_of, required, lacking, ReadsMetres, HasPosition}
+use Rattle.railml_faults.specs.Faults.{IsNoNumber, HasNoNumber, RefersTo, IsWholeTrack, AreOrientedAlike, HasTwoWays, HasItsParts, IsHand, IsStraight}
+use Rattle.railml_faults.specs.Faults.{IsCourseAt, IsConnectionOf, IsWay, HasNoFault}
 use Rattle.railml_faults.proofs.Family.{among_from_contains, same_kind_is, same_kind_self}
 use Rattle.railml_topology.specs.Resolved.{way_word, hand_word, HasAbsPos, IsCourseOf}
 use Rattle.railml_topology.specs.Sound.{HasGoodId, IsMutual, IsConnectionOfInner, AreSoundRows}
@@ -135,9 +139,12 @@ some_text None e = absurd cc
 some_text (Some text) e = (text, refl)
 
 -- a required attribute is there
-there_is : (rows : List Elem) → HasNoFault rows → (i : ℕ) (row : Elem) → slice_get rows i ≡ Some row → (a : Attribute) → In (required rows row) a → (text : List ℕ) × (attribute_text a row.attrs ≡ Some text)
+there_is : (rows : List Elem) → HasNoFault rows → (i : ℕ) (row : Elem) → slice_get rows i ≡ Some row → (a : Attribute) → In (required rows row) a →
+    (text : List ℕ) × (attribute_text a row.attrs ≡ Some text)
 there_is rows h i row is a required_a =
-    let nothing : lacking rows row ≡ [] = nothing_at (lacking rows row) (λ b lacks. h Missing row.at (attribute_name b) [] (record { number = i; row = row; is = is; place = refl; fault = (b, lacks, refl, refl) })) in
+    let nothing : lacking rows row ≡ [] = nothing_at (lacking rows row) (λ b lacks. h Missing row.at (attribute_name b) [] (record {
+    number = i; row = row; is = is; place = refl; fault = (b, lacks, refl, refl)
+    })) in
     some_text (attribute_text a row.attrs) (none_filtered (λ (b : Attribute). is_none (attribute_text b row.attrs)) (required rows row) a nothing required_a)
 
 id_required : (k : ElemKind) (parent : Option ElemKind) (o : Option (List ℕ)) → bears_id k ≡ true → In (required_of k parent o) attributes.Id
@@ -148,7 +155,8 @@ id_required kinds.Switch parent o h = inl refl
 id_required kinds.Crossing parent o h = inl refl
 id_required kinds.Connection (Some kinds.Crossing) o h = choose (is_word (codes "outgoing") o)
   where
-    choose : (v : Bool) → In (cond v (attributes.Id ∷ attributes.Ref ∷ attributes.Orientation ∷ attributes.Course ∷ []) (attributes.Id ∷ attributes.Ref ∷ attributes.Orientation ∷ [])) attributes.Id
+    choose : (v : Bool) → In (cond v (attributes.Id ∷ attributes.Ref ∷ attributes.Orientation ∷ attributes.Course ∷ [])
+    (attributes.Id ∷ attributes.Ref ∷ attributes.Orientation ∷ [])) attributes.Id
     choose true = inl refl
     choose false = inl refl
 id_required kinds.Connection parent o h = inl refl
@@ -164,16 +172,19 @@ pos_required k parent o h = absurd cc
 ref_required : (parent : Option ElemKind) (o : Option (List ℕ)) → In (required_of kinds.Connection parent o) attributes.Ref
 ref_required (Some kinds.Crossing) o = choose (is_word (codes "outgoing") o)
   where
-    choose : (v : Bool) → In (cond v (attributes.Id ∷ attributes.Ref ∷ attributes.Orientation ∷ attributes.Course ∷ []) (attributes.Id ∷ attributes.Ref ∷ attributes.Orientation ∷ [])) attributes.Ref
+    choose : (v : Bool) → In (cond v (attributes.Id ∷ attributes.Ref ∷ attributes.Orientation ∷ attributes.Course ∷ [])
+    (attributes.Id ∷ attributes.Ref ∷ attributes.Orientation ∷ [])) attributes.Ref
     choose true = inr (inl refl)
     choose false = inr (inl refl)
 ref_required parent o = inr (inl refl)
 
-way_required : (k : ElemKind) (o : Option (List ℕ)) → (k ≡ kinds.Switch) ⊎ (k ≡ kinds.Crossing) → In (required_of kinds.Connection (Some k) o) attributes.Orientation
+way_required : (k : ElemKind) (o : Option (List ℕ)) → (k ≡ kinds.Switch) ⊎ (k ≡ kinds.Crossing) →
+    In (required_of kinds.Connection (Some k) o) attributes.Orientation
 way_required k o (inl e) = rw e (inr (inr (inl refl)))
 way_required k o (inr e) = rw e (choose (is_word (codes "outgoing") o))
   where
-    choose : (v : Bool) → In (cond v (attributes.Id ∷ attributes.Ref ∷ attributes.Orientation ∷ attributes.Course ∷ []) (attributes.Id ∷ attributes.Ref ∷ attributes.Orientation ∷ [])) attributes.Orientation
+    choose : (v : Bool) → In (cond v (attributes.Id ∷ attributes.Ref ∷ attributes.Orientation ∷ attributes.Course ∷ [])
+    (attributes.Id ∷ attributes.Ref ∷ attributes.Orientation ∷ [])) attributes.Orientation
     choose true = inr (inr (inl refl))
     choose false = inr (inr (inl refl))
 
@@ -184,14 +195,20 @@ hand_required : In (required_of kinds.Connection (Some kinds.Crossing) (Some (co
 hand_required = inr (inr (inr (inl refl)))
 
 -- what is required of a row of this kind
-require : (rows : List Elem) → HasNoFault rows → (i : ℕ) (row : Elem) → slice_get rows i ≡ Some row → (k : ElemKind) → row.kind ≡ k → (a : Attribute) → In (required_of k (option_map (λ (p : Elem). p.kind) (parent_of rows row)) row.attrs.orientation) a → (text : List ℕ) × (attribute_text a row.attrs ≡ Some text)
+require : (rows : List Elem) → HasNoFault rows → (i : ℕ) (row : Elem) → slice_get rows i ≡ Some row → (k : ElemKind) → row.kind ≡ k → (a : Attribute) →
+    In (required_of k (option_map (λ (p : Elem). p.kind) (parent_of rows row)) row.attrs.orientation) a →
+    (text : List ℕ) × (attribute_text a row.attrs ≡ Some text)
 require rows h i row is k e a required_a = there_is rows h i row is a (rw e required_a)
 
 -- what is required of a connection below a row of this kind
-require_below : (rows : List Elem) → HasNoFault rows → (i : ℕ) (row parent : Elem) (k : ElemKind) → slice_get rows i ≡ Some row → IsConnectionOf rows row k parent → (a : Attribute) → In (required_of kinds.Connection (Some k) row.attrs.orientation) a → (text : List ℕ) × (attribute_text a row.attrs ≡ Some text)
+require_below : (rows : List Elem) → HasNoFault rows → (i : ℕ) (row parent : Elem) (k : ElemKind) → slice_get rows i ≡ Some row →
+    IsConnectionOf rows row k parent → (a : Attribute) → In (required_of kinds.Connection (Some k) row.attrs.orientation) a →
+    (text : List ℕ) × (attribute_text a row.attrs ≡ Some text)
 require_below rows h i row parent k is of a required_a =
-    let kind : option_map (λ (p : Elem). p.kind) (parent_of rows row) ≡ Some k = ap (λ (v : Option Elem). option_map (λ (p : Elem). p.kind) v) of.holds ∙ ap (λ (v : ElemKind). Some v) of.of_kind in
-    require rows h i row is kinds.Connection of.connection a (subst (λ (v : Option ElemKind). In (required_of kinds.Connection v row.attrs.orientation) a) (sym kind) required_a)
+    let kind : option_map (λ (p : Elem). p.kind) (parent_of rows row) ≡ Some k = ap (λ (v : Option Elem). option_map (λ (p : Elem). p.kind) v) of.holds
+    ∙ ap (λ (v : ElemKind). Some v) of.of_kind in
+    require rows h i row is kinds.Connection of.connection a (subst (λ (v : Option ElemKind). In (required_of kinds.Connection v row.attrs.orientation) a)
+    (sym kind) required_a)
 
 -- ---- what holds of each row
 
@@ -202,22 +219,29 @@ few_tracks rows h = elim (leb_tells (length (track_rows rows)) MAX_TRACKS) [
       let within : MAX_TRACKS < length (track_rows rows) = lt.1 in
       let k = get_or (track_rows rows) MAX_TRACKS 0 in
       let there = track_rows_kind rows k (among_from_contains (track_rows rows) k (Contains-get_or (track_rows rows) MAX_TRACKS 0 within)) in
-      absurd (h TooMany there.0.at [] [] (record { number = k; row = there.0; is = there.1; place = refl; fault = (slice_get-get_or (track_rows rows) MAX_TRACKS 0 within, refl, refl) }))
+      absurd (h TooMany there.0.at [] [] (record {
+      number = k; row = there.0; is = there.1; place = refl; fault = (slice_get-get_or (track_rows rows) MAX_TRACKS 0 within, refl, refl)
+      }))
 ]
 
 good_id : (rows : List Elem) → HasNoFault rows → (i : ℕ) (row : Elem) → slice_get rows i ≡ Some row → bears_id row.kind ≡ true → HasGoodId row
 good_id rows h i row is bears =
-    let there = require rows h i row is row.kind refl attributes.Id (id_required row.kind (option_map (λ (p : Elem). p.kind) (parent_of rows row)) row.attrs.orientation bears) in
+    let there = require rows h i row is row.kind refl attributes.Id (id_required row.kind (option_map (λ (p : Elem). p.kind) (parent_of rows row))
+    row.attrs.orientation bears) in
     record {
       id = there.0;
       has = there.1;
-      good = stable (IsId there.0) (known_id there.0) (λ bad. h Id row.at [] [] (record { number = i; row = row; is = is; place = refl; fault = (record { bears = bears; id = there.0; has = there.1; bad = bad }, refl, refl) }));
+      good = stable (IsId there.0) (known_id there.0) (λ bad. h Id row.at [] [] (record {
+      number = i; row = row; is = is; place = refl; fault = (record { bears = bears; id = there.0; has = there.1; bad = bad }, refl, refl)
+      }));
     }
 
 ids_apart : (rows : List Elem) → HasNoFault rows → (i j : ℕ) (id : List ℕ) → BearsId rows i id → BearsId rows j id → i ≡ j
 ids_apart rows h i j id a b =
     let repeated = λ (m n : ℕ) (x : BearsId rows m id) (y : BearsId rows n id) (below : n < m).
-    h RepeatedId x.row.at id [] (record { number = m; row = x.row; is = x.is; place = refl; fault = (record { here = x; earlier = n; before = below; there = y }, refl) }) in
+    h RepeatedId x.row.at id [] (record {
+    number = m; row = x.row; is = x.is; place = refl; fault = (record { here = x; earlier = n; before = below; there = y }, refl)
+    }) in
     elim (leb_tells i j) [
       | inl le ↦ elim (leb_tells j i) [
         | inl ge ↦ (let a1 : i ≤ j = le.1 in let a2 : j ≤ i = ge.1 in omega arith)
@@ -227,15 +251,20 @@ ids_apart rows h i j id a b =
     ]
 
 no_bad_number : (rows : List Elem) → HasNoFault rows → (i : ℕ) (row : Elem) → slice_get rows i ≡ Some row → (a : Attribute) → HasNoNumber row a → ⊥
-no_bad_number rows h i row is a bad = h Number row.at (id_of row) (attribute_name a) (record { number = i; row = row; is = is; place = refl; fault = (a, bad, refl, refl) })
+no_bad_number rows h i row is a bad = h Number row.at (id_of row) (attribute_name a) (record {
+    number = i; row = row; is = is; place = refl; fault = (a, bad, refl, refl)
+    })
 
-position_of_row : (rows : List Elem) → HasNoFault rows → (i : ℕ) (row : Elem) → slice_get rows i ≡ Some row → bears_position row.kind ≡ true → (z : ℤ) × HasPosition row z
+position_of_row : (rows : List Elem) → HasNoFault rows → (i : ℕ) (row : Elem) → slice_get rows i ≡ Some row → bears_position row.kind ≡ true →
+    (z : ℤ) × HasPosition row z
 position_of_row rows h i row is bears =
-    let there = require rows h i row is row.kind refl attributes.Pos (pos_required row.kind (option_map (λ (p : Elem). p.kind) (parent_of rows row)) row.attrs.orientation bears) in
+    let there = require rows h i row is row.kind refl attributes.Pos (pos_required row.kind (option_map (λ (p : Elem). p.kind) (parent_of rows row))
+    row.attrs.orientation bears) in
     let (z, reads) = reads_unless there.0 (λ none. no_bad_number rows h i row is attributes.Pos (bears, subst IsNoNumber (sym there.1) none)) in
     (z, record { text = there.0; has = there.1; reads = reads })
 
-mileage_of_row : (rows : List Elem) → HasNoFault rows → (i : ℕ) (row : Elem) (text : List ℕ) → slice_get rows i ≡ Some row → bears_position row.kind ≡ true → row.attrs.abs_pos ≡ Some text → (z : ℤ) × ReadsMetres text z
+mileage_of_row : (rows : List Elem) → HasNoFault rows → (i : ℕ) (row : Elem) (text : List ℕ) → slice_get rows i ≡ Some row → bears_position row.kind ≡ true →
+    row.attrs.abs_pos ≡ Some text → (z : ℤ) × ReadsMetres text z
 mileage_of_row rows h i row text is bears has =
     reads_unless text (λ none. no_bad_number rows h i row is attributes.AbsPos
     (bears, (λ bad. no_bad_number rows h i row is attributes.Pos (bears, bad)), subst IsNoNumber (sym has) none))
@@ -262,27 +291,33 @@ known_kind a b = choose (same_kind a b) refl
     choose true e = inl (same_kind_is a b e)
     choose false e = inr (λ same. (let t : same_kind a b ≡ true = subst (λ (v : ElemKind). same_kind a v ≡ true) same (same_kind_self a) in cc))
 
-named_first : (row : Elem) (rows : List Elem) (name : List ℕ) → Known ((row.kind ≡ kinds.Connection) × (row.attrs.id ≡ Some name)) → (NamedIn rows name ⊎ NoneNamed rows name) → NamedIn (row ∷ rows) name ⊎ NoneNamed (row ∷ rows) name
+named_first : (row : Elem) (rows : List Elem) (name : List ℕ) → Known ((row.kind ≡ kinds.Connection) × (row.attrs.id ≡ Some name)) →
+    (NamedIn rows name ⊎ NoneNamed rows name) → NamedIn (row ∷ rows) name ⊎ NoneNamed (row ∷ rows) name
 named_first row rows name (inl here) rest = inl (0, row, record { is = refl; connection = here.0; has = here.1 })
 named_first row rows name (inr not_here) (inl (j, other, n)) = inl (suc j, other, record { is = n.is; connection = n.connection; has = n.has })
 named_first row rows name (inr not_here) (inr none) = inr by
   where
     by : (j : ℕ) (other : Elem) → IsConnectionNamed (row ∷ rows) j name other → ⊥
-    by zero other n = let same : row ≡ other = same_Some row other n.is in not_here (subst (λ (v : Elem). (v.kind ≡ kinds.Connection) × (v.attrs.id ≡ Some name)) (sym same) (n.connection, n.has))
+    by zero other n = let same : row ≡ other = same_Some row other n.is in not_here
+    (subst (λ (v : Elem). (v.kind ≡ kinds.Connection) × (v.attrs.id ≡ Some name)) (sym same) (n.connection, n.has))
     by (suc j) other n = none j other (record { is = n.is; connection = n.connection; has = n.has })
 
 named_or_none : (rows : List Elem) (name : List ℕ) → NamedIn rows name ⊎ NoneNamed rows name
 named_or_none [] name = inr (λ j other n. (let e = n.is in cc))
 named_or_none (row ∷ rows) name =
-    named_first row rows name (known_both (row.kind ≡ kinds.Connection) (row.attrs.id ≡ Some name) (known_kind row.kind kinds.Connection) (known_some row.attrs.id name)) (named_or_none rows name)
+    named_first row rows name (known_both (row.kind ≡ kinds.Connection) (row.attrs.id ≡ Some name) (known_kind row.kind kinds.Connection)
+    (known_some row.attrs.id name)) (named_or_none rows name)
 
 mutual_row : (rows : List Elem) → HasNoFault rows → (i : ℕ) (row : Elem) → slice_get rows i ≡ Some row → row.kind ≡ kinds.Connection → IsMutual rows row
 mutual_row rows h i row is kind =
-    let there = require rows h i row is kinds.Connection kind attributes.Ref (ref_required (option_map (λ (p : Elem). p.kind) (parent_of rows row)) row.attrs.orientation) in
+    let there = require rows h i row is kinds.Connection kind attributes.Ref (ref_required (option_map (λ (p : Elem). p.kind) (parent_of rows row))
+    row.attrs.orientation) in
     let name = there.0 in
     let refers : RefersTo row name = record { connection = kind; refers = there.1 } in
     elim (named_or_none rows name) [
-      | inr none ↦ absurd (h UnknownRef row.at (id_of row) [] (record { number = i; row = row; is = is; place = refl; fault = (record { name = name; refers = refers; none = none }, refl, refl) }))
+      | inr none ↦ absurd (h UnknownRef row.at (id_of row) [] (record {
+      number = i; row = row; is = is; place = refl; fault = (record { name = name; refers = refers; none = none }, refl, refl)
+      }))
       | inl (number, other, named) ↦ record {
         name = name;
         refers = refers;
@@ -292,9 +327,15 @@ mutual_row rows h i row is kind =
         back = record {
           connection = named.connection;
           refers = stable (other.attrs.reference ≡ Some (id_of row)) (known_some other.attrs.reference (id_of row))
-              (λ elsewhere. h NotMutual row.at (id_of row) name (record { number = i; row = row; is = is; place = refl; fault = (record { refers = refers; number = number; other = other; named = named; elsewhere = elsewhere }, refl) }));
+              (λ elsewhere. h NotMutual row.at (id_of row) name (record {
+              number = i; row = row; is = is; place = refl; fault = (record {
+              refers = refers; number = number; other = other; named = named; elsewhere = elsewhere
+              }, refl)
+              }));
         };
-        elsewhere = (λ same. h SelfRef row.at (id_of row) [] (record { number = i; row = row; is = is; place = refl; fault = (subst (RefersTo row) same refers, refl, refl) }));
+        elsewhere = (λ same. h SelfRef row.at (id_of row) [] (record {
+        number = i; row = row; is = is; place = refl; fault = (subst (RefersTo row) same refers, refl, refl)
+        }));
       }
     ]
 
@@ -319,8 +360,10 @@ whole_stable : (rows : List Elem) (i : ℕ) → Stable (IsWholeTrack rows i)
 whole_stable rows i h =
     let topology = single_stable (children rows i kinds.Topology) (λ none. h (λ w. none (w.topology, w.one_topology))) in
     let same : (w : IsWholeTrack rows i) → w.topology ≡ topology.0 = (λ w. same_heads w.topology topology.0 [] [] (sym w.one_topology ∙ topology.1)) in
-    let begin = single_stable (children rows topology.0 kinds.Begin) (λ none. h (λ w. none (w.begin, ap (λ k. children rows k kinds.Begin) (sym (same w)) ∙ w.one_begin))) in
-    let end = single_stable (children rows topology.0 kinds.End) (λ none. h (λ w. none (w.end, ap (λ k. children rows k kinds.End) (sym (same w)) ∙ w.one_end))) in
+    let begin = single_stable (children rows topology.0 kinds.Begin) (λ none. h (λ w. none
+    (w.begin, ap (λ k. children rows k kinds.Begin) (sym (same w)) ∙ w.one_begin))) in
+    let end = single_stable (children rows topology.0 kinds.End) (λ none. h (λ w. none
+    (w.end, ap (λ k. children rows k kinds.End) (sym (same w)) ∙ w.one_end))) in
     record { topology = topology.0; begin = begin.0; end = end.0; one_topology = topology.1; one_begin = begin.1; one_end = end.1 }
 
 ways_stable : (rows : List Elem) (i : ℕ) → Stable (HasTwoWays rows i)
@@ -347,7 +390,9 @@ parts_stable rows i k = λ h. tt
 
 parts_of_row : (rows : List Elem) → HasNoFault rows → (i : ℕ) (row : Elem) → slice_get rows i ≡ Some row → HasItsParts rows i row.kind
 parts_of_row rows h i row is =
-    parts_stable rows i row.kind (λ lacks. h EndKind row.at (id_of row) [] (record { number = i; row = row; is = is; place = refl; fault = (lacks, refl, refl) }))
+    parts_stable rows i row.kind (λ lacks. h EndKind row.at (id_of row) [] (record {
+    number = i; row = row; is = is; place = refl; fault = (lacks, refl, refl)
+    }))
 
 -- ---- words
 
@@ -384,33 +429,49 @@ way_of : (word : List ℕ) → IsWay word → (outgoing : Bool) × (word ≡ way
 way_of word (inl e) = (false, e)
 way_of word (inr e) = (true, e)
 
-way_of_row : (rows : List Elem) → HasNoFault rows → (i : ℕ) (row parent : Elem) → slice_get rows i ≡ Some row → IsConnectionOfInner rows row parent → (outgoing : Bool) × (row.attrs.orientation ≡ Some (way_word outgoing))
+way_of_row : (rows : List Elem) → HasNoFault rows → (i : ℕ) (row parent : Elem) → slice_get rows i ≡ Some row → IsConnectionOfInner rows row parent →
+    (outgoing : Bool) × (row.attrs.orientation ≡ Some (way_word outgoing))
 way_of_row rows h i row parent is of =
     let there : (text : List ℕ) × (row.attrs.orientation ≡ Some text) = elim of [
       | inl s ↦ require_below rows h i row parent kinds.Switch is s attributes.Orientation (way_required kinds.Switch row.attrs.orientation (inl refl))
       | inr s ↦ require_below rows h i row parent kinds.Crossing is s attributes.Orientation (way_required kinds.Crossing row.attrs.orientation (inr refl))
     ] in
-    let way = stable (IsWay there.0) (known_way there.0) (λ bad. h Orientation row.at (id_of row) [] (record { number = i; row = row; is = is; place = refl; fault = (record { parent = parent; of_inner = of; word = there.0; has = there.1; bad = bad }, refl, refl) })) in
+    let way = stable (IsWay there.0) (known_way there.0) (λ bad. h Orientation row.at (id_of row) [] (record {
+    number = i; row = row; is = is; place = refl; fault = (record { parent = parent; of_inner = of; word = there.0; has = there.1; bad = bad }, refl, refl)
+    })) in
     let (outgoing, e) = way_of there.0 way in
     (outgoing, there.1 ∙ ap (λ (v : List ℕ). Some v) e)
 
-course_from : (switch row : Elem) (word : List ℕ) → row.attrs.course ≡ Some word → IsCourseAt switch word → (hand : Hand) × (diverges : Bool) × IsCourseOf switch row hand diverges
+course_from : (switch row : Elem) (word : List ℕ) → row.attrs.course ≡ Some word → IsCourseAt switch word →
+    (hand : Hand) × (diverges : Bool) × IsCourseOf switch row hand diverges
 course_from switch row word has (inl is_hand) = let (hand, e) = hand_of word is_hand in (hand, false, has ∙ ap (λ (v : List ℕ). Some v) e)
 course_from switch row word has (inr s) =
     let (hand, e) = hand_of s.track s.hand in
     (hand, true, (has ∙ ap (λ (v : List ℕ). Some v) s.straight, s.continues ∙ ap (λ (v : List ℕ). Some v) e))
 
-course_of_row : (rows : List Elem) → HasNoFault rows → (i : ℕ) (row switch : Elem) → slice_get rows i ≡ Some row → IsConnectionOf rows row kinds.Switch switch → (hand : Hand) × (diverges : Bool) × IsCourseOf switch row hand diverges
+course_of_row : (rows : List Elem) → HasNoFault rows → (i : ℕ) (row switch : Elem) → slice_get rows i ≡ Some row → IsConnectionOf rows row kinds.Switch switch →
+    (hand : Hand) × (diverges : Bool) × IsCourseOf switch row hand diverges
 course_of_row rows h i row switch is of =
     let there = require_below rows h i row switch kinds.Switch is of attributes.Course (course_required row.attrs.orientation) in
     course_from switch row there.0 there.1 (stable (IsCourseAt switch there.0) (known_course switch there.0)
-    (λ bad. h Course row.at (id_of row) [] (record { number = i; row = row; is = is; place = refl; fault = (inl (record { switch = switch; of_switch = of; word = there.0; has = there.1; bad = bad }), refl, refl) })))
+    (λ bad. h Course row.at (id_of row) [] (record {
+    number = i; row = row; is = is; place = refl; fault = (inl (record {
+    switch = switch; of_switch = of; word = there.0; has = there.1; bad = bad
+    }), refl, refl)
+    })))
 
-hand_of_row : (rows : List Elem) → HasNoFault rows → (i : ℕ) (row crossing : Elem) → slice_get rows i ≡ Some row → IsConnectionOf rows row kinds.Crossing crossing → row.attrs.orientation ≡ Some (codes "outgoing") → (hand : Hand) × (row.attrs.course ≡ Some (hand_word hand))
+hand_of_row : (rows : List Elem) → HasNoFault rows → (i : ℕ) (row crossing : Elem) → slice_get rows i ≡ Some row →
+    IsConnectionOf rows row kinds.Crossing crossing → row.attrs.orientation ≡ Some (codes "outgoing") →
+    (hand : Hand) × (row.attrs.course ≡ Some (hand_word hand))
 hand_of_row rows h i row crossing is of leaving =
-    let there = require_below rows h i row crossing kinds.Crossing is of attributes.Course (subst (λ (o : Option (List ℕ)). In (required_of kinds.Connection (Some kinds.Crossing) o) attributes.Course) (sym leaving) hand_required) in
+    let there = require_below rows h i row crossing kinds.Crossing is of attributes.Course
+    (subst (λ (o : Option (List ℕ)). In (required_of kinds.Connection (Some kinds.Crossing) o) attributes.Course) (sym leaving) hand_required) in
     let hand = stable (IsHand there.0) (known_hand there.0)
-    (λ bad. h Course row.at (id_of row) [] (record { number = i; row = row; is = is; place = refl; fault = (inr (record { crossing = crossing; of_crossing = of; outgoing = leaving; word = there.0; has = there.1; bad = bad }), refl, refl) })) in
+    (λ bad. h Course row.at (id_of row) [] (record {
+    number = i; row = row; is = is; place = refl; fault = (inr (record {
+    crossing = crossing; of_crossing = of; outgoing = leaving; word = there.0; has = there.1; bad = bad
+    }), refl, refl)
+    })) in
     let (to, e) = hand_of there.0 hand in
     (to, there.1 ∙ ap (λ (v : List ℕ). Some v) e)
 

@@ -22,12 +22,19 @@ pub times_at : (ns : List ℕ) (i : ℕ) → i < length ns → times (take i ns)
 times_at ns i within =
     let it = get_or ns i 0 in
     elim (eqb_tells it it) [
-      | inl e ↦ let one : one_at it it ≡ 1 = rw e.0 refl in omega (arith, sum_by_more_le (one_at it) ns i 0 within, times_sum (take i ns) it, times_sum ns it, one)
+      | inl e ↦ let one : one_at it it ≡ 1 = rw e.0 refl in omega (
+        arith,
+        sum_by_more_le (one_at it) ns i 0 within,
+        times_sum (take i ns) it,
+        times_sum ns it,
+        one,
+      )
       | inr e ↦ absurd (e.1 refl)
     ]
 
 -- one more
-pub counted_more : (ns old now : List ℕ) (i : ℕ) → i < length ns → get_or ns i 0 < length now → CountedUp (take i ns) old now → CountedUp (take (i + 1) ns) old (set now (get_or ns i 0) (get_or now (get_or ns i 0) 0 + 1))
+pub counted_more : (ns old now : List ℕ) (i : ℕ) → i < length ns → get_or ns i 0 < length now → CountedUp (take i ns) old now →
+    CountedUp (take (i + 1) ns) old (set now (get_or ns i 0) (get_or now (get_or ns i 0) 0 + 1))
 counted_more ns old now i within there up = λ m. elim (eqb_tells (get_or ns i 0) m) [
   | inl e ↦
       let one : one_at m (get_or ns i 0) ≡ 1 = rw e.0 refl in
@@ -43,7 +50,8 @@ counted_more ns old now i within there up = λ m. elim (eqb_tells (get_or ns i 0
 ]
 
 -- one less
-pub counted_less : (ns old now : List ℕ) (i : ℕ) → i < length ns → get_or ns i 0 < length now → 1 ≤ get_or now (get_or ns i 0) 0 → CountedUp (take i ns) now old → CountedUp (take (i + 1) ns) (set now (get_or ns i 0) (get_or now (get_or ns i 0) 0 - 1)) old
+pub counted_less : (ns old now : List ℕ) (i : ℕ) → i < length ns → get_or ns i 0 < length now → 1 ≤ get_or now (get_or ns i 0) 0 →
+    CountedUp (take i ns) now old → CountedUp (take (i + 1) ns) (set now (get_or ns i 0) (get_or now (get_or ns i 0) 0 - 1)) old
 counted_less ns old now i within there some up = λ m. elim (eqb_tells (get_or ns i 0) m) [
   | inl e ↦
       let one : one_at m (get_or ns i 0) ≡ 1 = rw e.0 refl in
@@ -59,7 +67,8 @@ counted_less ns old now i within there some up = λ m. elim (eqb_tells (get_or n
 ]
 
 -- while counting down, there is something to take
-pub some_left : (ns old now : List ℕ) (i : ℕ) → i < length ns → times ns (get_or ns i 0) ≤ get_or old (get_or ns i 0) 0 → CountedUp (take i ns) now old → 1 ≤ get_or now (get_or ns i 0) 0
+pub some_left : (ns old now : List ℕ) (i : ℕ) → i < length ns → times ns (get_or ns i 0) ≤ get_or old (get_or ns i 0) 0 → CountedUp (take i ns) now old →
+    1 ≤ get_or now (get_or ns i 0) 0
 some_left ns old now i within enough up = omega (arith, times_at ns i within, up (get_or ns i 0))
 
 -- what is left then is at least one less than what was there

@@ -1,5 +1,6 @@
 -- Counts of false literals: as the trail grows and shrinks, and as clauses are added.
-use Rattle.std.proofs.Common.{◌≡◌, ◌≢◌, ℕ, ◌+◌, ◌-◌, ◌<◌, ◌≤◌, ◌^◌, Bool, true, false, cond, nat_eq, zero, suc, List, [], ◌∷◌, ◌++◌, length, get_or, set, refl, sym, ◌∙◌, ap, subst, inl, inr, arith}
+use Rattle.std.proofs.Common.{◌≡◌, ◌≢◌, ℕ, ◌+◌, ◌-◌, ◌<◌, ◌≤◌, ◌^◌, Bool, true, false, cond, nat_eq, zero, suc, List, [], ◌∷◌, ◌++◌, length, get_or, set, refl}
+use Rattle.std.proofs.Common.{sym, ◌∙◌, ap, subst, inl, inr, arith}
 use Rattle.std.specs.Prelude.{All, Contains}
 use Rattle.std.proofs.lemmas.Bool.Decides.{eqb_tells}
 use Rattle.std.proofs.lemmas.List.Elements.{All-weaker, All-nil, All-cons, All-from_get_or}
@@ -58,16 +59,19 @@ times_before : (cs : Clauses) (l : Literal) (s n : ℕ) → n < s → times (pla
 times_before [] l s n lt = refl
 times_before (c ∷ cs) l s n lt =
     let ne : s ≢ n = omega arith in
-    omega (arith, times_head (is_counted c l) s (places_from (s + 1) cs l) n, cond_none (is_counted c l) (one_at n s) (one_other n s ne), times_before cs l (s + 1) n (omega arith))
+    omega (arith, times_head (is_counted c l) s (places_from (s + 1) cs l) n, cond_none (is_counted c l) (one_at n s) (one_other n s ne), times_before cs l
+    (s + 1) n (omega arith))
 
 times_place : (cs : Clauses) (l : Literal) (s k n : ℕ) → n ≡ s + k → k < length cs → times (places_from s cs l) n ≡ one_counted (get_or cs k []) l
 times_place [] l s k n e within = absurd (omega arith)
 times_place (c ∷ cs) l s zero n e within =
     let same : s ≡ n = omega arith in
-    omega (arith, times_head (is_counted c l) s (places_from (s + 1) cs l) n, cond_one (is_counted c l) (one_at n s) (one_same n s same), times_before cs l (s + 1) n (omega arith))
+    omega (arith, times_head (is_counted c l) s (places_from (s + 1) cs l) n, cond_one (is_counted c l) (one_at n s) (one_same n s same), times_before cs l
+    (s + 1) n (omega arith))
 times_place (c ∷ cs) l s (suc k) n e within =
     let ne : s ≢ n = omega arith in
-    omega (arith, times_head (is_counted c l) s (places_from (s + 1) cs l) n, cond_none (is_counted c l) (one_at n s) (one_other n s ne), times_place cs l (s + 1) k n (omega arith) (omega arith))
+    omega (arith, times_head (is_counted c l) s (places_from (s + 1) cs l) n, cond_none (is_counted c l) (one_at n s) (one_other n s ne), times_place cs l
+    (s + 1) k n (omega arith) (omega arith))
 
 pub times_in : (cs : Clauses) (l : Literal) (n : ℕ) → n < length cs → times (places_from 0 cs l) n ≡ one_counted (get_or cs n []) l
 times_in cs l n within = times_place cs l 0 n n (omega arith) within
@@ -113,7 +117,8 @@ has_cons_other k l c ne = same_when (has (k ∷ c) l) (has c l)
     (λ h. let m = contains_from_has (k ∷ c) l h in tail_of k l c m.0 m.1 m.2 ne)
     (λ h. has_from_contains (k ∷ c) l (contains_later k l c (contains_from_has c l h)))
 
-pub false_more : (trail c : List Literal) (l : Literal) → AreDistinct c → has trail l ≡ false → false_count (has (trail ++ l ∷ [])) c ≡ false_count (has trail) c + one_has c (negate l)
+pub false_more : (trail c : List Literal) (l : Literal) → AreDistinct c → has trail l ≡ false →
+    false_count (has (trail ++ l ∷ [])) c ≡ false_count (has trail) c + one_has c (negate l)
 false_more trail [] l distinct none = refl
 false_more trail (k ∷ c) l distinct none =
     let now = count_cons (has (trail ++ l ∷ [])) k c in
@@ -129,7 +134,8 @@ false_more trail (k ∷ c) l distinct none =
           omega (arith, now, was, rest, a, b, h, g)
       | inr ne ↦
           let a : weight (has (trail ++ l ∷ []) (negate k)) ≡ weight (has trail (negate k)) = ap (λ b. weight b) (has_front trail l (negate k) ne) in
-          let h : one_has (k ∷ c) (negate l) ≡ one_has c (negate l) = ap (λ b. weight b) (has_cons_other k (negate l) c (λ e. ne (ap negate e ∙ negate-negate l))) in
+          let h : one_has (k ∷ c) (negate l) ≡ one_has c (negate l) = ap (λ b. weight b)
+          (has_cons_other k (negate l) c (λ e. ne (ap negate e ∙ negate-negate l))) in
           omega (arith, now, was, rest, a, h)
     ]
 
@@ -141,7 +147,8 @@ named_long : (clauses : Clauses) (l : Literal) (n : ℕ) → n < length clauses 
 named_long clauses l n within some = by_test (is_short (get_or clauses n [])) refl
   where
     by_test : (b : Bool) → is_short (get_or clauses n []) ≡ b → b ≡ false
-    by_test true e = let none : one_counted (get_or clauses n []) l ≡ 0 = ap weight (counted_short (get_or clauses n []) l e) in absurd (omega (arith, none, some, times_in clauses l n within))
+    by_test true e = let none : one_counted (get_or clauses n []) l ≡ 0 = ap weight (counted_short (get_or clauses n []) l e) in absurd
+    (omega (arith, none, some, times_in clauses l n within))
     by_test false e = refl
 
 -- a number of the list is a clause's, which is counted, and stands there once
@@ -151,7 +158,9 @@ record IsNamed (clauses : Clauses) (l : Literal) (n : ℕ) : Type 0 where
   once : times (places_from 0 clauses l) n ≡ one_has (get_or clauses n []) l
 
 named_at : (clauses : Clauses) (l : Literal) (n : ℕ) → n < length clauses → is_short (get_or clauses n []) ≡ false → IsNamed clauses l n
-named_at clauses l n within long = record { within = within; long = long; once = times_in clauses l n within ∙ ap weight (counted_long (get_or clauses n []) l long) }
+named_at clauses l n within long = record {
+    within = within; long = long; once = times_in clauses l n within ∙ ap weight (counted_long (get_or clauses n []) l long)
+    }
 
 all_named : (clauses : Clauses) (l : Literal) → All (IsNamed clauses l) (places_from 0 clauses l)
 all_named clauses l = All-from_get_or (IsNamed clauses l) (places_from 0 clauses l) 0 (λ i low.
@@ -160,35 +169,52 @@ all_named clauses l = All-from_get_or (IsNamed clauses l) (places_from 0 clauses
     named_at clauses l n within (named_long clauses l n within (omega (arith, times_at (places_from 0 clauses l) i low))))
 
 -- what counting up and down needs and leaves
-pub down_enough : (clauses : Clauses) (trail : List Literal) (l : Literal) (counts : List ℕ) → AllDistinct clauses → has trail l ≡ false → AreCounts clauses (has trail) counts → All (λ n. times (places_from 0 clauses (negate l)) n ≤ get_or counts n 0) (places_from 0 clauses (negate l))
-down_enough clauses trail l counts distinct none right = All-weaker (IsNamed clauses (negate l)) (λ n. times (places_from 0 clauses (negate l)) n ≤ get_or counts n 0)
-    (λ n h. omega (arith, right.each n h.within h.long, h.once, false_more trail (get_or clauses n []) l (distinct_at clauses n distinct) none, false_small (has (trail ++ l ∷ [])) clauses n))
+pub down_enough : (clauses : Clauses) (trail : List Literal) (l : Literal) (counts : List ℕ) → AllDistinct clauses → has trail l ≡ false →
+    AreCounts clauses (has trail) counts → All (λ n. times (places_from 0 clauses (negate l)) n ≤ get_or counts n 0) (places_from 0 clauses (negate l))
+down_enough clauses trail l counts distinct none right = All-weaker (IsNamed clauses (negate l))
+    (λ n. times (places_from 0 clauses (negate l)) n ≤ get_or counts n 0)
+    (λ n h. omega (arith, right.each n h.within h.long, h.once, false_more trail (get_or clauses n []) l (distinct_at clauses n distinct) none, false_small
+    (has (trail ++ l ∷ [])) clauses n))
     (places_from 0 clauses (negate l)) (all_named clauses (negate l))
 
-pub counts_down : (clauses : Clauses) (trail : List Literal) (l : Literal) (old new : List ℕ) → AllDistinct clauses → has trail l ≡ false → AreCounts clauses (has trail) old → length new ≡ length old → CountedUp (places_from 0 clauses (negate l)) new old → AreCounts clauses (has (trail ++ l ∷ [])) new
+pub counts_down : (clauses : Clauses) (trail : List Literal) (l : Literal) (old new : List ℕ) → AllDistinct clauses → has trail l ≡ false →
+    AreCounts clauses (has trail) old → length new ≡ length old → CountedUp (places_from 0 clauses (negate l)) new old →
+    AreCounts clauses (has (trail ++ l ∷ [])) new
 counts_down clauses trail l old new distinct none right same up = record {
   size = same ∙ right.size;
-  each = λ n within long. let h = named_at clauses (negate l) n within long in omega (arith, up n, right.each n within long, h.once, false_more trail (get_or clauses n []) l (distinct_at clauses n distinct) none);
+  each = λ n within long. let h = named_at clauses (negate l) n within long in omega
+  (arith, up n, right.each n within long, h.once, false_more trail (get_or clauses n []) l (distinct_at clauses n distinct) none);
 }
 
-pub up_small : (clauses : Clauses) (trail : List Literal) (l : Literal) (counts : List ℕ) → AllDistinct clauses → has trail l ≡ false → words_of clauses ≤ 268435456 → AreCounts clauses (has (trail ++ l ∷ [])) counts → All (λ n. get_or counts n 0 + times (places_from 0 clauses (negate l)) n < 2 ^ 32) (places_from 0 clauses (negate l))
-up_small clauses trail l counts distinct none small right = All-weaker (IsNamed clauses (negate l)) (λ n. get_or counts n 0 + times (places_from 0 clauses (negate l)) n < 2 ^ 32)
-    (λ n h. omega (arith, right.each n h.within h.long, h.once, false_more trail (get_or clauses n []) l (distinct_at clauses n distinct) none, words_at clauses n))
+pub up_small : (clauses : Clauses) (trail : List Literal) (l : Literal) (counts : List ℕ) → AllDistinct clauses → has trail l ≡ false →
+    words_of clauses ≤ 268435456 → AreCounts clauses (has (trail ++ l ∷ [])) counts →
+    All (λ n. get_or counts n 0 + times (places_from 0 clauses (negate l)) n < 2 ^ 32) (places_from 0 clauses (negate l))
+up_small clauses trail l counts distinct none small right = All-weaker (IsNamed clauses (negate l))
+    (λ n. get_or counts n 0 + times (places_from 0 clauses (negate l)) n < 2 ^ 32)
+    (λ n h. omega (arith, right.each n h.within h.long, h.once, false_more trail (get_or clauses n []) l (distinct_at clauses n distinct) none, words_at clauses
+    n))
     (places_from 0 clauses (negate l)) (all_named clauses (negate l))
 
-pub counts_up : (clauses : Clauses) (trail : List Literal) (l : Literal) (old new : List ℕ) → AllDistinct clauses → has trail l ≡ false → AreCounts clauses (has (trail ++ l ∷ [])) old → length new ≡ length old → CountedUp (places_from 0 clauses (negate l)) old new → AreCounts clauses (has trail) new
+pub counts_up : (clauses : Clauses) (trail : List Literal) (l : Literal) (old new : List ℕ) → AllDistinct clauses → has trail l ≡ false →
+    AreCounts clauses (has (trail ++ l ∷ [])) old → length new ≡ length old → CountedUp (places_from 0 clauses (negate l)) old new →
+    AreCounts clauses (has trail) new
 counts_up clauses trail l old new distinct none right same up = record {
   size = same ∙ right.size;
-  each = λ n within long. let h = named_at clauses (negate l) n within long in omega (arith, up n, right.each n within long, h.once, false_more trail (get_or clauses n []) l (distinct_at clauses n distinct) none);
+  each = λ n within long. let h = named_at clauses (negate l) n within long in omega
+  (arith, up n, right.each n within long, h.once, false_more trail (get_or clauses n []) l (distinct_at clauses n distinct) none);
 }
 
 -- one less than before is enough where the literal is counted
-pub one_taken : (clauses : Clauses) (trail : List Literal) (l : Literal) (counts : List ℕ) (n : ℕ) → AllDistinct clauses → has trail l ≡ false → AreCounts clauses (has trail) counts → n < length clauses → is_short (get_or clauses n []) ≡ false → has (get_or clauses n []) (negate l) ≡ true → get_or counts n 0 - 1 + false_count (has (trail ++ l ∷ [])) (get_or clauses n []) ≤ length (get_or clauses n [])
+pub one_taken : (clauses : Clauses) (trail : List Literal) (l : Literal) (counts : List ℕ) (n : ℕ) → AllDistinct clauses → has trail l ≡ false →
+    AreCounts clauses (has trail) counts → n < length clauses → is_short (get_or clauses n []) ≡ false → has (get_or clauses n []) (negate l) ≡ true →
+    get_or counts n 0 - 1 + false_count (has (trail ++ l ∷ [])) (get_or clauses n []) ≤ length (get_or clauses n [])
 one_taken clauses trail l counts n distinct none right within long h =
     let one : one_has (get_or clauses n []) (negate l) ≡ 1 = ap weight h in
-    omega (arith, right.each n within long, one, false_more trail (get_or clauses n []) l (distinct_at clauses n distinct) none, false_small (has (trail ++ l ∷ [])) clauses n)
+    omega (arith, right.each n within long, one, false_more trail (get_or clauses n []) l (distinct_at clauses n distinct) none, false_small
+    (has (trail ++ l ∷ [])) clauses n)
 
-pub named_by : (clauses : Clauses) (l : Literal) (n : ℕ) → n < length clauses → is_short (get_or clauses n []) ≡ false → has (get_or clauses n []) l ≡ true → Contains (places_from 0 clauses l) n
+pub named_by : (clauses : Clauses) (l : Literal) (n : ℕ) → n < length clauses → is_short (get_or clauses n []) ≡ false → has (get_or clauses n []) l ≡ true →
+    Contains (places_from 0 clauses l) n
 named_by clauses l n within long h = named_from clauses l 0 n n (omega arith) within (counted_long (get_or clauses n []) l long ∙ h)
   where
     later : (b : Bool) (m n : ℕ) (ms : List ℕ) → Contains ms n → Contains (cond b (m ∷ ms) ms) n
@@ -198,4 +224,5 @@ named_by clauses l n within long h = named_from clauses l 0 n n (omega arith) wi
     named_from : (cs : Clauses) (l : Literal) (s k n : ℕ) → n ≡ s + k → k < length cs → is_counted (get_or cs k []) l ≡ true → Contains (places_from s cs l) n
     named_from [] l s k n e within h = absurd (omega arith)
     named_from (c ∷ cs) l s zero n e within h = let same : s ≡ n = omega arith in rw h (0, omega arith, same)
-    named_from (c ∷ cs) l s (suc k) n e within h = later (is_counted c l) s n (places_from (s + 1) cs l) (named_from cs l (s + 1) k n (omega arith) (omega arith) h)
+    named_from (c ∷ cs) l s (suc k) n e within h = later (is_counted c l) s n (places_from (s + 1) cs l)
+    (named_from cs l (s + 1) k n (omega arith) (omega arith) h)

@@ -11,7 +11,8 @@ use Rattle.refute_check.specs.declared.tables.Tables.{Tables}
 use Rattle.refute_check.specs.Settled.{AreSettled}
 use Rattle.refute_check.specs.Standing.{IsContradicted}
 
-pub greatest_step : (ls : List Literal) (i : ℕ) (l : Literal) (n v : ℕ) → i < length ls → l ≡ get_or ls i l → v ≡ l.var → n ≡ greatest_in (take i ls) → max n v ≡ greatest_in (take (i + 1) ls)
+pub greatest_step : (ls : List Literal) (i : ℕ) (l : Literal) (n v : ℕ) → i < length ls → l ≡ get_or ls i l → v ≡ l.var → n ≡ greatest_in (take i ls) →
+    max n v ≡ greatest_in (take (i + 1) ls)
 greatest_step ls i l n v within at e h =
     let next : take (i + 1) ls ≡ take i ls ++ l ∷ [] = take_more ls i l within ∙ ap (λ (k : Literal). take i ls ++ k ∷ []) (sym at) in
     omega (arith, greatest_in-append (take i ls) (l ∷ []), ap greatest_in next, h, e)
@@ -29,7 +30,8 @@ pub record Grown (old new : Cnf) (t : Tables) (vars : ℕ) : Type 0 where
 pub grown_none : (f : Cnf) (t : Tables) (vars : ℕ) → AreSettled f.vars f.clauses t → Grown f f t vars
 grown_none f t vars s = record { settled = s; same = refl; from = omega arith; to = omega arith }
 
-pub grown_one : (old mid new : Cnf) (t u : Tables) (vars : ℕ) → mid.vars < vars → Grown old mid t vars → AreSettled (mid.vars + 1) mid.clauses u → new ≡ record mid { vars = mid.vars + 1 } → Grown old new u vars
+pub grown_one : (old mid new : Cnf) (t u : Tables) (vars : ℕ) → mid.vars < vars → Grown old mid t vars → AreSettled (mid.vars + 1) mid.clauses u →
+    new ≡ record mid { vars = mid.vars + 1 } → Grown old new u vars
 grown_one old mid new t u vars low g s e =
     let n : new.vars ≡ mid.vars + 1 = ap (λ (f : Cnf). f.vars) e in
     let cs : new.clauses ≡ mid.clauses = ap (λ (f : Cnf). f.clauses) e in
@@ -46,17 +48,20 @@ grown_all old new t vars le g =
     g.same ∙ ap (λ k. with_vars old k) n
 
 -- a contradiction stays one
-pub contradicted_more : (old new : Cnf) (c : List Literal) (vars : ℕ) → IsContradicted old → new ≡ record old { vars = vars; clauses = old.clauses ++ c ∷ [] } → vars ≤ greatest_var (old.clauses ++ c ∷ []) → IsContradicted new
+pub contradicted_more : (old new : Cnf) (c : List Literal) (vars : ℕ) → IsContradicted old → new ≡ record old { vars = vars; clauses = old.clauses ++ c ∷ [] } →
+    vars ≤ greatest_var (old.clauses ++ c ∷ []) → IsContradicted new
 contradicted_more old new c vars h e le = subst (λ (f : Cnf). IsContradicted f) (sym e) (record {
   falsified = falsifies_more old.clauses (old.clauses ++ c ∷ []) nothing (among_left old.clauses (c ∷ [])) h.falsified;
   greatest = le;
 })
 
-pub kept_both : (old mid new : Cnf) (c : List Literal) (vars : ℕ) → mid ≡ record old { vars = vars } → new ≡ record mid { clauses = mid.clauses ++ c ∷ [] } → new ≡ record old { vars = vars; clauses = old.clauses ++ c ∷ [] }
+pub kept_both : (old mid new : Cnf) (c : List Literal) (vars : ℕ) → mid ≡ record old { vars = vars } → new ≡ record mid { clauses = mid.clauses ++ c ∷ [] } →
+    new ≡ record old { vars = vars; clauses = old.clauses ++ c ∷ [] }
 kept_both old mid new c vars e d = d ∙ ap (λ (f : Cnf). with_clause f c) e
   where
     with_clause : Cnf → List Literal → Cnf
     with_clause f c = record f { clauses = f.clauses ++ c ∷ [] }
 
-pub greatest_kept : (cs : Clauses) (c : List Literal) (vars more : ℕ) → vars ≤ greatest_var cs → more ≤ max vars (greatest_in c) → max vars more ≤ greatest_var (cs ++ c ∷ [])
+pub greatest_kept : (cs : Clauses) (c : List Literal) (vars more : ℕ) → vars ≤ greatest_var cs → more ≤ max vars (greatest_in c) →
+    max vars more ≤ greatest_var (cs ++ c ∷ [])
 greatest_kept cs c vars more le named = omega (arith, greatest_var-append cs (c ∷ []))

@@ -1,5 +1,6 @@
 -- A look at one clause, literal by literal.
-use Rattle.std.proofs.Common.{◌≡◌, ℕ, ◌+◌, ◌<◌, ◌≤◌, ◌⊎◌, false, List, [], ◌∷◌, None, Some, length, take, get_or, refl, sym, ◌∙◌, subst, inl, inr, arith, length-take-le}
+use Rattle.std.proofs.Common.{◌≡◌, ℕ, ◌+◌, ◌<◌, ◌≤◌, ◌⊎◌, false, List, [], ◌∷◌, None, Some, length, take, get_or, refl, sym, ◌∙◌, subst, inl, inr, arith}
+use Rattle.std.proofs.Common.{length-take-le}
 use Rattle.std.specs.Prelude.{All, Contains}
 use Rattle.std.proofs.lemmas.Bool.{both_ways}
 use Rattle.std.proofs.lemmas.List.Elements.{All-contains, All-more, All-weaker, Contains-push, Contains-append_left}
@@ -28,7 +29,8 @@ abbrev pub Seen : LiteralSet → List Literal → Option Literal → Type 0
 Seen set front None = All (IsFalse set) front
 Seen set front (Some u) = SeenOne set front u
 
-pub seen_false : (set : LiteralSet) (c : List Literal) (i : ℕ) (d : Literal) (o : Option Literal) → i < length c → Seen set (take i c) o → IsFalse set (get_or c i d) → Seen set (take (i + 1) c) o
+pub seen_false : (set : LiteralSet) (c : List Literal) (i : ℕ) (d : Literal) (o : Option Literal) → i < length c → Seen set (take i c) o →
+    IsFalse set (get_or c i d) → Seen set (take (i + 1) c) o
 seen_false set c i d None within s h = All-more (IsFalse set) c i d within s h
 seen_false set c i d (Some u) within s h = record {
   among = subst (λ (front : List Literal). Contains front u) (sym (take_more c i d within)) (Contains-append_left (take i c) (get_or c i d ∷ []) u s.among);
@@ -37,7 +39,8 @@ seen_false set c i d (Some u) within s h = record {
   not_false = s.not_false;
 }
 
-pub seen_unset : (set : LiteralSet) (c : List Literal) (i : ℕ) (d : Literal) → i < length c → Seen set (take i c) None → set (get_or c i d) ≡ false → set (negate (get_or c i d)) ≡ false → SeenOne set (take (i + 1) c) (get_or c i d)
+pub seen_unset : (set : LiteralSet) (c : List Literal) (i : ℕ) (d : Literal) → i < length c → Seen set (take i c) None → set (get_or c i d) ≡ false →
+    set (negate (get_or c i d)) ≡ false → SeenOne set (take (i + 1) c) (get_or c i d)
 seen_unset set c i d within s h k = record {
   among = subst (λ (front : List Literal). Contains front (get_or c i d)) (sym (take_more c i d within)) (Contains-push (take i c) (get_or c i d));
   others = All-more (IsLastOr set (get_or c i d)) c i d within (All-weaker (IsFalse set) (IsLastOr set (get_or c i d)) (λ x e. inr e) (take i c) s) (inl refl);
@@ -46,7 +49,8 @@ seen_unset set c i d within s h k = record {
 }
 
 -- two literals that aren't false
-pub quiet_two : (set : LiteralSet) (c : List Literal) (i : ℕ) (u d : Literal) → AreDistinct c → i < length c → SeenOne set (take i c) u → set (negate (get_or c i d)) ≡ false → IsQuiet set set c
+pub quiet_two : (set : LiteralSet) (c : List Literal) (i : ℕ) (u d : Literal) → AreDistinct c → i < length c → SeenOne set (take i c) u →
+    set (negate (get_or c i d)) ≡ false → IsQuiet set set c
 quiet_two set c i u d distinct within s not_false =
     let one : Contains c u = (s.among.0, low, at_u) in
     record {

@@ -1,5 +1,6 @@
 -- Clauses of two and of three literals: what stands beside a literal, and what a look at it says of the clause.
-use Rattle.std.proofs.Common.{◌≡◌, ℕ, ◌+◌, ◌<◌, ◌⊎◌, Bool, true, false, cond, zero, suc, List, [], ◌∷◌, ◌++◌, length, get_or, take, refl, sym, ◌∙◌, ap, subst, inl, inr, arith}
+use Rattle.std.proofs.Common.{◌≡◌, ℕ, ◌+◌, ◌<◌, ◌⊎◌, Bool, true, false, cond, zero, suc, List, [], ◌∷◌, ◌++◌, length, get_or, take, refl, sym, ◌∙◌, ap, subst}
+use Rattle.std.proofs.Common.{inl, inr, arith}
 use Rattle.std.specs.Prelude.{All, Contains}
 use Rattle.std.proofs.lemmas.Bool.{both_ways}
 use Rattle.std.proofs.lemmas.List.{get_or_default}
@@ -52,7 +53,8 @@ two_parts a b l h o is = elim (same_literal_or a l) [
   | inr ne ↦
       let at : a ≡ o = sym (is ∙ other_last a b l ne) in
       record {
-        only = All-cons (IsOneOf l (beside o o)) a (b ∷ []) (inr (inl at)) (All-cons (IsOneOf l (beside o o)) b [] (inl (last_is b l (later_has a l (b ∷ []) ne h))) (All-nil (IsOneOf l (beside o o))));
+        only = All-cons (IsOneOf l (beside o o)) a (b ∷ []) (inr (inl at)) (All-cons (IsOneOf l (beside o o)) b []
+            (inl (last_is b l (later_has a l (b ∷ []) ne h))) (All-nil (IsOneOf l (beside o o))));
         first = subst (λ (k : Literal). Contains (a ∷ b ∷ []) k) at (contains_first a (b ∷ []));
         last = subst (λ (k : Literal). Contains (a ∷ b ∷ []) k) at (contains_first a (b ∷ []));
       }
@@ -68,7 +70,8 @@ first_of a b c l o is = elim (same_literal_or a l) [
 last_of : (a b c l o : Literal) → o ≡ other_of c b l → Contains (a ∷ b ∷ c ∷ []) o
 last_of a b c l o is = elim (same_literal_or c l) [
   | inl e ↦ subst (λ (k : Literal). Contains (a ∷ b ∷ c ∷ []) k) (sym (is ∙ other_first c b l e)) (contains_later a b (b ∷ c ∷ []) (contains_first b (c ∷ [])))
-  | inr ne ↦ subst (λ (k : Literal). Contains (a ∷ b ∷ c ∷ []) k) (sym (is ∙ other_last c b l ne)) (contains_later a c (b ∷ c ∷ []) (contains_later b c (c ∷ []) (contains_first c [])))
+  | inr ne ↦ subst (λ (k : Literal). Contains (a ∷ b ∷ c ∷ []) k) (sym (is ∙ other_last c b l ne))
+      (contains_later a c (b ∷ c ∷ []) (contains_later b c (c ∷ []) (contains_first c [])))
 ]
 
 middle_is : (a b c l : Literal) → has (a ∷ b ∷ c ∷ []) l ≡ true → (a ≡ l → ⊥) → (c ≡ l → ⊥) → b ≡ l
@@ -92,7 +95,8 @@ is_middle a b c l f g h fis gis = elim (same_literal_or a l) [
   ]
 ]
 
-three_parts : (a b c l : Literal) → has (a ∷ b ∷ c ∷ []) l ≡ true → (f g : Literal) → f ≡ other_of a b l → g ≡ other_of c b l → IsRest (a ∷ b ∷ c ∷ []) l (beside f g)
+three_parts : (a b c l : Literal) → has (a ∷ b ∷ c ∷ []) l ≡ true → (f g : Literal) → f ≡ other_of a b l → g ≡ other_of c b l →
+    IsRest (a ∷ b ∷ c ∷ []) l (beside f g)
 three_parts a b c l h f g fis gis = record {
   only = All-cons (IsOneOf l (beside f g)) a (b ∷ c ∷ []) (is_first a b l f g fis)
       (All-cons (IsOneOf l (beside f g)) b (c ∷ []) (is_middle a b c l f g h fis gis)
@@ -112,8 +116,13 @@ short_parts (a ∷ b ∷ c ∷ d ∷ rest) l s h = cc
 short_more : (c : List Literal) (cs : Clauses) (l : Literal) (rest : Rest) → IsShort cs l rest → IsShort (c ∷ cs) l rest
 short_more c cs l rest s = record { clause = s.clause; among = let m = s.among in let lt = m.1 in (suc m.0, omega arith, m.2); parts = s.parts }
 
-short_here : (c : List Literal) (cs : Clauses) (l : Literal) (h s : Bool) → has c l ≡ h → is_short c ≡ s → All (IsShort (c ∷ cs) l) (cond h (cond s (rest_of c l ∷ []) []) [])
-short_here c cs l true true h s = All-cons (IsShort (c ∷ cs) l) (rest_of c l) [] (record { clause = c; among = (0, omega arith, refl); parts = short_parts c l s h }) (All-nil (IsShort (c ∷ cs) l))
+short_here : (c : List Literal) (cs : Clauses) (l : Literal) (h s : Bool) → has c l ≡ h → is_short c ≡ s →
+    All (IsShort (c ∷ cs) l) (cond h (cond s (rest_of c l ∷ []) []) [])
+short_here c cs l true true h s = All-cons (IsShort (c ∷ cs) l) (rest_of c l) [] (record {
+  clause = c;
+  among = (0, omega arith, refl);
+  parts = short_parts c l s h;
+}) (All-nil (IsShort (c ∷ cs) l))
 short_here c cs l true false h s = All-nil (IsShort (c ∷ cs) l)
 short_here c cs l false s h e = All-nil (IsShort (c ∷ cs) l)
 
@@ -127,13 +136,16 @@ in_here c l true true h s = (0, omega arith, refl)
 in_here c l true false h s = cc
 in_here c l false s h e = cc
 
-pub short_among : (cs : Clauses) (l : Literal) (k : ℕ) → k < length cs → is_short (get_or cs k []) ≡ true → has (get_or cs k []) l ≡ true → Contains (shorts_from cs l) (rest_of (get_or cs k []) l)
+pub short_among : (cs : Clauses) (l : Literal) (k : ℕ) → k < length cs → is_short (get_or cs k []) ≡ true → has (get_or cs k []) l ≡ true →
+    Contains (shorts_from cs l) (rest_of (get_or cs k []) l)
 short_among [] l k within s h = absurd (omega arith)
 short_among (c ∷ cs) l zero within s h = Contains-append_left (shorts_in c l) (shorts_from cs l) (rest_of c l) (in_here c l (has c l) (is_short c) h s)
-short_among (c ∷ cs) l (suc k) within s h = Contains-append_right (shorts_in c l) (shorts_from cs l) (rest_of (get_or cs k []) l) (short_among cs l k (omega arith) s h)
+short_among (c ∷ cs) l (suc k) within s h = Contains-append_right (shorts_in c l) (shorts_from cs l) (rest_of (get_or cs k []) l)
+    (short_among cs l k (omega arith) s h)
 
 -- their variables are there
-pub short_there : (vars : ℕ) (clauses : Clauses) (l : Literal) (rest : Rest) → AllThere vars clauses → IsShort clauses l rest → All (IsThere vars) (rest.first ∷ rest.last ∷ [])
+pub short_there : (vars : ℕ) (clauses : Clauses) (l : Literal) (rest : Rest) → AllThere vars clauses → IsShort clauses l rest →
+    All (IsThere vars) (rest.first ∷ rest.last ∷ [])
 short_there vars clauses l rest there s =
     let n = s.among.0 in
     let within : n < length clauses = s.among.1 in
@@ -150,19 +162,22 @@ pub both_false : (set : LiteralSet) (f g : Literal) → IsFalse set f → IsFals
 both_false set f g hf hg = All-cons (IsFalse set) f (g ∷ []) hf (All-cons (IsFalse set) g [] hg (All-nil (IsFalse set)))
 
 -- of the clause in which they stand beside a false literal
-all_parts : (set : LiteralSet) (c : List Literal) (l : Literal) (rest : Rest) (P : Literal → Type 0) → IsRest c l rest → P l → P rest.first → P rest.last → All P c
+all_parts : (set : LiteralSet) (c : List Literal) (l : Literal) (rest : Rest) (P : Literal → Type 0) → IsRest c l rest → P l → P rest.first → P rest.last →
+    All P c
 all_parts set c l rest P parts hl hf hg = All-weaker (IsOneOf l rest) P (λ k h. elim h [
   | inl e ↦ subst P (sym e) hl
   | inr o ↦ elim o [ inl e ↦ subst P (sym e) hf | inr e ↦ subst P (sym e) hg ]
 ]) c parts.only
 
-pub rest_falsified : (set : LiteralSet) (c : List Literal) (l : Literal) (rest : Rest) → IsRest c l rest → IsFalse set l → All (IsFalse set) (both rest) → All (IsFalse set) c
+pub rest_falsified : (set : LiteralSet) (c : List Literal) (l : Literal) (rest : Rest) → IsRest c l rest → IsFalse set l → All (IsFalse set) (both rest) →
+    All (IsFalse set) c
 rest_falsified set c l rest parts hl all = all_parts set c l rest (IsFalse set) parts hl (all 0 rest.first (omega arith)) (all 1 rest.last (omega arith))
 
 either : (f g u : Literal) (c : List Literal) → Contains c f → Contains c g → Contains (f ∷ g ∷ []) u → Contains c u
 either f g u c hf hg m = All-contains (Contains c) (f ∷ g ∷ []) u (All-cons (Contains c) f (g ∷ []) hf (All-cons (Contains c) g [] hg (All-nil (Contains c)))) m
 
-pub rest_unit : (set : LiteralSet) (c : List Literal) (l : Literal) (rest : Rest) (u : Literal) → IsRest c l rest → IsFalse set l → IsUnsetUnit set (both rest) u → IsUnsetUnit set c u
+pub rest_unit : (set : LiteralSet) (c : List Literal) (l : Literal) (rest : Rest) (u : Literal) → IsRest c l rest → IsFalse set l →
+    IsUnsetUnit set (both rest) u → IsUnsetUnit set c u
 rest_unit set c l rest u parts hl one =
     let unit = one.unit in
     record {
@@ -174,49 +189,62 @@ rest_unit set c l rest u parts hl one =
       not_false = one.not_false;
     }
 
-pub rest_quiet : (set : LiteralSet) (c : List Literal) (l : Literal) (rest : Rest) → IsRest c l rest → IsFalse set l → IsQuiet set set (both rest) → IsQuiet set set c
+pub rest_quiet : (set : LiteralSet) (c : List Literal) (l : Literal) (rest : Rest) → IsRest c l rest → IsFalse set l → IsQuiet set set (both rest) →
+    IsQuiet set set c
 rest_quiet set c l rest parts hl q = record {
   closed = λ m unit.
       let hf = All-contains (IsLastOr set m) c rest.first unit.others parts.first in
       let hg = All-contains (IsLastOr set m) c rest.last unit.others parts.last in
       elim (All-contains (IsOneOf l rest) c m parts.only unit.among) [
         | inl e ↦
-            let no : (k : Literal) → IsLastOr set m k → IsFalse set k = λ k h. elim h [ inl s ↦ subst (λ (x : Literal). IsFalse set x) (sym (s ∙ e)) hl | inr f ↦ f ] in
+            let no : (k : Literal) → IsLastOr set m k → IsFalse set k = λ k h. elim h
+            [ inl s ↦ subst (λ (x : Literal). IsFalse set x) (sym (s ∙ e)) hl | inr f ↦ f ] in
             absurd (q.unfalsified (both_false set rest.first rest.last (no rest.first hf) (no rest.last hg)))
         | inr o ↦ q.closed m (record {
           among = elim o [
             | inl e ↦ subst (λ (k : Literal). Contains (both rest) k) (sym e) (contains_first rest.first (rest.last ∷ []))
-            | inr e ↦ subst (λ (k : Literal). Contains (both rest) k) (sym e) (contains_later rest.first rest.last (rest.last ∷ []) (contains_first rest.last []))
+            | inr e ↦ subst (λ (k : Literal). Contains (both rest) k) (sym e) (contains_later rest.first rest.last (rest.last ∷ [])
+                (contains_first rest.last []))
           ];
           others = All-cons (IsLastOr set m) rest.first (rest.last ∷ []) hf (All-cons (IsLastOr set m) rest.last [] hg (All-nil (IsLastOr set m)));
         })
       ];
-  unfalsified = λ all. q.unfalsified (both_false set rest.first rest.last (All-contains (IsFalse set) c rest.first all parts.first) (All-contains (IsFalse set) c rest.last all parts.last));
+  unfalsified = λ all. q.unfalsified (both_false set rest.first rest.last (All-contains (IsFalse set) c rest.first all parts.first)
+      (All-contains (IsFalse set) c rest.last all parts.last));
 }
 
 -- what a look leaves
-pub quiet_beside : (trail : List Literal) (l : Literal) (rest : Rest) → IsFalse (has trail) l → IsQuiet (has trail) (has trail) (both rest) → IsRestQuiet l trail trail rest
+pub quiet_beside : (trail : List Literal) (l : Literal) (rest : Rest) → IsFalse (has trail) l → IsQuiet (has trail) (has trail) (both rest) →
+    IsRestQuiet l trail trail rest
 quiet_beside trail l rest hl q = λ c parts done within. quiet_part done (has trail) c within (rest_quiet (has trail) c l rest parts hl q)
 
-pub marked_beside : (trail : List Literal) (l : Literal) (rest : Rest) (u : Literal) → IsFalse (has trail) l → IsUnsetUnit (has trail) (both rest) u → IsRestQuiet l trail (trail ++ u ∷ []) rest
+pub marked_beside : (trail : List Literal) (l : Literal) (rest : Rest) (u : Literal) → IsFalse (has trail) l → IsUnsetUnit (has trail) (both rest) u →
+    IsRestQuiet l trail (trail ++ u ∷ []) rest
 marked_beside trail l rest u hl one = λ c parts done within. quiet_marked trail c u done (rest_unit (has trail) c l rest u parts hl one) within
 
-pub still_beside : (l : Literal) (rest : Rest) (first old new last : List Literal) → Includes (has old) (has first) → Includes (has last) (has new) → IsRestQuiet l old new rest → IsRestQuiet l first last rest
-still_beside l rest first old new last before after q = λ c parts done within. quiet_more done (has new) (has last) c after (q c parts done (λ k h. before k (within k h)))
+pub still_beside : (l : Literal) (rest : Rest) (first old new last : List Literal) → Includes (has old) (has first) → Includes (has last) (has new) →
+    IsRestQuiet l old new rest → IsRestQuiet l first last rest
+still_beside l rest first old new last before after q = λ c parts done within. quiet_more done (has new) (has last) c after
+    (q c parts done (λ k h. before k (within k h)))
 
-pub falsified_beside : (clauses : Clauses) (set : LiteralSet) (l : Literal) (rest : Rest) → IsShort clauses l rest → IsFalse set l → All (IsFalse set) (both rest) → Falsified clauses set
+pub falsified_beside : (clauses : Clauses) (set : LiteralSet) (l : Literal) (rest : Rest) → IsShort clauses l rest → IsFalse set l →
+    All (IsFalse set) (both rest) → Falsified clauses set
 falsified_beside clauses set l rest s hl all = record { clause = s.clause; among = s.among; each = rest_falsified set s.clause l rest s.parts hl all }
 
 -- how far a list of them was looked at
-pub record LookedBeside (vars : ℕ) (clauses : Clauses) (l : Literal) (rests : List Rest) (old : List Literal) (truth : List Bool) (new : List Literal) : Type 0 where
+pub record LookedBeside (vars : ℕ) (clauses : Clauses) (l : Literal) (rests : List Rest) (old : List Literal) (truth : List Bool) (new : List Literal) : Type
+    0 where
   pub table : IsTrail vars truth new
   pub grows : Grows clauses old new
   pub quiet : All (IsRestQuiet l old new) rests
 
-pub beside_none : (vars : ℕ) (clauses : Clauses) (l : Literal) (truth : List Bool) (trail : List Literal) → IsTrail vars truth trail → LookedBeside vars clauses l [] trail truth trail
+pub beside_none : (vars : ℕ) (clauses : Clauses) (l : Literal) (truth : List Bool) (trail : List Literal) → IsTrail vars truth trail →
+    LookedBeside vars clauses l [] trail truth trail
 beside_none vars clauses l truth trail t = record { table = t; grows = grows_none clauses trail; quiet = All-nil (IsRestQuiet l trail trail) }
 
-pub beside_one : (vars : ℕ) (clauses : Clauses) (l : Literal) (rests : List Rest) (old : List Literal) (truth then : List Bool) (mid new : List Literal) (i : ℕ) (rest : Rest) → i < length rests → rest ≡ get_or rests i rest → LookedBeside vars clauses l (take i rests) old truth mid → IsTrail vars then new → Grows clauses mid new → IsRestQuiet l mid new rest → LookedBeside vars clauses l (take (i + 1) rests) old then new
+pub beside_one : (vars : ℕ) (clauses : Clauses) (l : Literal) (rests : List Rest) (old : List Literal) (truth then : List Bool) (mid new : List Literal) (i : ℕ)
+    (rest : Rest) → i < length rests → rest ≡ get_or rests i rest → LookedBeside vars clauses l (take i rests) old truth mid → IsTrail vars then new →
+    Grows clauses mid new → IsRestQuiet l mid new rest → LookedBeside vars clauses l (take (i + 1) rests) old then new
 beside_one vars clauses l rests old truth then mid new i rest within at s t g q = record {
   table = t;
   grows = grows_more clauses old mid new s.grows g;

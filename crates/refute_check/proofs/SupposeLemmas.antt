@@ -16,20 +16,25 @@ use Rattle.refute_check.proofs.GrowthLemmas.{quiet_more}
 use Rattle.refute_check.proofs.AdvanceLemmas.{same_front}
 
 -- with the assumptions, and before propagation
-pub assumed_counted : (vars : ℕ) (clauses : Clauses) (truth then : List Bool) (old mid : List Literal) (counts : List ℕ) (lits : List Literal) → IsCountedTo vars clauses truth old counts (length old) → Assumes lits old mid → IsTrail vars then mid → IsCountedTo vars clauses then mid counts (length old)
+pub assumed_counted : (vars : ℕ) (clauses : Clauses) (truth then : List Bool) (old mid : List Literal) (counts : List ℕ) (lits : List Literal) →
+    IsCountedTo vars clauses truth old counts (length old) → Assumes lits old mid → IsTrail vars then mid →
+    IsCountedTo vars clauses then mid counts (length old)
 assumed_counted vars clauses truth then old mid counts lits c a t = record {
   table = t;
   within = a.longer;
   right = subst (λ (ls : List Literal). AreCounts clauses (has ls) counts) (take_all (length old) old (omega arith) ∙ sym a.front) c.right;
 }
 
-pub assumed_quiet : (clauses : Clauses) (old mid lits : List Literal) → AreQuiet clauses old (length old) → Assumes lits old mid → AreQuiet clauses mid (length old)
+pub assumed_quiet : (clauses : Clauses) (old mid lits : List Literal) → AreQuiet clauses old (length old) → Assumes lits old mid →
+    AreQuiet clauses mid (length old)
 assumed_quiet clauses old mid lits q a =
     subst (λ (ls : List Literal). All (IsQuiet (has ls) (has mid)) clauses) (take_all (length old) old (omega arith) ∙ sym a.front)
-    (All-weaker (IsQuiet (has (take (length old) old)) (has old)) (IsQuiet (has (take (length old) old)) (has mid)) (λ c h. quiet_more (has (take (length old) old)) (has old) (has mid) c a.keeps h) clauses q)
+    (All-weaker (IsQuiet (has (take (length old) old)) (has old)) (IsQuiet (has (take (length old) old)) (has mid))
+    (λ c h. quiet_more (has (take (length old) old)) (has old) (has mid) c a.keeps h) clauses q)
 
 -- an assumption is false already
-pub clash_falsifies : (clauses : Clauses) (trail lits : List Literal) → ((l : Literal) → IsIn (has trail) l → Closure clauses nothing l) → ((l : Literal) → IsIn (has trail) l → HasReason clauses (has trail) l) → HasTrueLiteral lits trail → Falsifies clauses (negations lits)
+pub clash_falsifies : (clauses : Clauses) (trail lits : List Literal) → ((l : Literal) → IsIn (has trail) l → Closure clauses nothing l) →
+    ((l : Literal) → IsIn (has trail) l → HasReason clauses (has trail) l) → HasTrueLiteral lits trail → Falsifies clauses (negations lits)
 clash_falsifies clauses trail lits within reasoned clash =
     let r = reasoned clash.literal clash.true_now in
     record {
@@ -42,30 +47,37 @@ clash_falsifies clauses trail lits within reasoned clash =
     }
 
 -- what is on the trail after propagation follows of the assumptions
-pub supposed_within : (clauses : Clauses) (old mid new lits : List Literal) → ((l : Literal) → IsIn (has old) l → Closure clauses nothing l) → Assumes lits old mid → Grows clauses mid new → (l : Literal) → IsIn (has new) l → Closure clauses (negations lits) l
+pub supposed_within : (clauses : Clauses) (old mid new lits : List Literal) → ((l : Literal) → IsIn (has old) l → Closure clauses nothing l) →
+    Assumes lits old mid → Grows clauses mid new → (l : Literal) → IsIn (has new) l → Closure clauses (negations lits) l
 supposed_within clauses old mid new lits within a g l h = closure_again clauses (negations lits) (has mid) l
     (λ k m. elim (a.only k m) [ inl o ↦ closure_any clauses (negations lits) k (within k o) | inr n ↦ closure_start clauses (negations lits) k n ])
     (g.within l h)
 
-pub supposed_falsifies : (clauses : Clauses) (old mid new lits : List Literal) → ((l : Literal) → IsIn (has old) l → Closure clauses nothing l) → Assumes lits old mid → Grows clauses mid new → Falsified clauses (has new) → Falsifies clauses (negations lits)
+pub supposed_falsifies : (clauses : Clauses) (old mid new lits : List Literal) → ((l : Literal) → IsIn (has old) l → Closure clauses nothing l) →
+    Assumes lits old mid → Grows clauses mid new → Falsified clauses (has new) → Falsifies clauses (negations lits)
 supposed_falsifies clauses old mid new lits within a g f = record {
   clause = f.clause;
   among = f.among;
-  each = All-weaker (IsFalse (has new)) (λ k. Closure clauses (negations lits) (negate k)) (λ k h. supposed_within clauses old mid new lits within a g (negate k) h) f.clause f.each;
+  each = All-weaker (IsFalse (has new)) (λ k. Closure clauses (negations lits) (negate k))
+      (λ k h. supposed_within clauses old mid new lits within a g (negate k) h) f.clause f.each;
 }
 
 -- quiet clauses make a closed set that falsifies none
 pub closed_when_quiet : (clauses : Clauses) (trail : List Literal) → AreQuiet clauses trail (length trail) → IsClosed clauses (has trail)
 closed_when_quiet clauses trail q = λ c among l unit.
-    let here : IsQuiet (has (take (length trail) trail)) (has trail) c = All-contains (IsQuiet (has (take (length trail) trail)) (has trail)) clauses c q among in
+    let here : IsQuiet (has (take (length trail) trail)) (has trail) c = All-contains (IsQuiet (has (take (length trail) trail)) (has trail)) clauses c q
+    among in
     here.closed l (subst (λ (ls : List Literal). IsUnit (has ls) c l) (sym (take_all (length trail) trail (omega arith))) unit)
 
 pub unfalsified_when_quiet : (clauses : Clauses) (trail : List Literal) → AreQuiet clauses trail (length trail) → Falsified clauses (has trail) → ⊥
 unfalsified_when_quiet clauses trail q f =
-    let here : IsQuiet (has (take (length trail) trail)) (has trail) f.clause = All-contains (IsQuiet (has (take (length trail) trail)) (has trail)) clauses f.clause q f.among in
+    let here : IsQuiet (has (take (length trail) trail)) (has trail) f.clause = All-contains (IsQuiet (has (take (length trail) trail)) (has trail)) clauses
+    f.clause q f.among in
     here.unfalsified (subst (λ (ls : List Literal). All (IsFalse (has ls)) f.clause) (sym (take_all (length trail) trail (omega arith))) f.each)
 
-pub supposed_closure : (clauses : Clauses) (old mid new lits : List Literal) → ((l : Literal) → IsIn (has old) l → Closure clauses nothing l) → Assumes lits old mid → Includes (has mid) (negations lits) → Grows clauses mid new → AreQuiet clauses new (length new) → IsClosure clauses (negations lits) (has new)
+pub supposed_closure : (clauses : Clauses) (old mid new lits : List Literal) → ((l : Literal) → IsIn (has old) l → Closure clauses nothing l) →
+    Assumes lits old mid → Includes (has mid) (negations lits) → Grows clauses mid new → AreQuiet clauses new (length new) →
+    IsClosure clauses (negations lits) (has new)
 supposed_closure clauses old mid new lits within a all g q = record {
   closed = closed_when_quiet clauses new q;
   includes = λ l h. g.keeps l (all l h);
@@ -81,7 +93,10 @@ pub written_back : (n : ℕ) (xs : List Bool) (ys : List Bool) → length xs ≡
 written_back n xs ys e = take_at xs ys n e
 
 -- the tables after assumptions were taken back
-pub settled_again : (vars : ℕ) (clauses : Clauses) (old new : Tables) (mid : List Literal) (level : ℕ) → level ≡ length old.trail.items → AreSettled vars clauses old → new.occurrences.items ≡ old.occurrences.items → IsCountedTo vars clauses new.truth.items new.trail.items new.counts.items level → new.trail.items ≡ take level mid → take (length old.trail.items) mid ≡ old.trail.items → AreSettled vars clauses new
+pub settled_again : (vars : ℕ) (clauses : Clauses) (old new : Tables) (mid : List Literal) (level : ℕ) → level ≡ length old.trail.items →
+    AreSettled vars clauses old → new.occurrences.items ≡ old.occurrences.items →
+    IsCountedTo vars clauses new.truth.items new.trail.items new.counts.items level → new.trail.items ≡ take level mid →
+    take (length old.trail.items) mid ≡ old.trail.items → AreSettled vars clauses new
 settled_again vars clauses old new mid level e s same counted rest front =
     let is : old.trail.items ≡ new.trail.items = sym (rest ∙ ap (λ n. take n mid) e ∙ front) in
     record {

@@ -1,5 +1,6 @@
 -- What certified values say of values that meet the log, and how they are certified place by place.
-use Rattle.std.proofs.Common.{◌≡◌, ℕ, zero, suc, ◌+◌, ◌<◌, ◌≤◌, ◌⊎◌, true, List, [], ◌∷◌, ◌++◌, take, refl, sym, ◌∙◌, ap, subst, inl, inr, arith, append-nil, append_assoc}
+use Rattle.std.proofs.Common.{◌≡◌, ℕ, zero, suc, ◌+◌, ◌<◌, ◌≤◌, ◌⊎◌, true, List, [], ◌∷◌, ◌++◌, take, refl, sym, ◌∙◌, ap, subst, inl, inr, arith, append-nil}
+use Rattle.std.proofs.Common.{append_assoc}
 use Rattle.std.specs.Prelude.{All, Contains, Option, Some, None, slice_get, flat_map}
 use Rattle.std.proofs.lemmas.Bool.{cases_order}
 use Rattle.std.proofs.lemmas.Option.{none-some, same_Some}
@@ -22,12 +23,14 @@ use Rattle.refute_log.specs.Certified.{IsOutOfReach, IsCertifiedLeast, IsLeastAt
 
 -- ---- values that meet a log that derives
 
-pub refuted_holds : (a : Assignment) (lines : Lines) → Derives lines → SatisfiesAll a (flat_map given lines) → (c : List Literal) → Contains lines (Refuted c) → Satisfies a c
+pub refuted_holds : (a : Assignment) (lines : Lines) → Derives lines → SatisfiesAll a (flat_map given lines) → (c : List Literal) → Contains lines (Refuted c) →
+    Satisfies a c
 refuted_holds a lines derives formula c there =
     All-contains (Satisfies a) (flat_map refuted lines) c (each_from_satisfies a (flat_map refuted lines) (derived_hold a lines derives formula).1)
     (Contains-flat_map refuted lines (Refuted c) c there (0, omega arith, refl))
 
-pub reached : (greatest : Criterion → ℕ) (lines : Lines) (w : Values) (m : MeetsLog lines w) (c : Criterion) (k : ℕ) (l : Literal) → SaysAtLeast greatest lines c k l → truth m.assignment l ≡ true → k ≤ value_of w c
+pub reached : (greatest : Criterion → ℕ) (lines : Lines) (w : Values) (m : MeetsLog lines w) (c : Criterion) (k : ℕ) (l : Literal) →
+    SaysAtLeast greatest lines c k l → truth m.assignment l ≡ true → k ≤ value_of w c
 reached greatest lines w m c k l s t =
     let e : truth m.assignment (positive_of s.variable.0) ≡ true = ap (truth m.assignment) (sym s.is) ∙ t in
     (m.bounds c k s.variable s.told).0 e
@@ -45,10 +48,12 @@ agrees lines w m derives = record {
   bounds = λ c k x told. (m.bounds c k x told).0;
 }
 
-reached_by : (greatest : Criterion → ℕ) (lines : Lines) (w : Values) (m : Agrees lines w) (c : Criterion) (k : ℕ) (l : Literal) → SaysAtLeast greatest lines c k l → truth m.assignment l ≡ true → k ≤ value_of w c
+reached_by : (greatest : Criterion → ℕ) (lines : Lines) (w : Values) (m : Agrees lines w) (c : Criterion) (k : ℕ) (l : Literal) →
+    SaysAtLeast greatest lines c k l → truth m.assignment l ≡ true → k ≤ value_of w c
 reached_by greatest lines w m c k l s t = m.bounds c k s.variable s.told (ap (truth m.assignment) (sym s.is) ∙ t)
 
-same_value : (v w : Values) (held : List Criterion) (c : Criterion) → All (λ b. value_of v b ≡ value_of w b) held → Contains held c → value_of v c ≡ value_of w c
+same_value : (v w : Values) (held : List Criterion) (c : Criterion) → All (λ b. value_of v b ≡ value_of w b) held → Contains held c →
+    value_of v c ≡ value_of w c
 same_value v w held c all there = All-contains (λ b. value_of v b ≡ value_of w b) held c all there
 
 -- with equal values before it and less at c, no bound out of reach is reached
@@ -65,13 +70,16 @@ none_less : (greatest : Criterion → ℕ) (lines : Lines) (v w : Values) → Ag
 none_less greatest lines v w m earlier c same least less =
     let r = least (omega arith) in
     let some = some_from_satisfies m.assignment r.clause (m.refuted r.clause r.among) in
-    out_of_reach greatest lines v w m earlier c some.1 same less (All-contains (IsOutOfReach greatest lines earlier c v) r.clause some.1 r.each (some.0, some.2, some.3)) some.4
+    out_of_reach greatest lines v w m earlier c some.1 same less (All-contains (IsOutOfReach greatest lines earlier c v) r.clause some.1 r.each
+    (some.0, some.2, some.3)) some.4
 
 none_better_behind : (greatest : Criterion → ℕ) (lines : Lines) (v w : Values) → Agrees lines w → (earlier rest : List Criterion) →
-    ((i : ℕ) (c : Criterion) → slice_get rest i ≡ Some c → IsCertifiedLeast greatest lines (earlier ++ take i rest) c v) → All (λ b. value_of w b ≡ value_of v b) earlier → Better rest w v → ⊥
+    ((i : ℕ) (c : Criterion) → slice_get rest i ≡ Some c → IsCertifiedLeast greatest lines (earlier ++ take i rest) c v) →
+    All (λ b. value_of w b ≡ value_of v b) earlier → Better rest w v → ⊥
 none_better_behind greatest lines v w m earlier [] least same b = b
 none_better_behind greatest lines v w m earlier (c ∷ rest) least same (inl less) =
-    none_less greatest lines v w m earlier c same (subst (λ (cs : List Criterion). IsCertifiedLeast greatest lines cs c v) (append-nil earlier) (least 0 c refl)) less
+    none_less greatest lines v w m earlier c same (subst (λ (cs : List Criterion). IsCertifiedLeast greatest lines cs c v) (append-nil earlier)
+    (least 0 c refl)) less
 none_better_behind greatest lines v w m earlier (c ∷ rest) least same (inr b) =
     none_better_behind greatest lines v w m (earlier ++ c ∷ []) rest
     (λ i d at. subst (λ (cs : List Criterion). IsCertifiedLeast greatest lines cs d v) (sym (append_assoc earlier (c ∷ []) (take i rest))) (least (suc i) d at))
@@ -92,13 +100,15 @@ of_front (d ∷ order) (suc s) (suc i) c e =
     let f = of_front order s i c e in
     record { low = let low = f.low in omega arith; at = f.at; same = ap (λ (cs : List Criterion). d ∷ cs) f.same }
 
-pub none_better_agrees : (greatest : Criterion → ℕ) (lines : Lines) (order : List Criterion) (v w : Values) (s : ℕ) → Agrees lines w → Certifies greatest lines order v s → Better (take s order) w v → ⊥
+pub none_better_agrees : (greatest : Criterion → ℕ) (lines : Lines) (order : List Criterion) (v w : Values) (s : ℕ) → Agrees lines w →
+    Certifies greatest lines order v s → Better (take s order) w v → ⊥
 none_better_agrees greatest lines order v w s m certified b =
     none_better_behind greatest lines v w m [] (take s order)
     (λ i c e. let f = of_front order s i c e in subst (λ (cs : List Criterion). IsCertifiedLeast greatest lines cs c v) (sym f.same) (certified i c f.low f.at))
     (All-nil (λ b. value_of w b ≡ value_of v b)) b
 
-pub none_better : (greatest : Criterion → ℕ) (lines : Lines) (order : List Criterion) (v w : Values) (s : ℕ) → MeetsLog lines w → Derives lines → Certifies greatest lines order v s → Better (take s order) w v → ⊥
+pub none_better : (greatest : Criterion → ℕ) (lines : Lines) (order : List Criterion) (v w : Values) (s : ℕ) → MeetsLog lines w → Derives lines →
+    Certifies greatest lines order v s → Better (take s order) w v → ⊥
 none_better greatest lines order v w s m derives = none_better_agrees greatest lines order v w s (agrees lines w m derives)
 
 pub none_meets : (lines : Lines) (w : Values) → MeetsLog lines w → Derives lines → CertifiesNone lines → ⊥
@@ -118,7 +128,8 @@ better_or_same (c ∷ order) v w = elim (cases_order (value_of v c) (value_of w 
   | inr (inr more) ↦ inr (inl (inl more))
 ]
 
-pub same_twice : (greatest : Criterion → ℕ) (lines : Lines) (order : List Criterion) (v w : Values) (s : ℕ) → MeetsLog lines v → MeetsLog lines w → Derives lines →
+pub same_twice : (greatest : Criterion → ℕ) (lines : Lines) (order : List Criterion) (v w : Values) (s : ℕ) → MeetsLog lines v → MeetsLog lines w →
+    Derives lines →
     Certifies greatest lines order v s → Certifies greatest lines order w s → All (λ c. value_of v c ≡ value_of w c) (take s order)
 same_twice greatest lines order v w s mv mw derives cv cw = elim (better_or_same (take s order) v w) [
   | inl h ↦ absurd (none_better greatest lines order w v s mv derives cw h)
@@ -128,21 +139,38 @@ same_twice greatest lines order v w s mv mw derives cv cw = elim (better_or_same
 
 -- ---- more lines
 
-pub says_more : (greatest : Criterion → ℕ) (lines more : Lines) (c : Criterion) (k : ℕ) (l : Literal) → SaysAtLeast greatest lines c k l → SaysAtLeast greatest (lines ++ more) c k l
-says_more greatest lines more c k l s = record { within = s.within; variable = s.variable; told = Contains-append_left lines more (Bound c k s.variable) s.told; is = s.is }
+pub says_more : (greatest : Criterion → ℕ) (lines more : Lines) (c : Criterion) (k : ℕ) (l : Literal) → SaysAtLeast greatest lines c k l →
+    SaysAtLeast greatest (lines ++ more) c k l
+says_more greatest lines more c k l s = record {
+  within = s.within;
+  variable = s.variable;
+  told = Contains-append_left lines more (Bound c k s.variable) s.told;
+  is = s.is;
+}
 
-pub out_of_reach_more : (greatest : Criterion → ℕ) (lines more : Lines) (earlier : List Criterion) (c : Criterion) (v : Values) (l : Literal) → IsOutOfReach greatest lines earlier c v l → IsOutOfReach greatest (lines ++ more) earlier c v l
-out_of_reach_more greatest lines more earlier c v l (inl any) = inl (any.0, any.1, any.2, any.3, says_more greatest lines more any.1 (value_of v any.1 + 1) l any.4)
+pub out_of_reach_more : (greatest : Criterion → ℕ) (lines more : Lines) (earlier : List Criterion) (c : Criterion) (v : Values) (l : Literal) →
+    IsOutOfReach greatest lines earlier c v l → IsOutOfReach greatest (lines ++ more) earlier c v l
+out_of_reach_more greatest lines more earlier c v l (inl any) = inl (
+  any.0,
+  any.1,
+  any.2,
+  any.3,
+  says_more greatest lines more any.1 (value_of v any.1 + 1) l
+      any.4,
+)
 out_of_reach_more greatest lines more earlier c v l (inr s) = inr (says_more greatest lines more c (value_of v c) l s)
 
-least_more : (greatest : Criterion → ℕ) (lines more : Lines) (earlier : List Criterion) (c : Criterion) (v : Values) → IsCertifiedLeast greatest lines earlier c v → IsCertifiedLeast greatest (lines ++ more) earlier c v
+least_more : (greatest : Criterion → ℕ) (lines more : Lines) (earlier : List Criterion) (c : Criterion) (v : Values) →
+    IsCertifiedLeast greatest lines earlier c v → IsCertifiedLeast greatest (lines ++ more) earlier c v
 least_more greatest lines more earlier c v h = λ p. let r = h p in record {
   clause = r.clause;
   among = Contains-append_left lines more (Refuted r.clause) r.among;
-  each = All-weaker (IsOutOfReach greatest lines earlier c v) (IsOutOfReach greatest (lines ++ more) earlier c v) (out_of_reach_more greatest lines more earlier c v) r.clause r.each;
+  each = All-weaker (IsOutOfReach greatest lines earlier c v) (IsOutOfReach greatest (lines ++ more) earlier c v)
+      (out_of_reach_more greatest lines more earlier c v) r.clause r.each;
 }
 
-pub certifies_more : (greatest : Criterion → ℕ) (lines more : Lines) (order : List Criterion) (v : Values) (s : ℕ) → Certifies greatest lines order v s → Certifies greatest (lines ++ more) order v s
+pub certifies_more : (greatest : Criterion → ℕ) (lines more : Lines) (order : List Criterion) (v : Values) (s : ℕ) → Certifies greatest lines order v s →
+    Certifies greatest (lines ++ more) order v s
 certifies_more greatest lines more order v s h = λ i c low at. least_more greatest lines more (take i order) c v (h i c low at)
 
 pub certifies_none_more : (lines more : Lines) → CertifiesNone lines → CertifiesNone (lines ++ more)
@@ -174,10 +202,12 @@ pub least_at : (greatest : Criterion → ℕ) (lines : Lines) (order : List Crit
     Certifies greatest lines order v (i + 1) → IsCertifiedLeast greatest lines (take i order) c v
 least_at greatest lines order v i c here h = h i c (omega arith) here
 
-pub certifies_fewer : (greatest : Criterion → ℕ) (lines : Lines) (order : List Criterion) (v : Values) (s t : ℕ) → t ≤ s → Certifies greatest lines order v s → Certifies greatest lines order v t
+pub certifies_fewer : (greatest : Criterion → ℕ) (lines : Lines) (order : List Criterion) (v : Values) (s t : ℕ) → t ≤ s → Certifies greatest lines order v s →
+    Certifies greatest lines order v t
 certifies_fewer greatest lines order v s t le h = λ i c low at. h i c (omega (arith, le, low)) at
 
-pub settled_once : (greatest : Criterion → ℕ) (lines : Lines) (order : List Criterion) (found : Option Values) (s t : ℕ) → Settled greatest lines order found s → Settled greatest lines order found t → s ≡ t
+pub settled_once : (greatest : Criterion → ℕ) (lines : Lines) (order : List Criterion) (found : Option Values) (s t : ℕ) →
+    Settled greatest lines order found s → Settled greatest lines order found t → s ≡ t
 settled_once greatest lines order None s t h k = h ∙ sym k
 settled_once greatest lines order (Some v) s t h k =
     let a = h.most t k.below k.certified in
@@ -191,7 +221,8 @@ each_taken P [] s zero le h = All-nil P
 each_taken P [] s (suc i) le h = All-nil P
 each_taken P (c ∷ order) s zero le h = All-nil P
 each_taken P (c ∷ order) zero (suc i) le h = absurd (omega arith)
-each_taken P (c ∷ order) (suc s) (suc i) le h = All-cons P c (take i order) (All-head P c (take s order) h) (each_taken P order s i (omega arith) (All-tail P c (take s order) h))
+each_taken P (c ∷ order) (suc s) (suc i) le h = All-cons P c (take i order) (All-head P c (take s order) h)
+    (each_taken P order s i (omega arith) (All-tail P c (take s order) h))
 
 taken_at : (P : Criterion → Type 0) (order : List Criterion) (s i : ℕ) (c : Criterion) → i < s → slice_get order i ≡ Some c → All P (take s order) → P c
 taken_at P [] s i c low at h = absurd (none-some c at)
@@ -199,22 +230,26 @@ taken_at P (d ∷ order) zero i c low at h = absurd (omega arith)
 taken_at P (d ∷ order) (suc s) zero c low at h = subst P (same_Some d c at) (All-head P d (take s order) h)
 taken_at P (d ∷ order) (suc s) (suc i) c low at h = taken_at P order s i c (omega arith) at (All-tail P d (take s order) h)
 
-pub out_of_reach_same : (greatest : Criterion → ℕ) (lines : Lines) (earlier : List Criterion) (c : Criterion) (v w : Values) (l : Literal) → All (λ b. value_of v b ≡ value_of w b) earlier → value_of v c ≡ value_of w c →
+pub out_of_reach_same : (greatest : Criterion → ℕ) (lines : Lines) (earlier : List Criterion) (c : Criterion) (v w : Values) (l : Literal) →
+    All (λ b. value_of v b ≡ value_of w b) earlier → value_of v c ≡ value_of w c →
     IsOutOfReach greatest lines earlier c v l → IsOutOfReach greatest lines earlier c w l
 out_of_reach_same greatest lines earlier c v w l same e (inl any) =
     let eb : value_of v any.1 ≡ value_of w any.1 = same_value v w earlier any.1 same (any.0, any.2, any.3) in
     inl (any.0, any.1, any.2, any.3, subst (λ n. SaysAtLeast greatest lines any.1 (n + 1) l) eb any.4)
 out_of_reach_same greatest lines earlier c v w l same e (inr s) = inr (subst (λ n. SaysAtLeast greatest lines c n l) e s)
 
-least_same : (greatest : Criterion → ℕ) (lines : Lines) (earlier : List Criterion) (c : Criterion) (v w : Values) → All (λ b. value_of v b ≡ value_of w b) earlier → value_of v c ≡ value_of w c →
+least_same : (greatest : Criterion → ℕ) (lines : Lines) (earlier : List Criterion) (c : Criterion) (v w : Values) →
+    All (λ b. value_of v b ≡ value_of w b) earlier → value_of v c ≡ value_of w c →
     IsCertifiedLeast greatest lines earlier c v → IsCertifiedLeast greatest lines earlier c w
 least_same greatest lines earlier c v w same e h = λ p. let r = h (omega (arith, e, p)) in record {
   clause = r.clause;
   among = r.among;
-  each = All-weaker (IsOutOfReach greatest lines earlier c v) (IsOutOfReach greatest lines earlier c w) (λ l. out_of_reach_same greatest lines earlier c v w l same e) r.clause r.each;
+  each = All-weaker (IsOutOfReach greatest lines earlier c v) (IsOutOfReach greatest lines earlier c w)
+      (λ l. out_of_reach_same greatest lines earlier c v w l same e) r.clause r.each;
 }
 
-pub certifies_same : (greatest : Criterion → ℕ) (lines : Lines) (order : List Criterion) (v w : Values) (s : ℕ) → All (λ c. value_of v c ≡ value_of w c) (take s order) →
+pub certifies_same : (greatest : Criterion → ℕ) (lines : Lines) (order : List Criterion) (v w : Values) (s : ℕ) →
+    All (λ c. value_of v c ≡ value_of w c) (take s order) →
     Certifies greatest lines order v s → Certifies greatest lines order w s
 certifies_same greatest lines order v w s same h = λ i c low at.
     let P : Criterion → Type 0 = λ b. value_of v b ≡ value_of w b in
@@ -222,23 +257,28 @@ certifies_same greatest lines order v w s same h = λ i c low at.
 
 -- ---- other greatest values that are the same
 
-says_under : (greatest other : Criterion → ℕ) (lines : Lines) (c : Criterion) (k : ℕ) (l : Literal) → greatest c ≡ other c → SaysAtLeast greatest lines c k l → SaysAtLeast other lines c k l
+says_under : (greatest other : Criterion → ℕ) (lines : Lines) (c : Criterion) (k : ℕ) (l : Literal) → greatest c ≡ other c → SaysAtLeast greatest lines c k l →
+    SaysAtLeast other lines c k l
 says_under greatest other lines c k l e s = record { within = subst (λ n. k ≤ n) e s.within; variable = s.variable; told = s.told; is = s.is }
 
-pub out_of_reach_under : (greatest other : Criterion → ℕ) (lines : Lines) (earlier : List Criterion) (c : Criterion) (v : Values) (l : Literal) → ((b : Criterion) → greatest b ≡ other b) →
+pub out_of_reach_under : (greatest other : Criterion → ℕ) (lines : Lines) (earlier : List Criterion) (c : Criterion) (v : Values) (l : Literal) →
+    ((b : Criterion) → greatest b ≡ other b) →
     IsOutOfReach greatest lines earlier c v l → IsOutOfReach other lines earlier c v l
 out_of_reach_under greatest other lines earlier c v l same (inl any) =
     inl (any.0, any.1, any.2, any.3, says_under greatest other lines any.1 (value_of v any.1 + 1) l (same any.1) any.4)
 out_of_reach_under greatest other lines earlier c v l same (inr s) = inr (says_under greatest other lines c (value_of v c) l (same c) s)
 
-pub least_under : (greatest other : Criterion → ℕ) (lines : Lines) (earlier : List Criterion) (c : Criterion) (v : Values) → ((b : Criterion) → greatest b ≡ other b) →
+pub least_under : (greatest other : Criterion → ℕ) (lines : Lines) (earlier : List Criterion) (c : Criterion) (v : Values) →
+    ((b : Criterion) → greatest b ≡ other b) →
     IsCertifiedLeast greatest lines earlier c v → IsCertifiedLeast other lines earlier c v
 least_under greatest other lines earlier c v same h = λ p. let r = h p in record {
   clause = r.clause;
   among = r.among;
-  each = All-weaker (IsOutOfReach greatest lines earlier c v) (IsOutOfReach other lines earlier c v) (λ l. out_of_reach_under greatest other lines earlier c v l same) r.clause r.each;
+  each = All-weaker (IsOutOfReach greatest lines earlier c v) (IsOutOfReach other lines earlier c v)
+      (λ l. out_of_reach_under greatest other lines earlier c v l same) r.clause r.each;
 }
 
-pub certifies_under : (greatest other : Criterion → ℕ) (lines : Lines) (order : List Criterion) (v : Values) (s : ℕ) → ((b : Criterion) → greatest b ≡ other b) →
+pub certifies_under : (greatest other : Criterion → ℕ) (lines : Lines) (order : List Criterion) (v : Values) (s : ℕ) →
+    ((b : Criterion) → greatest b ≡ other b) →
     Certifies greatest lines order v s → Certifies other lines order v s
 certifies_under greatest other lines order v s same h = λ i c low at. least_under greatest other lines (take i order) c v same (h i c low at)

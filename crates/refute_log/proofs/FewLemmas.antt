@@ -1,5 +1,6 @@
 -- How many Learnt lines a log can have.
-use Rattle.std.proofs.Common.{◌≡◌, ℕ, zero, suc, ◌+◌, ◌*◌, ◌^◌, ◌<◌, ◌≤◌, ◌⊎◌, Bool, true, false, cond, eqb, List, [], ◌∷◌, ◌++◌, length, take, drop, get_or, map, sym, ◌∙◌, ap, subst, inl, inr, arith, append-nil, refl}
+use Rattle.std.proofs.Common.{◌≡◌, ℕ, zero, suc, ◌+◌, ◌*◌, ◌^◌, ◌<◌, ◌≤◌, ◌⊎◌, Bool, true, false, cond, eqb, List, [], ◌∷◌, ◌++◌, length, take, drop, get_or}
+use Rattle.std.proofs.Common.{map, sym, ◌∙◌, ap, subst, inl, inr, arith, append-nil, refl}
 use Rattle.std.specs.Prelude.{All, Any, Contains, flat_map}
 use Rattle.std.specs.List.{IsDistinct, list_any}
 use Rattle.std.proofs.Math.Nat.{pow-suc}
@@ -8,7 +9,8 @@ use Rattle.std.proofs.lemmas.List.Concat.{flat_map-cons}
 use Rattle.std.proofs.lemmas.Cmp.{nat_eq_equiv}
 use Rattle.std.proofs.lemmas.Bool.{false_from_ne_true}
 use Rattle.std.proofs.lemmas.List.{length-map, map-append, take_all, take_more, take-append-drop, get_or-map}
-use Rattle.std.proofs.lemmas.List.Elements.{All-nil, All-push, All-from_recursion, All-contains, Contains-get_or, Contains-append_left, Contains-append_right, Contains-append_cases}
+use Rattle.std.proofs.lemmas.List.Elements.{All-nil, All-push, All-from_recursion, All-contains, Contains-get_or, Contains-append_left, Contains-append_right}
+use Rattle.std.proofs.lemmas.List.Elements.{Contains-append_cases}
 use Rattle.std.proofs.lemmas.List.Folds.{Any-from_list_any}
 use Rattle.std.proofs.lemmas.Option.{slice_get-get_or}
 use Rattle.std.proofs.lemmas.Map.Keys.{IsDistinct-push}
@@ -85,14 +87,17 @@ same_includes v c d distinct there e = λ l m. by_sign l m l.positive refl
         let within : IsThere v l = All-contains (IsThere v) d l (there_all v d there) m in
         let pos : l ≡ positive_of l.var = literal_same l (positive_of l.var) refl is in
         let h : has d (positive_of l.var) ≡ true = ap (has d) (sym pos) ∙ has_from_contains d l m in
-        let g : has c (positive_of l.var) ≡ true = test_positive (has c (positive_of l.var)) (has c (negative_of l.var)) (has d (positive_of l.var)) (has d (negative_of l.var)) h (same_digit v c d e l.var within.0 within.1) in
+        let g : has c (positive_of l.var) ≡ true = test_positive (has c (positive_of l.var)) (has c (negative_of l.var)) (has d (positive_of l.var))
+        (has d (negative_of l.var)) h (same_digit v c d e l.var within.0 within.1) in
         contains_from_has c l (ap (has c) pos ∙ g)
     by_sign l m false is =
         let within : IsThere v l = All-contains (IsThere v) d l (there_all v d there) m in
         let neg : l ≡ negative_of l.var = literal_same l (negative_of l.var) refl is in
         let h : has d (negative_of l.var) ≡ true = ap (has d) (sym neg) ∙ has_from_contains d l m in
-        let other : has d (positive_of l.var) ≡ false = false_from_ne_true (has d (positive_of l.var)) (λ t. distinct_consistent d distinct (positive_of l.var) t h) in
-        let g : has c (negative_of l.var) ≡ true = test_negative (has c (positive_of l.var)) (has c (negative_of l.var)) (has d (positive_of l.var)) (has d (negative_of l.var)) h other (same_digit v c d e l.var within.0 within.1) in
+        let other : has d (positive_of l.var) ≡ false = false_from_ne_true (has d (positive_of l.var))
+        (λ t. distinct_consistent d distinct (positive_of l.var) t h) in
+        let g : has c (negative_of l.var) ≡ true = test_negative (has c (positive_of l.var)) (has c (negative_of l.var)) (has d (positive_of l.var))
+        (has d (negative_of l.var)) h other (same_digit v c d e l.var within.0 within.1) in
         contains_from_has c l (ap (has c) neg ∙ g)
 
 -- a number in the list of numbers is that of a clause of the list
@@ -123,17 +128,21 @@ distinct_left : (xs ys : Clauses) → AllDistinct (xs ++ ys) → AllDistinct xs
 distinct_left [] ys h = tt
 distinct_left (x ∷ xs) ys h = (h.0, distinct_left xs ys h.1)
 
-few_push : (v : ℕ) (cs clauses : Clauses) (c : List Literal) → Few v cs → ((d : List Literal) → Contains cs d → Contains clauses d) → AllDistinct cs → AreThere v c → IsNewClause clauses c → Few v (cs ++ c ∷ [])
+few_push : (v : ℕ) (cs clauses : Clauses) (c : List Literal) → Few v cs → ((d : List Literal) → Contains cs d → Contains clauses d) → AllDistinct cs →
+    AreThere v c → IsNewClause clauses c → Few v (cs ++ c ∷ [])
 few_push v cs clauses c few among distinct there fresh = record {
-  codes = subst (λ (ns : List ℕ). IsDistinct eqb ns) (sym (map-append (code v) cs (c ∷ []))) (IsDistinct-push nat_eq_equiv (map (code v) cs) (code v c) few.codes (false_from_ne_true (list_any (eqb (code v c)) (map (code v) cs)) (λ h.
+  codes = subst (λ (ns : List ℕ). IsDistinct eqb ns) (sym (map-append (code v) cs (c ∷ [])))
+      (IsDistinct-push nat_eq_equiv (map (code v) cs) (code v c) few.codes (false_from_ne_true (list_any (eqb (code v c)) (map (code v) cs)) (λ h.
       let of = code_in v cs (code v c) h in
       let d = get_or cs of.at [] in
-      new_includes_nothing clauses c d fresh (among d (Contains-get_or cs of.at [] of.within)) (same_includes v c d (distinct_at cs of.at distinct) (few.there of.at [] of.within) of.is))));
+      new_includes_nothing clauses c d fresh (among d (Contains-get_or cs of.at [] of.within))
+      (same_includes v c d (distinct_at cs of.at distinct) (few.there of.at [] of.within) of.is))));
   there = All-push (AreThere v) cs c few.there there;
 }
 
 -- a Learnt clause is among those that are added
-by_kind : (rest more : Clauses) (d : List Literal) → (Contains rest d → Contains more d) → (k : LogLine) → Contains (learnt k) d ⊎ Contains rest d → Contains (added k ++ more) d
+by_kind : (rest more : Clauses) (d : List Literal) → (Contains rest d → Contains more d) → (k : LogLine) → Contains (learnt k) d ⊎ Contains rest d →
+    Contains (added k ++ more) d
 by_kind rest more d f k (inr h) = Contains-append_right (added k) more d (f h)
 by_kind rest more d f (Learnt c) (inl h) = Contains-append_left (c ∷ []) more d h
 by_kind rest more d f (Formula c) (inl h) = absurd (let lt = h.1 in omega (arith, lt))
@@ -150,7 +159,8 @@ learnt_added (line ∷ lines) d m =
     (Contains-append_cases (learnt line) (flat_map learnt lines) d (subst (λ (cs : Clauses). Contains cs d) (flat_map-cons learnt line lines) m)))
 
 -- one line more
-few_more : (v : ℕ) (lines : Lines) (line : LogLine) → (facts_of lines).greatest ≤ v → IsWellFormed line → Stands lines line → AllDistinct (flat_map learnt lines) → Few v (flat_map learnt lines) → Few v (flat_map learnt lines ++ learnt line)
+few_more : (v : ℕ) (lines : Lines) (line : LogLine) → (facts_of lines).greatest ≤ v → IsWellFormed line → Stands lines line →
+    AllDistinct (flat_map learnt lines) → Few v (flat_map learnt lines) → Few v (flat_map learnt lines ++ learnt line)
 few_more v lines (Learnt c) le formed s distinct few =
     few_push v (flat_map learnt lines) (flat_map added lines) c few (learnt_added lines) distinct
     (there_below LAST_VAR v c formed.0 (λ i d within. let low = s.named i d within in omega (arith, low, le))) s.says_more
@@ -164,7 +174,8 @@ few_none : (v : ℕ) → Few v []
 unfolding IsDistinct
 few_none v = record { codes = tt; there = All-nil (AreThere v) }
 
-few_at : (lines : Lines) (n : ℕ) → n ≤ length lines → AreWellFormed lines → AllDistinct (flat_map learnt lines) → Derives lines → Few (facts_of lines).greatest (flat_map learnt (take n lines))
+few_at : (lines : Lines) (n : ℕ) → n ≤ length lines → AreWellFormed lines → AllDistinct (flat_map learnt lines) → Derives lines →
+    Few (facts_of lines).greatest (flat_map learnt (take n lines))
 few_at lines zero le formed distinct d = few_none (facts_of lines).greatest
 few_at lines (suc n) le formed distinct d =
     let low : n < length lines = omega arith in
@@ -175,17 +186,28 @@ few_at lines (suc n) le formed distinct d =
     let stands : Stands front line = d n line (slice_get-get_or lines n Model low) in
     let well : IsWellFormed line = All-from_recursion IsWellFormed lines formed n Model low in
     let whole : front ++ drop n lines ≡ lines = take-append-drop n lines in
-    let cut : flat_map learnt front ++ flat_map learnt (drop n lines) ≡ flat_map learnt lines = sym (flat_map-append learnt front (drop n lines)) ∙ ap (flat_map learnt) whole in
-    let once : AllDistinct (flat_map learnt front) = distinct_left (flat_map learnt front) (flat_map learnt (drop n lines)) (subst (λ (cs : Clauses). AllDistinct cs) (sym cut) distinct) in
-    let given_cut : flat_map given front ++ flat_map given (drop n lines) ≡ flat_map given lines = sym (flat_map-append given front (drop n lines)) ∙ ap (flat_map given) whole in
-    let most : (facts_of front).greatest ≤ v = omega (arith, greatest_var-append (flat_map given front) (flat_map given (drop n lines)), ap greatest_var given_cut) in
+    let cut : flat_map learnt front ++ flat_map learnt (drop n lines) ≡ flat_map learnt lines = sym (flat_map-append learnt front (drop n lines))
+    ∙ ap (flat_map learnt) whole in
+    let once : AllDistinct (flat_map learnt front) = distinct_left (flat_map learnt front) (flat_map learnt (drop n lines))
+    (subst (λ (cs : Clauses). AllDistinct cs) (sym cut) distinct) in
+    let given_cut : flat_map given front ++ flat_map given (drop n lines) ≡ flat_map given lines = sym (flat_map-append given front (drop n lines))
+    ∙ ap (flat_map given) whole in
+    let most : (facts_of front).greatest ≤ v = omega (
+      arith,
+      greatest_var-append (flat_map given front) (flat_map given (drop n lines)),
+      ap greatest_var
+          given_cut,
+    ) in
     let next : take (suc n) lines ≡ front ++ line ∷ [] = let more : suc n ≡ n + 1 = omega arith in ap (λ k. take k lines) more ∙ take_more lines n Model low in
     subst (λ (cs : Clauses). Few v cs) (sym (ap (flat_map learnt) next ∙ flat_map_last learnt front line)) (few_more v front line most well stands once before)
 
-pub learnt_few : (lines : Lines) → AreWellFormed lines → AllDistinct (flat_map learnt lines) → Derives lines → length (flat_map learnt lines) ≤ 3 ^ (facts_of lines).greatest
+pub learnt_few : (lines : Lines) → AreWellFormed lines → AllDistinct (flat_map learnt lines) → Derives lines →
+    length (flat_map learnt lines) ≤ 3 ^ (facts_of lines).greatest
 learnt_few lines formed distinct d =
     let v = (facts_of lines).greatest in
     let cs = flat_map learnt lines in
-    let few : Few v cs = subst (λ (ls : Lines). Few v (flat_map learnt ls)) (take_all (length lines) lines (omega arith)) (few_at lines (length lines) (omega arith) formed distinct d) in
-    let short = length-le_from_distinct_below (map (code v) cs) (3 ^ v) few.codes (λ q h. let of = code_in v cs q h in let low = code_small v (get_or cs of.at []) in omega (arith, of.is, low)) in
+    let few : Few v cs = subst (λ (ls : Lines). Few v (flat_map learnt ls)) (take_all (length lines) lines (omega arith))
+    (few_at lines (length lines) (omega arith) formed distinct d) in
+    let short = length-le_from_distinct_below (map (code v) cs) (3 ^ v) few.codes
+    (λ q h. let of = code_in v cs q h in let low = code_small v (get_or cs of.at []) in omega (arith, of.is, low)) in
     omega (arith, short, length-map cs (code v))

@@ -1,5 +1,6 @@
 -- A text has one form, is one line's, and has one fault or none where it is a line's.
-use Rattle.std.proofs.Common.{◌≡◌, ℕ, ◌≤◌, ◌⊎◌, ◌↔◌, inl, inr, true, List, [], ◌∷◌, ◌++◌, length, get_or, map, decimal, Result, Ok, Err, refl, sym, ◌∙◌, ap, subst, arith}
+use Rattle.std.proofs.Common.{◌≡◌, ℕ, ◌≤◌, ◌⊎◌, ◌↔◌, inl, inr, true, List, [], ◌∷◌, ◌++◌, length, get_or, map, decimal, Result, Ok, Err, refl, sym, ◌∙◌, ap}
+use Rattle.std.proofs.Common.{subst, arith}
 use Rattle.std.specs.Prelude.{IfOk, IfErr}
 use Rattle.std.specs.Char.{IsAsciiDigit}
 use Rattle.std.specs.List.{AllByRecursion}
@@ -39,8 +40,10 @@ fields_once fs gs h k e =
     end (f ∷ more) s z = absurd (no_cut (48 ∷ []) f (fields_left more) zero_is_one (z ∙ regroup f (trailed more) (48 ∷ [])))
 
 pub form_once : (text : List ℕ) (a b : LineForm) → IsOfForm text a → IsOfForm text b → a ≡ b
-form_once text (FormulaForm fs) (FormulaForm gs) h k = ap FormulaForm (fields_once fs gs h.is_form k.is_form (same_behind 102 fs gs (sym h.spelled ∙ k.spelled)))
-form_once text (LearntForm fs) (LearntForm gs) h k = ap LearntForm (fields_once fs gs h.is_form.0 k.is_form.0 (same_behind 108 fs gs (sym h.spelled ∙ k.spelled)))
+form_once text (FormulaForm fs) (FormulaForm gs) h k = ap FormulaForm (fields_once fs gs h.is_form k.is_form
+    (same_behind 102 fs gs (sym h.spelled ∙ k.spelled)))
+form_once text (LearntForm fs) (LearntForm gs) h k = ap LearntForm (fields_once fs gs h.is_form.0 k.is_form.0
+    (same_behind 108 fs gs (sym h.spelled ∙ k.spelled)))
 form_once text (BoundForm c k x) (BoundForm d l y) h i =
     let e = sym h.spelled ∙ i.spelled in
     let one = word_in_front c d (32 ∷ (k ++ 32 ∷ (x ++ []))) (32 ∷ (l ++ 32 ∷ (y ++ []))) cc in
@@ -49,7 +52,8 @@ form_once text (BoundForm c k x) (BoundForm d l y) h i =
     let last : x ≡ y = sym (append-nil x) ∙ two.rest ∙ append-nil y in
     cc (one.0, two.field, last)
 form_once text (QueryForm fs) (QueryForm gs) h k = ap QueryForm (fields_once fs gs h.is_form k.is_form (same_behind 113 fs gs (sym h.spelled ∙ k.spelled)))
-form_once text (RefutedForm fs) (RefutedForm gs) h k = ap RefutedForm (fields_once fs gs h.is_form k.is_form (same_behind 114 fs gs (sym h.spelled ∙ k.spelled)))
+form_once text (RefutedForm fs) (RefutedForm gs) h k = ap RefutedForm (fields_once fs gs h.is_form k.is_form
+    (same_behind 114 fs gs (sym h.spelled ∙ k.spelled)))
 form_once text ModelForm ModelForm h k = refl
 form_once text a b h k = let z = ap (λ (t : List ℕ). get_or t 0 0) (sym h.spelled ∙ k.spelled) in absurd (omega arith)
 
@@ -94,8 +98,22 @@ record RightForm (text : List ℕ) : Type 0 where
   right : HasRightNumbers form
 
 line_form : (text : List ℕ) (line : LogLine) → SpellsLine text line → RightForm text
-line_form text (Formula c) h = record { form = FormulaForm (map literal_text c); has = record { is_form = literals_are_numbers c h.formed; spelled = sym h.spelled }; right = literals_are_right c h.formed }
-line_form text (Learnt c) h = record { form = LearntForm (map literal_text c); has = record { is_form = (literals_are_numbers c h.formed.0, some_fields c h.formed.1); spelled = sym h.spelled }; right = literals_are_right c h.formed.0 }
+line_form text (Formula c) h = record {
+  form = FormulaForm (map literal_text c);
+  has = record {
+    is_form = literals_are_numbers c h.formed;
+    spelled = sym h.spelled;
+  };
+  right = literals_are_right c h.formed;
+}
+line_form text (Learnt c) h = record {
+  form = LearntForm (map literal_text c);
+  has = record {
+    is_form = (literals_are_numbers c h.formed.0, some_fields c h.formed.1);
+    spelled = sym h.spelled;
+  };
+  right = literals_are_right c h.formed.0;
+}
 line_form text (Bound criterion k x) h =
     let small : k ≤ LAST_VAR = omega (arith, h.formed.1) in
     record {
@@ -103,8 +121,22 @@ line_form text (Bound criterion k x) h =
       has = record { is_form = (decimal_is_number k small, decimal_is_number x.0 h.formed.3); spelled = sym h.spelled };
       right = ((k, record { written = refl; from = h.formed.0; to = h.formed.1 }), (x.0, record { written = refl; from = h.formed.2; to = h.formed.3 }));
     }
-line_form text (Query c) h = record { form = QueryForm (map literal_text c); has = record { is_form = literals_are_numbers c h.formed; spelled = sym h.spelled }; right = literals_are_right c h.formed }
-line_form text (Refuted c) h = record { form = RefutedForm (map literal_text c); has = record { is_form = literals_are_numbers c h.formed; spelled = sym h.spelled }; right = literals_are_right c h.formed }
+line_form text (Query c) h = record {
+  form = QueryForm (map literal_text c);
+  has = record {
+    is_form = literals_are_numbers c h.formed;
+    spelled = sym h.spelled;
+  };
+  right = literals_are_right c h.formed;
+}
+line_form text (Refuted c) h = record {
+  form = RefutedForm (map literal_text c);
+  has = record {
+    is_form = literals_are_numbers c h.formed;
+    spelled = sym h.spelled;
+  };
+  right = literals_are_right c h.formed;
+}
 line_form text Model h = record { form = ModelForm; has = record { is_form = tt; spelled = sym h.spelled }; right = tt }
 
 -- faults exclude each other, and lines
@@ -147,12 +179,14 @@ not_line_and_fault : (text : List ℕ) (number : ℕ) (line : LogLine) (f : Line
 not_line_and_fault text number line (Log what n) t h = line_no_fault text line what t h.1
 not_line_and_fault text number line Memory t h = h
 
-want_or_fault : (text : List ℕ) (number : ℕ) (r : Result LogLine LineTextFault) → IfErr r (IsWantOrFault text number) → IfErr r (λ e. (e ≡ Memory) ⊎ IsLineFault text number e)
+want_or_fault : (text : List ℕ) (number : ℕ) (r : Result LogLine LineTextFault) → IfErr r (IsWantOrFault text number) →
+    IfErr r (λ e. (e ≡ Memory) ⊎ IsLineFault text number e)
 want_or_fault text number (Ok line) h = tt
 want_or_fault text number (Err (Log what n)) h = inr h
 want_or_fault text number (Err Memory) h = inl refl
 
-pub read_exactly : (text : List ℕ) (number : ℕ) (r : Result LogLine LineTextFault) → IfOk r (IsTextOf text) → IfErr r (IsWantOrFault text number) → AnswersExactly r Memory (IsTextOf text) (IsLineFault text number)
+pub read_exactly : (text : List ℕ) (number : ℕ) (r : Result LogLine LineTextFault) → IfOk r (IsTextOf text) → IfErr r (IsWantOrFault text number) →
+    AnswersExactly r Memory (IsTextOf text) (IsLineFault text number)
 read_exactly text number r line fault = answers_exactly r Memory (IsTextOf text) (IsLineFault text number) line (want_or_fault text number r fault)
     (λ a b h k. line_once text a b h.spells k.spells) (fault_at_once text number) (not_line_and_fault text number)
 
@@ -168,7 +202,8 @@ of_literals (f ∷ fields) h =
     let more = of_literals fields h.1 in
     record { literals = h.0.literal ∷ more.literals; there = (h.0.there, more.there); texts = let e = h.0.spelled in let d = more.texts in cc }
 
-spelled_by : (a : ℕ) (fields : List Field) (text : List ℕ) (r : OfLiterals fields) → text ≡ a ∷ spaced (with_zero fields) → a ∷ spaced (clause_fields r.literals) ≡ text
+spelled_by : (a : ℕ) (fields : List Field) (text : List ℕ) (r : OfLiterals fields) → text ≡ a ∷ spaced (with_zero fields) →
+    a ∷ spaced (clause_fields r.literals) ≡ text
 spelled_by a fields text r e = ap (λ (t : List Field). a ∷ spaced (with_zero t)) (sym r.texts) ∙ sym e
 
 some_literals : (fields : List Field) (ls : List Literal) → fields ≡ map literal_text ls → 1 ≤ length fields → 1 ≤ length ls
@@ -176,14 +211,46 @@ some_literals fields [] e h = let z = ap length e in omega arith
 some_literals fields (l ∷ ls) e h = omega arith
 
 form_line : (text : List ℕ) (form : LineForm) → IsOfForm text form → HasRightNumbers form → (line : LogLine) × SpellsLine text line
-form_line text (FormulaForm fields) h right = let r = of_literals fields right in (Formula r.literals, record { formed = r.there; spelled = spelled_by 102 fields text r h.spelled })
-form_line text (LearntForm fields) h right = let r = of_literals fields right in (Learnt r.literals, record { formed = (r.there, some_literals fields r.literals r.texts h.is_form.1); spelled = spelled_by 108 fields text r h.spelled })
+form_line text (FormulaForm fields) h right = let r = of_literals fields right in (
+  Formula r.literals,
+  record {
+    formed = r.there;
+    spelled = spelled_by 102 fields text r h.spelled;
+  },
+)
+form_line text (LearntForm fields) h right = let r = of_literals fields right in (
+  Learnt r.literals,
+  record {
+    formed = (r.there, some_literals fields r.literals r.texts h.is_form.1);
+    spelled = spelled_by 108 fields text r h.spelled;
+  },
+)
 form_line text (BoundForm criterion k x) h right =
     let value = right.0.1 in
-    let variable = right.1.1 in
-    (Bound criterion right.0.0 (record { 0 = right.1.0 }), record { formed = (value.from, value.to, variable.from, variable.to); spelled = ap (λ (t : Field). form_text (BoundForm criterion t (decimal right.1.0))) (sym value.written) ∙ ap (λ (t : Field). form_text (BoundForm criterion k t)) (sym variable.written) ∙ sym h.spelled })
-form_line text (QueryForm fields) h right = let r = of_literals fields right in (Query r.literals, record { formed = r.there; spelled = spelled_by 113 fields text r h.spelled })
-form_line text (RefutedForm fields) h right = let r = of_literals fields right in (Refuted r.literals, record { formed = r.there; spelled = spelled_by 114 fields text r h.spelled })
+    let variable = right.1.1 in (
+      Bound criterion right.0.0 (record {
+        0 = right.1.0;
+      }),
+      record {
+        formed = (value.from, value.to, variable.from, variable.to);
+        spelled = ap (λ (t : Field). form_text (BoundForm criterion t (decimal right.1.0)))
+            (sym value.written) ∙ ap (λ (t : Field). form_text (BoundForm criterion k t)) (sym variable.written) ∙ sym h.spelled;
+      },
+    )
+form_line text (QueryForm fields) h right = let r = of_literals fields right in (
+  Query r.literals,
+  record {
+    formed = r.there;
+    spelled = spelled_by 113 fields text r h.spelled;
+  },
+)
+form_line text (RefutedForm fields) h right = let r = of_literals fields right in (
+  Refuted r.literals,
+  record {
+    formed = r.there;
+    spelled = spelled_by 114 fields text r h.spelled;
+  },
+)
 form_line text ModelForm h right = (Model, record { formed = tt; spelled = sym h.spelled })
 
 pub right_form : (text : List ℕ) → ((form : LineForm) × IsOfForm text form × HasRightNumbers form) ↔ ((line : LogLine) × SpellsLine text line)

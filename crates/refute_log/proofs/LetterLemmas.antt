@@ -1,5 +1,6 @@
 -- What the text behind the letter says of the whole line.
-use Rattle.std.proofs.Common.{◌≡◌, ◌≢◌, ℕ, ◌≤◌, ◌⊎◌, inl, inr, not, true, eqb, List, [], ◌∷◌, ◌++◌, length, get_or, map, decimal, refl, sym, ◌∙◌, ap, subst, arith}
+use Rattle.std.proofs.Common.{◌≡◌, ◌≢◌, ℕ, ◌≤◌, ◌⊎◌, inl, inr, not, true, eqb, List, [], ◌∷◌, ◌++◌, length, get_or, map, decimal, refl, sym, ◌∙◌, ap, subst}
+use Rattle.std.proofs.Common.{arith}
 use Rattle.std.specs.List.{list_all}
 use Rattle.std.proofs.lemmas.Bool.Decides.{eqb_tells}
 use Rattle.std.proofs.lemmas.List.{append-nil}
@@ -27,7 +28,8 @@ use Rattle.refute_log.specs.OneText.{spaced_with}
 use Rattle.refute_log.proofs.ReadingLemmas.{zero_is_one, SameCut, same_cut, no_cut, number_is_one, regroup}
 
 -- a fault of one kind is one of another
-pub fault_as : (P Q : LogWhat → Type 0) → ((what : LogWhat) → P what → Q what) → (line : ℕ) (fault : LineTextFault) → IsFaultWhere P line fault → IsFaultWhere Q line fault
+pub fault_as : (P Q : LogWhat → Type 0) → ((what : LogWhat) → P what → Q what) → (line : ℕ) (fault : LineTextFault) → IsFaultWhere P line fault →
+    IsFaultWhere Q line fault
 fault_as P Q f line (Log what at) h = (h.0, f what h.1)
 fault_as P Q f line Memory h = tt
 
@@ -112,19 +114,30 @@ some_field text (f ∷ fields) not h = omega arith
 learnt_wrong : (text : List ℕ) → (text ≡ 48 ∷ [] → ⊥) → (what : LogWhat) → HasFieldsFault text what → HasLineFault (108 ∷ 32 ∷ text) what
 learnt_wrong text not Header h = h
 learnt_wrong text not Form h = learnt_form text h
-learnt_wrong text not Number h = (LearntForm h.0, record { is_form = (h.1.numbers, some_field text h.0 not h.1); spelled = with_letter 108 text h.0 h.1.spelled }, h.2)
+learnt_wrong text not Number h = (
+  LearntForm h.0,
+  record {
+    is_form = (h.1.numbers, some_field text h.0 not h.1);
+    spelled = with_letter 108 text h.0 h.1.spelled;
+  },
+  h.2,
+)
 learnt_wrong text not Twice h = (Learnt h.0, record { formed = (h.1.there, some_literal text h.0 not h.1); spelled = clause_behind 108 text h.0 h.1 }, h.2)
 
-pub formula_fault : (text : List ℕ) (line : ℕ) (fault : LineTextFault) → IsFaultWhere (HasFieldsFault text) line fault → IsWantOrFault (102 ∷ 32 ∷ text) line fault
+pub formula_fault : (text : List ℕ) (line : ℕ) (fault : LineTextFault) → IsFaultWhere (HasFieldsFault text) line fault →
+    IsWantOrFault (102 ∷ 32 ∷ text) line fault
 formula_fault text line fault h = fault_as (HasFieldsFault text) (HasLineFault (102 ∷ 32 ∷ text)) (formula_wrong text) line fault h
 
-pub query_fault : (text : List ℕ) (line : ℕ) (fault : LineTextFault) → IsFaultWhere (HasFieldsFault text) line fault → IsWantOrFault (113 ∷ 32 ∷ text) line fault
+pub query_fault : (text : List ℕ) (line : ℕ) (fault : LineTextFault) → IsFaultWhere (HasFieldsFault text) line fault →
+    IsWantOrFault (113 ∷ 32 ∷ text) line fault
 query_fault text line fault h = fault_as (HasFieldsFault text) (HasLineFault (113 ∷ 32 ∷ text)) (query_wrong text) line fault h
 
-pub refuted_fault : (text : List ℕ) (line : ℕ) (fault : LineTextFault) → IsFaultWhere (HasFieldsFault text) line fault → IsWantOrFault (114 ∷ 32 ∷ text) line fault
+pub refuted_fault : (text : List ℕ) (line : ℕ) (fault : LineTextFault) → IsFaultWhere (HasFieldsFault text) line fault →
+    IsWantOrFault (114 ∷ 32 ∷ text) line fault
 refuted_fault text line fault h = fault_as (HasFieldsFault text) (HasLineFault (114 ∷ 32 ∷ text)) (refuted_wrong text) line fault h
 
-pub learnt_fault : (text : List ℕ) → (text ≡ 48 ∷ [] → ⊥) → (line : ℕ) (fault : LineTextFault) → IsFaultWhere (HasFieldsFault text) line fault → IsWantOrFault (108 ∷ 32 ∷ text) line fault
+pub learnt_fault : (text : List ℕ) → (text ≡ 48 ∷ [] → ⊥) → (line : ℕ) (fault : LineTextFault) → IsFaultWhere (HasFieldsFault text) line fault →
+    IsWantOrFault (108 ∷ 32 ∷ text) line fault
 learnt_fault text not line fault h = fault_as (HasFieldsFault text) (HasLineFault (108 ∷ 32 ∷ text)) (learnt_wrong text not) line fault h
 
 -- a Learnt line has a literal
@@ -160,7 +173,8 @@ criterion_is_one Width = one_by_test (criterion_word Width) refl
 abbrev pub LacksBound : List ℕ → Type 0
 LacksBound text = (c : Criterion) (k x : Field) → HasBound text c k x → ⊥
 
-bound_cut : (text word rest : List ℕ) (c : Criterion) (k x : Field) → IsCutAt 32 text word rest → HasBound text c k x → SameCut word (criterion_word c) rest (k ++ 32 ∷ x)
+bound_cut : (text word rest : List ℕ) (c : Criterion) (k x : Field) → IsCutAt 32 text word rest → HasBound text c k x →
+    SameCut word (criterion_word c) rest (k ++ 32 ∷ x)
 bound_cut text word rest c k x cut h = same_cut word (criterion_word c) rest (k ++ 32 ∷ x) cut.first (criterion_is_one c) (sym cut.spelled ∙ h.spelled)
 
 pub no_criterion : (text word rest : List ℕ) → IsCutAt 32 text word rest → ((c : Criterion) → word ≡ criterion_word c → ⊥) → LacksBound text
@@ -183,7 +197,8 @@ bound_behind c k x = 98 ∷ 32 ∷ (criterion_word c ++ 32 ∷ (k ++ 32 ∷ x))
 bound_ended : (c : Criterion) (k x : Field) → bound_behind c k (x ++ []) ≡ bound_behind c k x
 bound_ended c k x = ap (λ (t : List ℕ). bound_behind c k t) (append-nil x)
 
-pub wrong_bound : (text : List ℕ) (c : Criterion) (k x : Field) → HasBound text c k x → (IsNumberField 1 MAX_NUMBER k × IsNumberField 1 LAST_VAR x → ⊥) → HasLineFault (98 ∷ 32 ∷ text) Number
+pub wrong_bound : (text : List ℕ) (c : Criterion) (k x : Field) → HasBound text c k x → (IsNumberField 1 MAX_NUMBER k × IsNumberField 1 LAST_VAR x → ⊥) →
+    HasLineFault (98 ∷ 32 ∷ text) Number
 wrong_bound text c k x h not = (
   BoundForm c k x,
   record { is_form = (h.k_number, h.x_number); spelled = ap (λ (t : List ℕ). 98 ∷ 32 ∷ t) h.spelled ∙ sym (bound_ended c k x) },

@@ -16,9 +16,11 @@ told_at (l ∷ lines) zero line all lt e = subst MayBeTold (sym e) all.0
 told_at (l ∷ lines) (suc i) line all lt e = told_at lines i line all.1 (omega arith) e
 
 -- a test of each literal of a Refuted line tells whether all are allowed
-pub refuted_tells : (b : Bool) (allowed slice c : List Literal) (line : LogLine) → slice ≡ c → line ≡ Refuted c → (b ≡ true → All (λ l. Contains allowed l) slice) → (b ≡ false → All (λ l. Contains allowed l) slice → ⊥) → IsTrue b ↔ IsRefutedWithin allowed line
+pub refuted_tells : (b : Bool) (allowed slice c : List Literal) (line : LogLine) → slice ≡ c → line ≡ Refuted c →
+    (b ≡ true → All (λ l. Contains allowed l) slice) → (b ≡ false → All (λ l. Contains allowed l) slice → ⊥) → IsTrue b ↔ IsRefutedWithin allowed line
 refuted_tells b allowed slice c line e is does lacks = subst (λ (x : LogLine). IsTrue b ↔ IsRefutedWithin allowed x) (sym is) (by b does lacks)
   where
     by : (b : Bool) → (b ≡ true → All (λ l. Contains allowed l) slice) → (b ≡ false → All (λ l. Contains allowed l) slice → ⊥) → IsTrue b ↔ HasAllOf allowed c
     by true does lacks = (λ t l inside. All-contains (λ k. Contains allowed k) c l (subst (All (λ k. Contains allowed k)) e (does refl)) inside, λ h. refl)
-    by false does lacks = (λ t. absurd (true≢false (sym t)), λ h. absurd (lacks refl (subst (All (λ k. Contains allowed k)) (sym e) (All-weaker (Contains c) (λ k. Contains allowed k) (λ k inside. h k inside) c (All-contains_itself c)))))
+    by false does lacks = (λ t. absurd (true≢false (sym t)), λ h. absurd (lacks refl
+    (subst (All (λ k. Contains allowed k)) (sym e) (All-weaker (Contains c) (λ k. Contains allowed k) (λ k inside. h k inside) c (All-contains_itself c)))))

@@ -1,5 +1,6 @@
 -- Logs line by line, and what their clauses say.
-use Rattle.std.proofs.Common.{◌≡◌, ℕ, zero, suc, ◌+◌, ◌<◌, ◌≤◌, ◌⊎◌, max, List, [], ◌∷◌, ◌++◌, length, take, get_or, refl, sym, ◌∙◌, ap, subst, inl, inr, arith, append-nil, length-append, Some, None}
+use Rattle.std.proofs.Common.{◌≡◌, ℕ, zero, suc, ◌+◌, ◌<◌, ◌≤◌, ◌⊎◌, max, List, [], ◌∷◌, ◌++◌, length, take, get_or, refl, sym, ◌∙◌, ap, subst, inl, inr}
+use Rattle.std.proofs.Common.{arith, append-nil, length-append, Some, None}
 use Rattle.std.specs.Prelude.{All, Contains, Option, slice_get, flat_map, fold}
 use Rattle.std.proofs.lemmas.Grind.{flat_map-append}
 use Rattle.std.proofs.lemmas.List.Concat.{flat_map-cons}
@@ -31,7 +32,8 @@ unfolding facts_with
 facts_more lines line =
     let now = lines ++ line ∷ [] in
     let f = facts_of lines in
-    let a : greatest_var (flat_map given now) ≡ max f.greatest (greatest_var (given line)) = ap greatest_var (flat_map_last given lines line) ∙ greatest_var-append (flat_map given lines) (given line) in
+    let a : greatest_var (flat_map given now) ≡ max f.greatest (greatest_var (given line)) = ap greatest_var (flat_map_last given lines line)
+    ∙ greatest_var-append (flat_map given lines) (given line) in
     let b : flat_map added now ≡ f.clauses ++ added line = flat_map_last added lines line in
     let q : fold asked None now ≡ asked f.query line = fold_push asked None lines line in
     let r : flat_map refuted now ≡ f.refuted ++ refuted line = flat_map_last refuted lines line in
@@ -102,10 +104,12 @@ due_last lines c d = subst (λ (ls : Lines). Open ls) (take_at lines (Learnt c �
 -- the number of Learnt lines
 pub learnt_count_more : (lines : Lines) (line : LogLine) → learnt_count (lines ++ line ∷ []) ≡ learnt_after line (learnt_count lines)
 learnt_count_more lines line =
-    let more : length (flat_map learnt (lines ++ line ∷ [])) ≡ length (flat_map learnt lines) + length (learnt line) = ap length (flat_map_last learnt lines line) ∙ length-append (flat_map learnt lines) (learnt line) in
+    let more : length (flat_map learnt (lines ++ line ∷ [])) ≡ length (flat_map learnt lines) + length (learnt line) = ap length
+    (flat_map_last learnt lines line) ∙ length-append (flat_map learnt lines) (learnt line) in
     by_kind line more
   where
-    by_kind : (l : LogLine) → length (flat_map learnt (lines ++ line ∷ [])) ≡ length (flat_map learnt lines) + length (learnt l) → learnt_count (lines ++ line ∷ []) ≡ learnt_after l (learnt_count lines)
+    by_kind : (l : LogLine) → length (flat_map learnt (lines ++ line ∷ [])) ≡ length (flat_map learnt lines) + length (learnt l) →
+    learnt_count (lines ++ line ∷ []) ≡ learnt_after l (learnt_count lines)
     by_kind (Formula c) e = omega arith
     by_kind (Learnt c) e = omega arith
     by_kind (Bound criterion k x) e = omega arith
@@ -131,10 +135,12 @@ words_of_log (line ∷ lines) =
     omega (arith, a, b, c, words_split line, words_of_log lines)
 
 -- what the clauses of a log say
-given_at : (v : Assignment) (lines : Lines) (i : ℕ) (d : LogLine) → i < length lines → SatisfiesAll v (flat_map given lines) → SatisfiesAll v (given (get_or lines i d))
+given_at : (v : Assignment) (lines : Lines) (i : ℕ) (d : LogLine) → i < length lines → SatisfiesAll v (flat_map given lines) →
+    SatisfiesAll v (given (get_or lines i d))
 given_at v [] i d lt h = absurd (omega arith)
 given_at v (line ∷ lines) zero d lt h = satisfies_left v (given line) (flat_map given lines) (subst (SatisfiesAll v) (flat_map-cons given line lines) h)
-given_at v (line ∷ lines) (suc i) d lt h = given_at v lines i d (omega arith) (satisfies_right v (given line) (flat_map given lines) (subst (SatisfiesAll v) (flat_map-cons given line lines) h))
+given_at v (line ∷ lines) (suc i) d lt h = given_at v lines i d (omega arith) (satisfies_right v (given line) (flat_map given lines)
+    (subst (SatisfiesAll v) (flat_map-cons given line lines) h))
 
 record Holds (v : Assignment) (lines : Lines) : Type 0 where
   clauses : SatisfiesAll v (flat_map added lines)
@@ -142,8 +148,10 @@ record Holds (v : Assignment) (lines : Lines) : Type 0 where
 
 holds_more : (v : Assignment) (lines : Lines) (line : LogLine) → Stands lines line → SatisfiesAll v (given line) → Holds v lines → Holds v (lines ++ line ∷ [])
 holds_more v lines line s g h = record {
-  clauses = subst (SatisfiesAll v) (sym (flat_map_last added lines line)) (satisfies_append v (flat_map added lines) (added line) h.clauses (added_holds line s g));
-  answers = subst (SatisfiesAll v) (sym (flat_map_last refuted lines line)) (satisfies_append v (flat_map refuted lines) (refuted line) h.answers (refuted_holds line s));
+  clauses = subst (SatisfiesAll v) (sym (flat_map_last added lines line)) (satisfies_append v (flat_map added lines) (added line) h.clauses
+  (added_holds line s g));
+  answers = subst (SatisfiesAll v) (sym (flat_map_last refuted lines line)) (satisfies_append v (flat_map refuted lines) (refuted line) h.answers
+  (refuted_holds line s));
 }
   where
     added_holds : (l : LogLine) → Stands lines l → SatisfiesAll v (given l) → SatisfiesAll v (added l)
@@ -169,14 +177,16 @@ holds_at v lines (suc n) le d g =
     let line = get_or lines n Model in
     let more : suc n ≡ n + 1 = omega arith in
     let next : take (suc n) lines ≡ take n lines ++ line ∷ [] = ap (λ k. take k lines) more ∙ take_more lines n Model low in
-    subst (Holds v) (sym next) (holds_more v (take n lines) line (d n line (slice_get-get_or lines n Model low)) (given_at v lines n Model low g) (holds_at v lines n (omega arith) d g))
+    subst (Holds v) (sym next) (holds_more v (take n lines) line (d n line (slice_get-get_or lines n Model low)) (given_at v lines n Model low g)
+    (holds_at v lines n (omega arith) d g))
 
 learnt_of_added : (v : Assignment) (lines : Lines) → SatisfiesAll v (flat_map added lines) → SatisfiesAll v (flat_map learnt lines)
 learnt_of_added v [] h = h
 learnt_of_added v (line ∷ lines) h =
     let both = subst (SatisfiesAll v) (flat_map-cons added line lines) h in
     subst (SatisfiesAll v) (sym (flat_map-cons learnt line lines)) (satisfies_append v (learnt line) (flat_map learnt lines)
-    (one line (satisfies_left v (added line) (flat_map added lines) both)) (learnt_of_added v lines (satisfies_right v (added line) (flat_map added lines) both)))
+    (one line (satisfies_left v (added line) (flat_map added lines) both)) (learnt_of_added v lines
+    (satisfies_right v (added line) (flat_map added lines) both)))
   where
     one : (l : LogLine) → SatisfiesAll v (added l) → SatisfiesAll v (learnt l)
     one (Formula c) h = tt
@@ -186,7 +196,8 @@ learnt_of_added v (line ∷ lines) h =
     one (Refuted c) h = tt
     one Model h = tt
 
-pub derived_hold : (v : Assignment) (lines : Lines) → Derives lines → SatisfiesAll v (flat_map given lines) → SatisfiesAll v (flat_map learnt lines) × SatisfiesAll v (flat_map refuted lines)
+pub derived_hold : (v : Assignment) (lines : Lines) → Derives lines → SatisfiesAll v (flat_map given lines) →
+    SatisfiesAll v (flat_map learnt lines) × SatisfiesAll v (flat_map refuted lines)
 derived_hold v lines d g =
     let all : Holds v lines = subst (Holds v) (take_all (length lines) lines (omega arith)) (holds_at v lines (length lines) (omega arith) d g) in
     (learnt_of_added v lines all.clauses, all.answers)
@@ -201,10 +212,13 @@ first_or_later first l others m = at m.0 m.1 m.2
 
 pub new_includes_nothing : (clauses : Clauses) (c d : List Literal) → IsNewClause clauses c → Contains clauses d → HasAllOf c d → ⊥
 new_includes_nothing clauses [] d fresh among within = fresh
-new_includes_nothing clauses (first ∷ others) d fresh among within = new_includes_none clauses first others fresh d among (λ l m. first_or_later first l others (within l m))
+new_includes_nothing clauses (first ∷ others) d fresh among within = new_includes_none clauses first others fresh d among
+    (λ l m. first_or_later first l others (within l m))
 
-pub learnt_includes_none : (lines : Lines) (i : ℕ) (c d : List Literal) → Derives lines → slice_get lines i ≡ Some (Learnt c) → Contains (flat_map added (take i lines)) d → HasAllOf c d → ⊥
-learnt_includes_none lines i c d derives e among within = let stands = derives i (Learnt c) e in new_includes_nothing (flat_map added (take i lines)) c d stands.says_more among within
+pub learnt_includes_none : (lines : Lines) (i : ℕ) (c d : List Literal) → Derives lines → slice_get lines i ≡ Some (Learnt c) →
+    Contains (flat_map added (take i lines)) d → HasAllOf c d → ⊥
+learnt_includes_none lines i c d derives e among within = let stands = derives i (Learnt c) e in new_includes_nothing (flat_map added (take i lines)) c d
+    stands.says_more among within
 
 -- literals of the first variables
 pub there_below : (m n : ℕ) (c : List Literal) → AreThere m c → All (λ l. l.var ≤ n) c → AreThere n c

@@ -29,10 +29,12 @@ meets_front whole lines v front m = record {
   assignment = m.assignment;
   formula =
       let split : flat_map given whole ≡ flat_map given lines ++ flat_map given front.0 =
-      ap (flat_map given) front.1 ∙ flat_map-append given (clause_lines lines) front.0 ∙ ap (λ (cs : Clauses). cs ++ flat_map given front.0) (given_of_clauses lines) in
+      ap (flat_map given) front.1 ∙ flat_map-append given (clause_lines lines) front.0
+      ∙ ap (λ (cs : Clauses). cs ++ flat_map given front.0) (given_of_clauses lines) in
       satisfies_left m.assignment (flat_map given lines) (flat_map given front.0) (subst (SatisfiesAll m.assignment) split m.formula);
   bounds = λ c k x there. m.bounds c k x (subst (λ (ls : Lines). Contains ls (Bound c k x)) (sym front.1)
-      (Contains-append_left (clause_lines lines) front.0 (Bound c k x) (Contains-flat_map clause_line lines (Bound c k x) (Bound c k x) there (0, omega arith, refl))));
+      (Contains-append_left (clause_lines lines) front.0 (Bound c k x) (Contains-flat_map clause_line lines (Bound c k x) (Bound c k x) there
+      (0, omega arith, refl))));
 }
 
 pub caps_within : (greatest : Criterion → ℕ) (lines : Lines) (c : Criterion) → caps greatest lines c ≤ greatest c

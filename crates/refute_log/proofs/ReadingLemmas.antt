@@ -58,16 +58,19 @@ pub record Ahead (read fields : List Field) (rest : List ℕ) : Type 0 where
 pub zero_is_one : LacksByte 32 (48 ∷ [])
 zero_is_one = ((λ e. omega arith), tt)
 
-pub ahead : (read fields : List Field) (rest : List ℕ) → AreNumbers read → AreNumbers fields → trailed read ++ rest ≡ fields_left fields → Ahead read fields rest
+pub ahead : (read fields : List Field) (rest : List ℕ) → AreNumbers read → AreNumbers fields → trailed read ++ rest ≡ fields_left fields →
+    Ahead read fields rest
 ahead [] fields rest h k e = record { more = fields; split = refl; numbers = k; left = e }
 ahead (f ∷ read) [] rest h k e = absurd (no_cut (48 ∷ []) f (trailed read ++ rest) zero_is_one (sym e ∙ regroup f (trailed read) rest))
 ahead (f ∷ read) (g ∷ fields) rest h k e =
-    let cut = same_cut f g (trailed read ++ rest) (fields_left fields) (number_is_one f h.0) (number_is_one g k.0) (sym (regroup f (trailed read) rest) ∙ e ∙ regroup g (trailed fields) (48 ∷ [])) in
+    let cut = same_cut f g (trailed read ++ rest) (fields_left fields) (number_is_one f h.0) (number_is_one g k.0)
+    (sym (regroup f (trailed read) rest) ∙ e ∙ regroup g (trailed fields) (48 ∷ [])) in
     let later = ahead read fields rest h.1 k.1 cut.rest in
     record { more = later.more; split = cc (cut.field, later.split); numbers = later.numbers; left = later.left }
 
 -- what is left where no further field is read
-pub no_form_at_end : (text rest : List ℕ) (right : Bool) (literals : List Literal) → IsReadTo text rest right literals → LacksByte 32 rest → (rest ≡ 48 ∷ [] → ⊥) → HasFieldsFault text Form
+pub no_form_at_end : (text rest : List ℕ) (right : Bool) (literals : List Literal) → IsReadTo text rest right literals → LacksByte 32 rest →
+    (rest ≡ 48 ∷ [] → ⊥) → HasFieldsFault text Form
 no_form_at_end text rest right literals h one not = λ fields k.
     let a = ahead h.fields fields rest h.numbers k.numbers (sym h.spelled ∙ k.spelled) in
     end a.more a.left
@@ -76,7 +79,8 @@ no_form_at_end text rest right literals h one not = λ fields k.
     end [] e = not e
     end (f ∷ more) e = no_cut rest f (fields_left more) one (e ∙ regroup f (trailed more) (48 ∷ []))
 
-pub no_form_at_field : (text rest field after : List ℕ) (right : Bool) (literals : List Literal) → IsReadTo text rest right literals → IsCutAt 32 rest field after → (IsNumber field → ⊥) → HasFieldsFault text Form
+pub no_form_at_field : (text rest field after : List ℕ) (right : Bool) (literals : List Literal) → IsReadTo text rest right literals →
+    IsCutAt 32 rest field after → (IsNumber field → ⊥) → HasFieldsFault text Form
 no_form_at_field text rest field after right literals h cut not = λ fields k.
     let a = ahead h.fields fields rest h.numbers k.numbers (sym h.spelled ∙ k.spelled) in
     at a.more a.numbers a.left
@@ -91,7 +95,8 @@ no_form_at_field text rest field after right literals h cut not = λ fields k.
 pub trailed_more : (fields : List Field) (f : Field) (r : List ℕ) → trailed fields ++ (f ++ 32 ∷ r) ≡ trailed (fields ++ f ∷ []) ++ r
 trailed_more [] f r = sym (append_assoc (f ++ 32 ∷ []) [] r ∙ append_assoc f (32 ∷ []) r)
 trailed_more (g ∷ fields) f r =
-    append_assoc (g ++ 32 ∷ []) (trailed fields) (f ++ 32 ∷ r) ∙ ap (λ (t : List ℕ). (g ++ 32 ∷ []) ++ t) (trailed_more fields f r) ∙ sym (append_assoc (g ++ 32 ∷ []) (trailed (fields ++ f ∷ [])) r)
+    append_assoc (g ++ 32 ∷ []) (trailed fields) (f ++ 32 ∷ r) ∙ ap (λ (t : List ℕ). (g ++ 32 ∷ []) ++ t) (trailed_more fields f r)
+    ∙ sym (append_assoc (g ++ 32 ∷ []) (trailed (fields ++ f ∷ [])) r)
 
 pub all_last : {A : Type 0} (P : A → Type 0) (xs : List A) (x : A) → AllByRecursion P (xs ++ x ∷ []) → P x
 all_last P [] x h = h.0
@@ -105,14 +110,17 @@ map_more : (ls : List Literal) (l : Literal) → map literal_text (ls ++ l ∷ [
 map_more [] l = refl
 map_more (m ∷ ls) l = ap (λ (t : List Field). literal_text m ∷ t) (map_more ls l)
 
-read_right : (right : Bool) (fields : List Field) (literals new : List Literal) (field : Field) → AreRead right fields literals → AddsLiteral literals new field → AreRead right (fields ++ field ∷ []) new
+read_right : (right : Bool) (fields : List Field) (literals new : List Literal) (field : Field) → AreRead right fields literals →
+    AddsLiteral literals new field → AreRead right (fields ++ field ∷ []) new
 read_right true fields literals new field h a = (
-  ap (λ (t : List Field). t ++ field ∷ []) h.0 ∙ ap (λ (t : Field). map literal_text literals ++ t ∷ []) a.spelled ∙ sym (map_more literals a.literal) ∙ ap (λ (t : List Literal). map literal_text t) (sym a.added),
+  ap (λ (t : List Field). t ++ field ∷ []) h.0 ∙ ap (λ (t : Field). map literal_text literals ++ t ∷ []) a.spelled ∙ sym (map_more literals a.literal)
+      ∙ ap (λ (t : List Literal). map literal_text t) (sym a.added),
   subst (AreThere LAST_VAR) (sym a.added) (there_more literals a.literal h.1 a.there),
 )
 read_right false fields literals new field h a = λ all. h (each_front IsLiteral fields (field ∷ []) all)
 
-pub read_more : (text rest field after : List ℕ) (right : Bool) (literals new : List Literal) → IsReadTo text rest right literals → IsCutAt 32 rest field after → IsNumber field → AddsLiteral literals new field → IsReadTo text after right new
+pub read_more : (text rest field after : List ℕ) (right : Bool) (literals new : List Literal) → IsReadTo text rest right literals →
+    IsCutAt 32 rest field after → IsNumber field → AddsLiteral literals new field → IsReadTo text after right new
 read_more text rest field after right literals new h cut number a = record {
   fields = h.fields ++ field ∷ [];
   numbers = each_pushed IsNumber h.fields field h.numbers number;
@@ -120,7 +128,8 @@ read_more text rest field after right literals new h cut number a = record {
   read = read_right right h.fields literals new field h.read a;
 }
 
-pub read_wrong : (text rest field after : List ℕ) (right : Bool) (literals new : List Literal) → IsReadTo text rest right literals → IsCutAt 32 rest field after → IsNumber field → (IsLiteral field → ⊥) → IsReadTo text after false new
+pub read_wrong : (text rest field after : List ℕ) (right : Bool) (literals new : List Literal) → IsReadTo text rest right literals →
+    IsCutAt 32 rest field after → IsNumber field → (IsLiteral field → ⊥) → IsReadTo text after false new
 read_wrong text rest field after right literals new h cut number not = record {
   fields = h.fields ++ field ∷ [];
   numbers = each_pushed IsNumber h.fields field h.numbers number;
@@ -128,7 +137,8 @@ read_wrong text rest field after right literals new h cut number not = record {
   read = λ all. not (all_last IsLiteral h.fields field all);
 }
 
-pub all_right : (text rest : List ℕ) (right : Bool) (literals : List Literal) → IsReadTo text rest right literals → rest ≡ 48 ∷ [] → right ≡ true → HasLiterals text literals
+pub all_right : (text rest : List ℕ) (right : Bool) (literals : List Literal) → IsReadTo text rest right literals → rest ≡ 48 ∷ [] → right ≡ true →
+    HasLiterals text literals
 all_right text rest right literals h e fine =
     let k : AreRead true h.fields literals = subst (λ (b : Bool). AreRead b h.fields literals) fine h.read in
     record {

@@ -1,5 +1,6 @@
 -- Calls after each other.
-use Rattle.std.proofs.Common.{◌≡◌, ◌≤◌, ℕ, zero, suc, ◌+◌, [], ◌∷◌, ◌++◌, map, length, refl, sym, ◌∙◌, ap, subst, append-nil, append_assoc, arith, length-append, Ok, Err}
+use Rattle.std.proofs.Common.{◌≡◌, ◌≤◌, ℕ, zero, suc, ◌+◌, [], ◌∷◌, ◌++◌, map, length, refl, sym, ◌∙◌, ap, subst, append-nil, append_assoc, arith}
+use Rattle.std.proofs.Common.{length-append, Ok, Err}
 use Rattle.std.specs.Prelude.{⊤, flat_map, Result, OnErr}
 use Rattle.std.proofs.lemmas.Grind.{flat_map-append}
 use Rattle.std.proofs.lemmas.List.Concat.{flat_map-cons}
@@ -20,7 +21,8 @@ pub count_more : (xs ys : Lines) → length (flat_map learnt (xs ++ ys)) ≡ len
 count_more xs ys = ap length (flat_map-append learnt xs ys) ∙ length-append (flat_map learnt xs) (flat_map learnt ys)
 
 -- ---- calls
-pub stays : {S : Type 0} (knows log : S → Lines → Type 0) (count : S → ℕ) (s : S) (R : Lines → Lines → Type 0) → ((lines : Lines) → knows s lines → R lines []) → Continues knows log count s s R
+pub stays : {S : Type 0} (knows log : S → Lines → Type 0) (count : S → ℕ) (s : S) (R : Lines → Lines → Type 0) →
+    ((lines : Lines) → knows s lines → R lines []) → Continues knows log count s s R
 stays knows log count s R h = λ lines k. record {
   more = [];
   knows = subst (knows s) (sym (append-nil lines)) k;
@@ -54,7 +56,8 @@ becomes knows log count a b Q T h f = λ lines known.
     record { more = first.more; knows = first.knows; told = first.told; counted = first.counted; does = f lines first.more known first.knows first.does }
 
 -- after a call that goes on, some lines are known still
-pub known_after : {S : Type 0} (knows log : S → Lines → Type 0) (count : S → ℕ) (a b : S) (R : Lines → Lines → Type 0) → KnowsSome knows a → Continues knows log count a b R → KnowsSome knows b
+pub known_after : {S : Type 0} (knows log : S → Lines → Type 0) (count : S → ℕ) (a b : S) (R : Lines → Lines → Type 0) → KnowsSome knows a →
+    Continues knows log count a b R → KnowsSome knows b
 known_after knows log count a b R known goes =
     let told : ToldBehind (knows b) (log a) (log b) (count a) (count b) known.0 (R known.0) = goes known.0 known.1 in
     (known.0 ++ told.more, told.knows)
@@ -91,7 +94,8 @@ pub leaves_known : (xs : Lines) (k1 k2 old new : Lines → Type 0) → ((lines :
 leaves_known xs k1 k2 old new from h = λ lines k was told is. h lines (from lines k) was told is
 
 -- an error that tells nothing
-pub leaves_same : (known log : Lines → Type 0) → ((lines : Lines) → known lines → Derives lines) → ((x y : Lines) → log x → log y → x ≡ y) → Leaves [] known log log
+pub leaves_same : (known log : Lines → Type 0) → ((lines : Lines) → known lines → Derives lines) → ((x y : Lines) → log x → log y → x ≡ y) →
+    Leaves [] known log log
 leaves_same known log derives one = λ lines k was told is. record {
   derives = subst Derives (one lines told was is) (derives lines k);
   front = [];
@@ -101,7 +105,8 @@ leaves_same known log derives one = λ lines k was told is. record {
 
 -- an error in a later call, where the calls before told these clauses
 pub leaves_then : (k1 k2 l1 l2 l3 : Lines → Type 0) (n1 n2 : ℕ) (R : Lines → Lines → Type 0) (xs ys : Lines) → GoesOn k1 k2 l1 l2 n1 n2 R →
-    ((lines more : Lines) → k1 lines → k2 (lines ++ more) → R lines more → clause_lines (lines ++ more) ≡ clause_lines lines ++ xs) → Leaves ys k2 l2 l3 → Leaves (xs ++ ys) k1 l1 l3
+    ((lines more : Lines) → k1 lines → k2 (lines ++ more) → R lines more → clause_lines (lines ++ more) ≡ clause_lines lines ++ xs) → Leaves ys k2 l2 l3 →
+    Leaves (xs ++ ys) k1 l1 l3
 leaves_then k1 k2 l1 l2 l3 n1 n2 R xs ys run gives after = λ lines known was told is.
     let first : ToldBehind k2 l1 l2 n1 n2 lines (R lines) = run lines known in
     let left = after (lines ++ first.more) first.knows (first.told lines was) told is in
@@ -109,11 +114,13 @@ leaves_then k1 k2 l1 l2 l3 n1 n2 R xs ys run gives after = λ lines known was to
       derives = left.derives;
       front = xs ++ left.front;
       begins = (left.begins.0, ap (λ (ls : Lines). xs ++ ls) left.begins.1 ∙ sym (append_assoc xs left.front left.begins.0));
-      gives = left.gives ∙ ap (λ (ls : Lines). ls ++ left.front) (gives lines first.more known first.knows first.does) ∙ append_assoc (clause_lines lines) xs left.front;
+      gives = left.gives ∙ ap (λ (ls : Lines). ls ++ left.front) (gives lines first.more known first.knows first.does)
+          ∙ append_assoc (clause_lines lines) xs left.front;
     }
 
 -- the same of two states of one thing
-pub leaves_later : {S : Type 0} (knows log : S → Lines → Type 0) (count : S → ℕ) (a b e : S) (R : Lines → Lines → Type 0) (xs ys : Lines) → Continues knows log count a b R →
+pub leaves_later : {S : Type 0} (knows log : S → Lines → Type 0) (count : S → ℕ) (a b e : S) (R : Lines → Lines → Type 0) (xs ys : Lines) →
+    Continues knows log count a b R →
     ((lines more : Lines) → R lines more → clause_lines more ≡ xs) → Leaves ys (knows b) (log b) (log e) → Leaves (xs ++ ys) (knows a) (log a) (log e)
 leaves_later knows log count a b e R xs ys run gives after =
     leaves_then (knows a) (knows b) (log a) (log b) (log e) (count a) (count b) R xs ys run
@@ -121,7 +128,8 @@ leaves_later knows log count a b e R xs ys run gives after =
 
 -- and that tells nothing itself
 pub leaves_here : {S : Type 0} (knows log : S → Lines → Type 0) (count : S → ℕ) (a b : S) (R : Lines → Lines → Type 0) → Continues knows log count a b R →
-    ((lines more : Lines) → R lines more → clause_lines more ≡ []) → ((lines : Lines) → knows b lines → Derives lines) → ((x y : Lines) → log b x → log b y → x ≡ y) → Leaves [] (knows a) (log a) (log b)
+    ((lines more : Lines) → R lines more → clause_lines more ≡ []) → ((lines : Lines) → knows b lines → Derives lines) →
+    ((x y : Lines) → log b x → log b y → x ≡ y) → Leaves [] (knows a) (log a) (log b)
 leaves_here knows log count a b R run gives derives one = leaves_later knows log count a b b R [] [] run gives (leaves_same (knows b) (log b) derives one)
 
 pub on_err_weaker : {T E : Type 0} (r : Result T E) (P Q : Type 0) → (P → Q) → OnErr r P → OnErr r Q

@@ -1,5 +1,6 @@
 -- Numbers that are put in order stand twice exactly where two neighbours are equal.
-use Rattle.std.proofs.Common.{◌≡◌, ◌≢◌, ℕ, ◌+◌, ◌<◌, ◌↔◌, Bool, true, false, IsTrue, List, length, get_or, ltb, AllPairs, map, subst, refl, sym, ◌∙◌, ap, arith, inl, inr}
+use Rattle.std.proofs.Common.{◌≡◌, ◌≢◌, ℕ, ◌+◌, ◌<◌, ◌↔◌, Bool, true, false, IsTrue, List, length, get_or, ltb, AllPairs, map, subst, refl, sym, ◌∙◌, ap}
+use Rattle.std.proofs.Common.{arith, inl, inr}
 use Rattle.std.specs.List.{swap, IsAllAdjacentAnswer}
 use Rattle.std.specs.List.Sorted.{IsPermutation, IsSorted, IsStrictlyIncreasing}
 use Rattle.std.specs.Ordering.{nat_cmp}
@@ -48,10 +49,17 @@ stood : (xs : List ℕ) (i j a : ℕ) → i < length xs → j < length xs → a 
 stood xs i j a li lj la =
     let s = swapped_from_swap xs (swap xs i j) i j 0 li lj refl in
     elim (eqb_tells a i) [
-      | inl is ↦ record { at = j; within = lj; same = ap (λ k. get_or (swap xs i j) k 0) is.1 ∙ s.0; first = λ e. refl; second = λ e. sym e ∙ is.1; other = λ n. absurd (n is.1) }
+      | inl is ↦ record {
+      at = j; within = lj; same = ap (λ k. get_or (swap xs i j) k 0) is.1 ∙ s.0; first = λ e. refl; second = λ e. sym e ∙ is.1; other = λ n. absurd (n is.1)
+      }
       | inr not ↦ elim (eqb_tells a j) [
-        | inl is ↦ record { at = i; within = li; same = ap (λ k. get_or (swap xs i j) k 0) is.1 ∙ s.1; first = λ e. absurd (not.1 e); second = λ e. refl; other = λ m n. absurd (n is.1) }
-        | inr neither ↦ record { at = a; within = la; same = s.2 a not.1 neither.1; first = λ e. absurd (not.1 e); second = λ e. absurd (neither.1 e); other = λ m n. refl }
+        | inl is ↦ record {
+        at = i; within = li; same = ap (λ k. get_or (swap xs i j) k 0) is.1 ∙ s.1; first = λ e. absurd (not.1 e); second = λ e. refl; other = λ m n. absurd
+        (n is.1)
+        }
+        | inr neither ↦ record {
+        at = a; within = la; same = s.2 a not.1 neither.1; first = λ e. absurd (not.1 e); second = λ e. absurd (neither.1 e); other = λ m n. refl
+        }
       ]
     ]
 
@@ -63,7 +71,8 @@ swap_keeps xs i j li lj h a b la lb e =
     let same : p.at ≡ q.at = h p.at q.at p.within q.within (sym p.same ∙ e ∙ q.same) in
     elim (eqb_tells a b) [ inl is ↦ is.1 | inr not ↦ absurd (apart a b i j p.at q.at not.1 p.first p.second p.other q.first q.second q.other same) ]
   where
-    apart : (a b i j m n : ℕ) → a ≢ b → (a ≡ i → m ≡ j) → (a ≡ j → m ≡ i) → (a ≢ i → a ≢ j → m ≡ a) → (b ≡ i → n ≡ j) → (b ≡ j → n ≡ i) → (b ≢ i → b ≢ j → n ≡ b) → m ≡ n → ⊥
+    apart : (a b i j m n : ℕ) → a ≢ b → (a ≡ i → m ≡ j) → (a ≡ j → m ≡ i) → (a ≢ i → a ≢ j → m ≡ a) → (b ≡ i → n ≡ j) → (b ≡ j → n ≡ i) →
+    (b ≢ i → b ≢ j → n ≡ b) → m ≡ n → ⊥
     apart a b i j m n ne f g h p q r e =
         elim (eqb_tells a i) [
           | inl ai ↦ elim (eqb_tells b j) [
@@ -94,7 +103,8 @@ swap_keeps xs i j li lj h a b la lb e =
 permuted : (xs ys : List ℕ) → IsPermutation xs ys → AllPairs (λ x y. x ≢ y) xs → AllPairs (λ x y. x ≢ y) ys
 permuted xs ys p h = pairs_from_once ys (IsPermutation-keeps xs StandOnce (once_from_pairs xs h) swap_keeps ys p)
 
-pub distinct_answer : (old new : List ℕ) (r : Bool) → IsPermutation old new → IsSorted nat_cmp new → IsAllAdjacentAnswer (λ x y b. b ≡ ltb x y) new r → IsTrue r ↔ AllPairs (λ x y. x ≢ y) old
+pub distinct_answer : (old new : List ℕ) (r : Bool) → IsPermutation old new → IsSorted nat_cmp new → IsAllAdjacentAnswer (λ x y b. b ≡ ltb x y) new r →
+    IsTrue r ↔ AllPairs (λ x y. x ≢ y) old
 distinct_answer old new true p s h =
     let up : IsStrictlyIncreasing new = λ k lt. let t = h k 0 lt in omega (arith, ltb-true _ _ (sym t)) in
     let below = AllPairs-from_increasing new up in
@@ -123,7 +133,8 @@ distinct_from_variables ls h = distinct_from_pairs ls (λ i j l lt len e.
     let i_within : i < length ls = omega arith in
     h i j 0 lt (omega arith) (get_or-map var ls i l 0 i_within ∙ e ∙ sym (get_or-map var ls j l 0 len)))
 
-pub distinct_variables : (ls : List Literal) (numbers : List ℕ) (r : Bool) → numbers ≡ map (λ l. l.var) ls → IsTrue r ↔ AllPairs (λ x y. x ≢ y) numbers → IsTrue r ↔ AreDistinct ls
+pub distinct_variables : (ls : List Literal) (numbers : List ℕ) (r : Bool) → numbers ≡ map (λ l. l.var) ls → IsTrue r ↔ AllPairs (λ x y. x ≢ y) numbers →
+    IsTrue r ↔ AreDistinct ls
 distinct_variables ls numbers r e h =
     let P : List ℕ → Type 0 = AllPairs (λ x y. x ≢ y) in
     (λ t. distinct_from_variables ls (subst P e (h.0 t)), λ d. h.1 (subst P (sym e) (pairs_of_variables ls d)))

@@ -1,5 +1,6 @@
 -- What is left of a log is accepted where it is checked again.
-use Rattle.std.proofs.Common.{◌≡◌, ◌≤◌, ◌≢◌, ℕ, zero, suc, ◌+◌, ◌⊎◌, inl, inr, List, [], ◌∷◌, ◌++◌, length, map, Some, refl, sym, ◌∙◌, ap, subst, arith, append-nil, append_assoc, length-append}
+use Rattle.std.proofs.Common.{◌≡◌, ◌≤◌, ◌≢◌, ℕ, zero, suc, ◌+◌, ◌⊎◌, inl, inr, List, [], ◌∷◌, ◌++◌, length, map, Some, refl, sym, ◌∙◌, ap, subst, arith}
+use Rattle.std.proofs.Common.{append-nil, append_assoc, length-append}
 use Rattle.std.specs.Prelude.{All, Contains, flat_map, slice_get, true, false}
 use Rattle.std.specs.List.{AllByRecursion}
 use Rattle.std.proofs.lemmas.Bool.{false≢true}
@@ -71,18 +72,21 @@ one_of (d ∷ order) c = elim (same_criterion c d) as (λ b. same_criterion c d 
     no_same a b same differs = false≢true (sym differs ∙ ap (λ (e : Criterion). same_criterion a e) (sym same) ∙ same_itself a)
 
 -- another one has no Bound line among those that are expected, and so none in a log that begins with these
-no_bounds : (e : Problem) (order : List Criterion) (cap : Criterion → ℕ) (lines : Lines) (c : Criterion) → All (λ d. c ≢ d) order → BeginsLines (clause_lines lines) (expected_lines e order cap) → length (bound_vars c lines) ≤ 0
+no_bounds : (e : Problem) (order : List Criterion) (cap : Criterion → ℕ) (lines : Lines) (c : Criterion) → All (λ d. c ≢ d) order →
+    BeginsLines (clause_lines lines) (expected_lines e order cap) → length (bound_vars c lines) ≤ 0
 no_bounds e order cap lines c out (rest, is) =
     let none : bound_vars c (expected_lines e order cap) ≡ [] =
     flat_map-append (bound_var c) (map Formula e.clauses) (sums e e.vars order cap)
     ∙ ap (λ (xs : List Var). xs ++ bound_vars c (sums e e.vars order cap)) (formulas_none c e.clauses) ∙ sums_without e e.vars order cap c out in
     let all : bound_vars c (expected_lines e order cap) ≡ bound_vars c lines ++ bound_vars c rest =
-    ap (bound_vars c) is ∙ flat_map-append (bound_var c) (clause_lines lines) rest ∙ ap (λ (xs : List Var). xs ++ bound_vars c rest) (bounds_of_clauses c lines) in
+    ap (bound_vars c) is ∙ flat_map-append (bound_var c) (clause_lines lines) rest
+    ∙ ap (λ (xs : List Var). xs ++ bound_vars c rest) (bounds_of_clauses c lines) in
     let size = ap length (sym all ∙ none) in
     let both = length-append (bound_vars c lines) (bound_vars c rest) in
     omega (arith, size, both)
 
-in_range : (y : Layout) (order : List Criterion) (claim : Claim) (log : List ℕ) (r : TrimmedLog) (c : Criterion) → IsTrimmedLog y order claim log r → IsFitCap (limit_of y.graph y.grid) order r.caps c
+in_range : (y : Layout) (order : List Criterion) (claim : Claim) (log : List ℕ) (r : TrimmedLog) (c : Criterion) → IsTrimmedLog y order claim log r →
+    IsFitCap (limit_of y.graph y.grid) order r.caps c
 in_range y order claim log r c h = record {
   within = (let is = h.caps_are c in omega (arith, is));
   asked = λ some. elim (one_of order c) [
@@ -94,22 +98,31 @@ in_range y order claim log r c h = record {
   ];
 }
 
-small_cap : (y : Layout) (order : List Criterion) (claim : Claim) (log : List ℕ) (r : TrimmedLog) → IsStationGraph y.graph → IsGrid y.grid → IsTrimmedLog y order claim log r → AreSmallCaps r.caps
+small_cap : (y : Layout) (order : List Criterion) (claim : Claim) (log : List ℕ) (r : TrimmedLog) → IsStationGraph y.graph → IsGrid y.grid →
+    IsTrimmedLog y order claim log r → AreSmallCaps r.caps
 small_cap y order claim log r station sized h = λ c.
     let is = h.caps_are c in
     let low = small_limit y.graph y.grid c station sized in
     omega (arith, is, low)
 
-caps_for : (y : Layout) (order : List Criterion) (claim : Claim) (log : List ℕ) (r : TrimmedLog) → IsStationGraph y.graph → IsGrid y.grid → IsTrimmedLog y order claim log r → AreCapsFor y order r.caps
+caps_for : (y : Layout) (order : List Criterion) (claim : Claim) (log : List ℕ) (r : TrimmedLog) → IsStationGraph y.graph → IsGrid y.grid →
+    IsTrimmedLog y order claim log r → AreCapsFor y order r.caps
 caps_for y order claim log r station sized h = record {
   small = small_cap y order claim log r station sized h;
-  range = (in_range y order claim log r Height h, (in_range y order claim log r Bends h, (in_range y order claim log r Diagonal h, (in_range y order claim log r Width h, tt))));
+  range = (
+    in_range y order claim log r Height h,
+    (
+      in_range y order claim log r Bends h,
+      (in_range y order claim log r Diagonal h, (in_range y order claim log r Width h, tt)),
+    ),
+  );
 }
 
 -- ---- the lines may be written
 
 -- a line of a log with Formula lines at its end, which isn't one of these
-told_line : (lines : Lines) (missing : Clauses) (line : HintLine) (p : ℕ) → MayAllBeTold lines → slice_get (lines ++ map Formula missing) p ≡ Some (line_of line) → MayBeTold (line_of line)
+told_line : (lines : Lines) (missing : Clauses) (line : HintLine) (p : ℕ) → MayAllBeTold lines →
+    slice_get (lines ++ map Formula missing) p ≡ Some (line_of line) → MayBeTold (line_of line)
 told_line [] [] line p told at = absurd (let low = slice_get_within [] p (line_of line) at in omega (arith, low))
 told_line [] (c ∷ missing) line zero told at = absurd (no_formula line c (same_Some (Formula c) (line_of line) at))
   where
@@ -121,7 +134,8 @@ told_line (l ∷ lines) missing line zero told at = subst MayBeTold (same_Some l
 told_line (l ∷ lines) missing line (suc p) told at = told_line lines missing line p told.1 at
 
 -- the numbers that lead are numbers of clauses
-lead_numbers : (clauses : Clauses) (set to : List Literal) (ns : List ℕ) → length clauses ≤ LAST_VAR → Leads clauses set ns to → AllByRecursion IsClauseNumber ns
+lead_numbers : (clauses : Clauses) (set to : List Literal) (ns : List ℕ) → length clauses ≤ LAST_VAR → Leads clauses set ns to →
+    AllByRecursion IsClauseNumber ns
 lead_numbers clauses set to [] few leads = tt
 lead_numbers clauses set to (n ∷ ns) few (l, one, more) =
     let from = one.number.from in
@@ -141,7 +155,8 @@ good_written clauses line few good told =
       formed = record {
         formed = told.formed;
         some = (omega (arith, size));
-        numbers = subst (AllByRecursion IsClauseNumber) (sym good.are) (numbers_push good.front good.last (lead_numbers clauses _ good.to good.front few good.leads) last);
+        numbers = subst (AllByRecursion IsClauseNumber) (sym good.are) (numbers_push good.front good.last
+            (lead_numbers clauses _ good.to good.front few good.leads) last);
       };
       once = told.once;
     }
@@ -150,7 +165,8 @@ few_clauses : (cs : Clauses) → length cs ≤ words_of cs
 few_clauses [] = omega arith
 few_clauses (c ∷ cs) = let more = few_clauses cs in omega (arith, more)
 
-all_written : (lines : Lines) (missing : Clauses) (wanted : List ℕ) (low high : ℕ) (places : List ℕ) (clauses : Clauses) (kept : HintLines) → MayAllBeTold lines → StandAt (lines ++ map Formula missing) wanted low high places kept →
+all_written : (lines : Lines) (missing : Clauses) (wanted : List ℕ) (low high : ℕ) (places : List ℕ) (clauses : Clauses) (kept : HintLines) →
+    MayAllBeTold lines → StandAt (lines ++ map Formula missing) wanted low high places kept →
     AreGood clauses kept → words_of (clauses ++ flat_map clauses_learnt kept) ≤ ROOM → MayAllBeWritten kept
 all_written lines missing wanted low high places clauses [] told stand good fits = tt
 all_written lines missing wanted low high [] clauses (line ∷ kept) told stand good fits = absurd stand
@@ -171,14 +187,16 @@ fits_limits g o said r fits (inr long) =
     let sum = words_append (flat_map given (expected_again g o said r).lines) (flat_map clauses_learnt r.kept) in
     omega (arith, words, sum, long)
 
-left_accepted : (g : Graph) (o : EdgeOrder) (said : Sheet) (log : List ℕ) (r : TrimmedLog) → IsLeftFor g o said log r → FitsRoom g o said r → AreAcceptedHints (expected_again g o said r) r.kept
+left_accepted : (g : Graph) (o : EdgeOrder) (said : Sheet) (log : List ℕ) (r : TrimmedLog) → IsLeftFor g o said log r → FitsRoom g o said r →
+    AreAcceptedHints (expected_again g o said r) r.kept
 left_accepted g o said log r left fits = record {
   within = fits_limits g o said r fits;
   good = left_good (layout g o said.grid) said.order (claim_of said.order said.found said.ending) log r left;
   room = fits.words;
 }
 
-left_certifies : (g : Graph) (o : EdgeOrder) (said : Sheet) (log : List ℕ) (r : TrimmedLog) → IsStationGraph g → IsGrid said.grid → IsLeftFor g o said log r → FitsRoom g o said r →
+left_certifies : (g : Graph) (o : EdgeOrder) (said : Sheet) (log : List ℕ) (r : TrimmedLog) → IsStationGraph g → IsGrid said.grid → IsLeftFor g o said log r →
+    FitsRoom g o said r →
     HintsCertify (layout g o said.grid) said.order (claim_of said.order said.found said.ending) (left_text r)
 left_certifies g o said log r station sized left fits =
     let y = layout g o said.grid in
@@ -191,7 +209,8 @@ left_certifies g o said log r station sized left fits =
       certifies = record {
         lines = r.kept;
         whole = record {
-          formed = all_written left.lines left.missing left.wanted 0 (length (left.lines ++ map Formula left.missing)) left.trimmed.places (flat_map given (expected_again g o said r).lines) r.kept left.is_log.formed left.trimmed.stand good fits.words;
+          formed = all_written left.lines left.missing left.wanted 0 (length (left.lines ++ map Formula left.missing)) left.trimmed.places
+              (flat_map given (expected_again g o said r).lines) r.kept left.is_log.formed left.trimmed.stand good fits.words;
           spelled = sym (append-nil (flat_map ended_hint r.kept));
           accepted = left_accepted g o said log r left fits;
         };
@@ -199,13 +218,15 @@ left_certifies g o said log r station sized left fits =
       };
     }
 
-pub left_is_certified : (file sheet log : List ℕ) (r : TrimmedLog) (status : Status) (text : List ℕ) → (left : LeavesLines file sheet log r) → FitsRoom left.graph left.order left.said r → IsRechecked file sheet (left_text r) status text →
+pub left_is_certified : (file sheet log : List ℕ) (r : TrimmedLog) (status : Status) (text : List ℕ) → (left : LeavesLines file sheet log r) →
+    FitsRoom left.graph left.order left.said r → IsRechecked file sheet (left_text r) status text →
     status ≡ Done
 left_is_certified file sheet log r status text left fits answer =
     let c = left.certifies in
     let certify : HintsCertifySheet left.graph left.order sheet (left_text r) left.said = record {
       is_text = c.is_text;
       lawful = c.lawful;
-      certify = left_certifies left.graph left.order left.said log r left.station.has_graph.built.station (read_grid left.graph sheet left.said c.is_text) left.left fits;
+      certify = left_certifies left.graph left.order left.said log r left.station.has_graph.built.station (read_grid left.graph sheet left.said c.is_text)
+          left.left fits;
     } in
     (recheck_due file sheet (left_text r) left.graph left.order left.said status text left.station certify answer).0

@@ -38,18 +38,21 @@ use Rattle.run_input.proofs.InputLemmas.{file_fault_status}
 pub read_grid : (g : Graph) (sheet : List ℕ) (said : Sheet) → IsSheetText g false sheet said → IsGrid said.grid
 read_grid g sheet said is = is.right.1.0.range
 
-one_telling : (places : ℕ) (v w : Verdict) (status other : Status) (text another : List ℕ) → v ≡ w → TellsVerdict places v status text → TellsVerdict places w other another → SameAnswer status other text another
+one_telling : (places : ℕ) (v w : Verdict) (status other : Status) (text another : List ℕ) → v ≡ w → TellsVerdict places v status text →
+    TellsVerdict places w other another → SameAnswer status other text another
 one_telling places v w status other text another same a b = record {
   status_is = a.status_is ∙ ap verdict_status same ∙ sym b.status_is;
   text_is = a.line_is ∙ ap (λ (x : Verdict). verdict_line places x) same ∙ sym b.line_is;
 }
 
-one_broken : (g : Graph) (o : EdgeOrder) (said : Sheet) (found : Option Drawing) (status other : Status) (text another : List ℕ) → IsFoundBroken g o said found status text → IsFoundBroken g o said found other another → SameAnswer status other text another
+one_broken : (g : Graph) (o : EdgeOrder) (said : Sheet) (found : Option Drawing) (status other : Status) (text another : List ℕ) →
+    IsFoundBroken g o said found status text → IsFoundBroken g o said found other another → SameAnswer status other text another
 one_broken g o said None status other text another a b = absurd a
 one_broken g o said (Some d) status other text another a b = one_verdict g o said.grid d status other text another (inr a) (inr b)
 
 -- a lawful drawing breaks no law
-pub lawful_not_broken : (g : Graph) (o : EdgeOrder) (said : Sheet) (found : Option Drawing) (status : Status) (text : List ℕ) → IfSome found (Lawful g (is_above o) said.grid) → IsFoundBroken g o said found status text → ⊥
+pub lawful_not_broken : (g : Graph) (o : EdgeOrder) (said : Sheet) (found : Option Drawing) (status : Status) (text : List ℕ) →
+    IfSome found (Lawful g (is_above o) said.grid) → IsFoundBroken g o said found status text → ⊥
 lawful_not_broken g o said None status text lawful broken = broken
 lawful_not_broken g o said (Some d) status text lawful broken = lawful_breaks_none g (is_above o) said.grid d broken.broken lawful broken.least
 
@@ -68,19 +71,23 @@ judgeable file sheet g o said has is = record {
   claim = sheet_claims g false sheet said is;
 }
 
-one_claim : (g : Graph) (o : EdgeOrder) (said : Sheet) (log : List ℕ) (status other : Status) (text another : List ℕ) → IsJudgeable g o said → IsClaimChecked g o said log status text → IsClaimChecked g o said log other another → SameAnswer status other text another
+one_claim : (g : Graph) (o : EdgeOrder) (said : Sheet) (log : List ℕ) (status other : Status) (text another : List ℕ) → IsJudgeable g o said →
+    IsClaimChecked g o said log status text → IsClaimChecked g o said log other another → SameAnswer status other text another
 one_claim g o said log status other text another may a b =
     let claim = claim_of said.order said.found said.ending in
-    let same : a.verdict ≡ b.verdict = judged_once (layout g o said.grid) said.order claim log a.verdict b.verdict may.station may.order may.grid may.claim a.judged b.judged in
+    let same : a.verdict ≡ b.verdict = judged_once (layout g o said.grid) said.order claim log a.verdict b.verdict may.station may.order may.grid may.claim
+    a.judged b.judged in
     one_telling (claimed said.order said.ending) a.verdict b.verdict status other text another same a.told b.told
 
-one_said : (g : Graph) (o : EdgeOrder) (said : Sheet) (log : List ℕ) (status other : Status) (text another : List ℕ) → IsJudgeable g o said → IsSheetAnswer g o said log status text → IsSheetAnswer g o said log other another → SameAnswer status other text another
+one_said : (g : Graph) (o : EdgeOrder) (said : Sheet) (log : List ℕ) (status other : Status) (text another : List ℕ) → IsJudgeable g o said →
+    IsSheetAnswer g o said log status text → IsSheetAnswer g o said log other another → SameAnswer status other text another
 one_said g o said log status other text another may (inl a) (inl b) = one_broken g o said said.found status other text another a b
 one_said g o said log status other text another may (inl a) (inr b) = absurd (lawful_not_broken g o said said.found status text b.lawful a)
 one_said g o said log status other text another may (inr a) (inl b) = absurd (lawful_not_broken g o said said.found other another a.lawful b)
 one_said g o said log status other text another may (inr a) (inr b) = one_claim g o said log status other text another may a b
 
-one_judged : (file : List ℕ) (g : Graph) (o : EdgeOrder) (sheet log : List ℕ) (status other : Status) (text another : List ℕ) → HasStation file g o → IsClaimJudged g o sheet log status text → IsClaimJudged g o sheet log other another → SameAnswer status other text another
+one_judged : (file : List ℕ) (g : Graph) (o : EdgeOrder) (sheet log : List ℕ) (status other : Status) (text another : List ℕ) → HasStation file g o →
+    IsClaimJudged g o sheet log status text → IsClaimJudged g o sheet log other another → SameAnswer status other text another
 one_judged file g o sheet log status other text another has (inl a) (inl b) =
     let same : b.said ≡ a.said = one_sheet g false sheet b.said a.said b.is_text a.is_text in
     one_said g o a.said log status other text another (judgeable file sheet g o a.said has a.is_text) a.answer
@@ -92,24 +99,29 @@ one_judged file g o sheet log status other text another has (inr a) (inr b) = on
 -- ---- and to a file
 
 -- a file's station is one: what is answered to one of two is answered to the other
-same_station : (file sheet log : List ℕ) (g h : Graph) (o p : EdgeOrder) (status : Status) (text : List ℕ) → HasStation file g o → HasStation file h p → IsClaimJudged h p sheet log status text → IsClaimJudged g o sheet log status text
+same_station : (file sheet log : List ℕ) (g h : Graph) (o p : EdgeOrder) (status : Status) (text : List ℕ) → HasStation file g o → HasStation file h p →
+    IsClaimJudged h p sheet log status text → IsClaimJudged g o sheet log status text
 same_station file sheet log g h o p status text has also judged =
     let graph : h ≡ g = one_graph file h g also.has_graph has.has_graph in
     let order : p ≡ o = one_order g p o (subst (λ (x : Graph). IsOrderOf x p) graph also.order) has.order in
     subst (λ (x : EdgeOrder). IsClaimJudged g x sheet log status text) order
     (subst (λ (x : Graph). IsClaimJudged x p sheet log status text) graph judged)
 
-one_checked : (file sheet log : List ℕ) (status other : Status) (text another : List ℕ) → IsChecked file sheet log status text → IsChecked file sheet log other another → SameAnswer status other text another
+one_checked : (file sheet log : List ℕ) (status other : Status) (text another : List ℕ) → IsChecked file sheet log status text →
+    IsChecked file sheet log other another → SameAnswer status other text another
 one_checked file sheet log status other text another (inl (g, o, has, a)) (inl (h, p, also, b)) =
     one_judged file g o sheet log status other text another has a (same_station file sheet log g h o p other another has also b)
 one_checked file sheet log status other text another (inl (g, o, has, a)) (inr b) = absurd (station_or_fault file g o b.fault has b.has)
 one_checked file sheet log status other text another (inr a) (inl (h, p, also, b)) = absurd (station_or_fault file h p a.fault also a.has)
-one_checked file sheet log status other text another (inr a) (inr b) = one_refusal a.fault b.fault status other text another (one_fault file a.fault b.fault a.has b.has) a.answers b.answers
+one_checked file sheet log status other text another (inr a) (inr b) = one_refusal a.fault b.fault status other text another
+    (one_fault file a.fault b.fault a.has b.has) a.answers b.answers
 
-pub one_check_status : (file sheet log : List ℕ) (status other : Status) (text another : List ℕ) → IsChecked file sheet log status text → IsChecked file sheet log other another → status ≡ other
+pub one_check_status : (file sheet log : List ℕ) (status other : Status) (text another : List ℕ) → IsChecked file sheet log status text →
+    IsChecked file sheet log other another → status ≡ other
 one_check_status file sheet log status other text another a b = (one_checked file sheet log status other text another a b).status_is
 
-pub one_check_text : (file sheet log : List ℕ) (status other : Status) (text another : List ℕ) → IsChecked file sheet log status text → IsChecked file sheet log other another → text ≡ another
+pub one_check_text : (file sheet log : List ℕ) (status other : Status) (text another : List ℕ) → IsChecked file sheet log status text →
+    IsChecked file sheet log other another → text ≡ another
 one_check_text file sheet log status other text another a b = (one_checked file sheet log status other text another a b).text_is
 
 -- ---- what is certified
@@ -117,24 +129,30 @@ one_check_text file sheet log status other text another a b = (one_checked file 
 abbrev IsCertifiedLine : Sheet → Status → List ℕ → Type 0
 IsCertifiedLine said status text = (status ≡ Done) × (text ≡ verdict_line (claimed said.order said.ending) verdicts.Certified)
 
-certified_telling : (places : ℕ) (v : Verdict) (status : Status) (text : List ℕ) → v ≡ verdicts.Certified → TellsVerdict places v status text → (status ≡ Done) × (text ≡ verdict_line places verdicts.Certified)
+certified_telling : (places : ℕ) (v : Verdict) (status : Status) (text : List ℕ) → v ≡ verdicts.Certified → TellsVerdict places v status text →
+    (status ≡ Done) × (text ≡ verdict_line places verdicts.Certified)
 certified_telling places v status text same told = (told.status_is ∙ ap verdict_status same, told.line_is ∙ ap (λ (x : Verdict). verdict_line places x) same)
 
-certified_claim : (file : List ℕ) (g : Graph) (o : EdgeOrder) (sheet log : List ℕ) (said : Sheet) (status : Status) (text : List ℕ) → HasStation file g o → CertifiesSheet g o sheet log said → IsSheetAnswer g o said log status text → IsCertifiedLine said status text
+certified_claim : (file : List ℕ) (g : Graph) (o : EdgeOrder) (sheet log : List ℕ) (said : Sheet) (status : Status) (text : List ℕ) → HasStation file g o →
+    CertifiesSheet g o sheet log said → IsSheetAnswer g o said log status text → IsCertifiedLine said status text
 certified_claim file g o sheet log said status text has c (inl broken) = absurd (lawful_not_broken g o said said.found status text c.lawful broken)
 certified_claim file g o sheet log said status text has c (inr claim) =
     let may = judgeable file sheet g o said has c.is_text in
     let is : claim.verdict ≡ verdicts.Certified =
-    certified_due (layout g o said.grid) said.order (claim_of said.order said.found said.ending) log c.expected c.lines claim.verdict may.station may.order may.grid may.claim c.is_expected c.whole c.certified claim.judged in
+    certified_due (layout g o said.grid) said.order (claim_of said.order said.found said.ending) log c.expected c.lines claim.verdict may.station may.order
+    may.grid may.claim c.is_expected c.whole c.certified claim.judged in
     certified_telling (claimed said.order said.ending) claim.verdict status text is claim.told
 
-certified_judged : (file : List ℕ) (g : Graph) (o : EdgeOrder) (sheet log : List ℕ) (said : Sheet) (status : Status) (text : List ℕ) → HasStation file g o → CertifiesSheet g o sheet log said → IsClaimJudged g o sheet log status text → IsCertifiedLine said status text
+certified_judged : (file : List ℕ) (g : Graph) (o : EdgeOrder) (sheet log : List ℕ) (said : Sheet) (status : Status) (text : List ℕ) → HasStation file g o →
+    CertifiesSheet g o sheet log said → IsClaimJudged g o sheet log status text → IsCertifiedLine said status text
 certified_judged file g o sheet log said status text has c (inl checked) =
     let same : checked.said ≡ said = one_sheet g false sheet checked.said said checked.is_text c.is_text in
     certified_claim file g o sheet log said status text has c (subst (λ (s : Sheet). IsSheetAnswer g o s log status text) same checked.answer)
-certified_judged file g o sheet log said status text has c (inr refused) = absurd (sheet_or_fault g false sheet said refused.what refused.line c.is_text refused.first)
+certified_judged file g o sheet log said status text has c (inr refused) = absurd
+    (sheet_or_fault g false sheet said refused.what refused.line c.is_text refused.first)
 
-pub certified_is_due : (file sheet log : List ℕ) (g : Graph) (o : EdgeOrder) (said : Sheet) (status : Status) (text : List ℕ) → HasStation file g o → CertifiesSheet g o sheet log said → IsChecked file sheet log status text →
+pub certified_is_due : (file sheet log : List ℕ) (g : Graph) (o : EdgeOrder) (said : Sheet) (status : Status) (text : List ℕ) → HasStation file g o →
+    CertifiesSheet g o sheet log said → IsChecked file sheet log status text →
     (status ≡ Done) × (text ≡ verdict_line (claimed said.order said.ending) verdicts.Certified)
 certified_is_due file sheet log g o said status text has c (inl (h, p, also, judged)) =
     certified_judged file g o sheet log said status text has c (same_station file sheet log g h o p status text has also judged)
@@ -160,9 +178,11 @@ done_not_broken g o said None text broken = broken
 done_not_broken g o said (Some d) text broken = let is : Done ≡ Broken = broken.status_is in cc
 
 abbrev pub IsCertifiedSheet : Graph → EdgeOrder → (sheet log text : List ℕ) → Sheet → Type 0
-IsCertifiedSheet g o sheet log text said = CertifiesSheet g o sheet log said × ClaimsTruly g o said × (text ≡ verdict_line (claimed said.order said.ending) verdicts.Certified)
+IsCertifiedSheet g o sheet log text said = CertifiesSheet g o sheet log said × ClaimsTruly g o said ×
+    (text ≡ verdict_line (claimed said.order said.ending) verdicts.Certified)
 
-pub certified_answer : (g : Graph) (o : EdgeOrder) (sheet log text : List ℕ) (said : Sheet) → IsSheetText g false sheet said → IsSheetAnswer g o said log Done text → IsCertifiedSheet g o sheet log text said
+pub certified_answer : (g : Graph) (o : EdgeOrder) (sheet log text : List ℕ) (said : Sheet) → IsSheetText g false sheet said →
+    IsSheetAnswer g o said log Done text → IsCertifiedSheet g o sheet log text said
 certified_answer g o sheet log text said is (inl broken) = absurd (done_not_broken g o said said.found text broken)
 certified_answer g o sheet log text said is (inr claim) =
     let same : claim.verdict ≡ verdicts.Certified = done_certified claim.verdict claim.told.status_is in
@@ -182,7 +202,8 @@ certified_answer g o sheet log text said is (inr claim) =
     )
 
 -- so the log certifies what the sheet claims, whatever its text
-pub certified_whole : (g : Graph) (o : EdgeOrder) (said : Sheet) (log text : List ℕ) → IsSheetAnswer g o said log Done text → CertifiesWhole (layout g o said.grid) said.order (claim_of said.order said.found said.ending) log
+pub certified_whole : (g : Graph) (o : EdgeOrder) (said : Sheet) (log text : List ℕ) → IsSheetAnswer g o said log Done text →
+    CertifiesWhole (layout g o said.grid) said.order (claim_of said.order said.found said.ending) log
 certified_whole g o said log text (inl broken) = absurd (done_not_broken g o said said.found text broken)
 certified_whole g o said log text (inr claim) =
     let same : claim.verdict ≡ verdicts.Certified = done_certified claim.verdict claim.told.status_is in
@@ -197,9 +218,11 @@ certified_whole g o said log text (inr claim) =
     }
 
 pub only_certified : (file sheet log text : List ℕ) → IsChecked file sheet log Done text →
-    (g : Graph) × (o : EdgeOrder) × (said : Sheet) × HasStation file g o × CertifiesSheet g o sheet log said × ClaimsTruly g o said × (text ≡ verdict_line (claimed said.order said.ending) verdicts.Certified)
+    (g : Graph) × (o : EdgeOrder) × (said : Sheet) × HasStation file g o × CertifiesSheet g o sheet log said × ClaimsTruly g o said ×
+    (text ≡ verdict_line (claimed said.order said.ending) verdicts.Certified)
 only_certified file sheet log text (inl (g, o, has, inl checked)) =
     let is = certified_answer g o sheet log text checked.said checked.is_text checked.answer in
     (g, o, checked.said, has, is.0, is.1, is.2)
 only_certified file sheet log text (inl (g, o, has, inr refused)) = let is : Done ≡ Refused = refused.answers.status_is in absurd (cc)
-only_certified file sheet log text (inr refused) = let is : Done ≡ Refused = refused.answers.status_is ∙ file_fault_status file refused.fault refused.has in absurd (cc)
+only_certified file sheet log text (inr refused) = let is : Done ≡ Refused = refused.answers.status_is
+    ∙ file_fault_status file refused.fault refused.has in absurd (cc)

@@ -23,7 +23,8 @@ abbrev AfterFile : (sheet third : List ℕ) → Met → (List ℕ → List ℕ �
 AfterFile sheet third met A bytes = IsAnswerOn (text_input 2 sheet) 1 met (AfterSheet third met A bytes)
 
 pub files_more : (input sheet third : List ℕ) (met : Met) (A B : List ℕ → List ℕ → List ℕ → Status → List ℕ → Type 0) (status : Status) (text : List ℕ) →
-    ((bytes said lines : List ℕ) → A bytes said lines status text → B bytes said lines status text) → IsAnswerToFiles input sheet third met A status text → IsAnswerToFiles input sheet third met B status text
+    ((bytes said lines : List ℕ) → A bytes said lines status text → B bytes said lines status text) → IsAnswerToFiles input sheet third met A status text →
+    IsAnswerToFiles input sheet third met B status text
 files_more input sheet third met A B status text more =
     on_weaker (text_input 1 input) 0 met (AfterFile sheet third met A) (AfterFile sheet third met B) status text
     (λ bytes. on_weaker (text_input 2 sheet) 1 met (AfterSheet third met A bytes) (AfterSheet third met B bytes) status text
@@ -39,7 +40,8 @@ Nothing bytes status text = ⊥
 abbrev NothingOfThree : List ℕ → List ℕ → List ℕ → Status → List ℕ → Type 0
 NothingOfThree bytes said lines status text = ⊥
 
-pub third_unread : (input sheet third bytes said : List ℕ) (old mid late new : FilesAt) (r : InputRefusal) → IsInput (text_input 1 input) old.contents bytes → IsInput (text_input 2 sheet) mid.contents said → IsRead old mid → IsRead mid late →
+pub third_unread : (input sheet third bytes said : List ℕ) (old mid late new : FilesAt) (r : InputRefusal) → IsInput (text_input 1 input) old.contents bytes →
+    IsInput (text_input 2 sheet) mid.contents said → IsRead old mid → IsRead mid late →
     IsUnreadInput (log_input 3 third) (between late new) r → IsUnreadOfFiles input sheet third (between old new) r
 third_unread input sheet third bytes said old mid late new (refusals.Fault fault) is also read again unread =
     let met = between old new in
@@ -50,14 +52,17 @@ third_unread input sheet third bytes said old mid late new (refusals.Fault fault
     (answer_before (text_input 2 sheet) 0 old mid new Second (AfterSheet third met NothingOfThree bytes) status text read
     (λ s. answer_before (log_input 3 third) 1 old mid new Nothing (IsAnswerAfter 3 met (NothingOfThree bytes s)) status text read (λ lines none. absurd none))
     (read_on (text_input 2 sheet) 0 (between mid new) Second said status text also
-    (answer_before (log_input 3 third) 0 mid late new Nothing Nothing status text again (λ lines none. none) (unread_on (log_input 3 third) (between late new) fault Nothing unread))))
+    (answer_before (log_input 3 third) 0 mid late new Nothing Nothing status text again (λ lines none. none)
+    (unread_on (log_input 3 third) (between late new) fault Nothing unread))))
 third_unread input sheet third bytes said old mid late new refusals.Memory is also read again unread = tt
 
 -- its line is an answer, whatever is answered to bytes
-pub unread_answer : (input sheet third : List ℕ) (met : Met) (A : List ℕ → List ℕ → List ℕ → Status → List ℕ → Type 0) (r : InputRefusal) (fault : RunFault) (status : Status) (text : List ℕ) → r ≡ refusals.Fault fault →
+pub unread_answer : (input sheet third : List ℕ) (met : Met) (A : List ℕ → List ℕ → List ℕ → Status → List ℕ → Type 0) (r : InputRefusal) (fault : RunFault)
+    (status : Status) (text : List ℕ) → r ≡ refusals.Fault fault →
     IsUnreadOfFiles input sheet third met r → IsFaultLine fault status text → IsAnswerToFiles input sheet third met A status text
 unread_answer input sheet third met A r fault status text is unread told =
-    let there : IsAnswerToFiles input sheet third met NothingOfThree (fault_status fault) (fault_line fault) = subst (IsUnreadOfFiles input sheet third met) is unread in
+    let there : IsAnswerToFiles input sheet third met NothingOfThree (fault_status fault) (fault_line fault) = subst (IsUnreadOfFiles input sheet third met) is
+    unread in
     files_more input sheet third met NothingOfThree A status text (λ bytes said lines none. absurd none)
     (subst (λ (s : Status). IsAnswerToFiles input sheet third met NothingOfThree s text) (sym told.status_is)
     (subst (λ (t : List ℕ). IsAnswerToFiles input sheet third met NothingOfThree (fault_status fault) t) (sym told.line_is) there))
@@ -65,7 +70,8 @@ unread_answer input sheet third met A r fault status text is unread told =
 -- ---- all three
 
 -- the bytes of files that were read are answered so
-pub read_files : (input sheet third : List ℕ) (met : Met) (A : List ℕ → List ℕ → List ℕ → Status → List ℕ → Type 0) (bytes said lines : List ℕ) (status : Status) (text : List ℕ) → AreFiles input sheet third met.before.contents bytes said lines →
+pub read_files : (input sheet third : List ℕ) (met : Met) (A : List ℕ → List ℕ → List ℕ → Status → List ℕ → Type 0) (bytes said lines : List ℕ)
+    (status : Status) (text : List ℕ) → AreFiles input sheet third met.before.contents bytes said lines →
     HasRead met 3 → A bytes said lines status text → IsAnswerToFiles input sheet third met A status text
 read_files input sheet third met A bytes said lines status text files read answer =
     read_on (text_input 1 input) 0 met (AfterFile sheet third met A) bytes status text files.is_input

@@ -34,20 +34,24 @@ of_station P file g h o p has also holds =
 
 -- ---- what is certified is answered so
 
-claim_due : (g : Graph) (o : EdgeOrder) (sheet hints : List ℕ) (said : Sheet) (status : Status) (text : List ℕ) → HintsCertifySheet g o sheet hints said → IsHintsAnswer g o said hints status text → (status ≡ Done) × IsHintsLine said text
+claim_due : (g : Graph) (o : EdgeOrder) (sheet hints : List ℕ) (said : Sheet) (status : Status) (text : List ℕ) → HintsCertifySheet g o sheet hints said →
+    IsHintsAnswer g o said hints status text → (status ≡ Done) × IsHintsLine said text
 claim_due g o sheet hints said status text c (inl broken) = absurd (lawful_not_broken g o said said.found status text c.lawful broken)
 claim_due g o sheet hints said status text c (inr claim) =
     let is : claim.verdict ≡ Certified =
-    certified_due (layout g o said.grid) said.order (claim_of said.order said.found said.ending) hints claim.verdict (sheet_claims g false sheet said c.is_text) c.certify claim.judged in
+    certified_due (layout g o said.grid) said.order (claim_of said.order said.found said.ending) hints claim.verdict (sheet_claims g false sheet said c.is_text)
+    c.certify claim.judged in
     (claim.told.status_is ∙ ap hints_status is, claim.told.line_is ∙ ap (λ (v : HintsVerdict). hints_line (claimed said.order said.ending) v) is)
 
-sheet_due : (g : Graph) (o : EdgeOrder) (sheet hints : List ℕ) (said : Sheet) (status : Status) (text : List ℕ) → HintsCertifySheet g o sheet hints said → IsHintsClaimJudged g o sheet hints status text → (status ≡ Done) × IsHintsLine said text
+sheet_due : (g : Graph) (o : EdgeOrder) (sheet hints : List ℕ) (said : Sheet) (status : Status) (text : List ℕ) → HintsCertifySheet g o sheet hints said →
+    IsHintsClaimJudged g o sheet hints status text → (status ≡ Done) × IsHintsLine said text
 sheet_due g o sheet hints said status text c (inl checked) =
     let same : checked.said ≡ said = one_sheet g false sheet checked.said said checked.is_text c.is_text in
     claim_due g o sheet hints said status text c (subst (λ (s : Sheet). IsHintsAnswer g o s hints status text) same checked.answer)
 sheet_due g o sheet hints said status text c (inr refused) = absurd (sheet_or_fault g false sheet said refused.what refused.line c.is_text refused.first)
 
-pub recheck_due : (file sheet hints : List ℕ) (g : Graph) (o : EdgeOrder) (said : Sheet) (status : Status) (text : List ℕ) → HasStation file g o → HintsCertifySheet g o sheet hints said → IsRechecked file sheet hints status text →
+pub recheck_due : (file sheet hints : List ℕ) (g : Graph) (o : EdgeOrder) (said : Sheet) (status : Status) (text : List ℕ) → HasStation file g o →
+    HintsCertifySheet g o sheet hints said → IsRechecked file sheet hints status text →
     (status ≡ Done) × IsHintsLine said text
 recheck_due file sheet hints g o said status text has c (inl (h, p, also, judged)) =
     sheet_due g o sheet hints said status text c (of_station (λ x y. IsHintsClaimJudged x y sheet hints status text) file g h o p has also judged)
@@ -65,7 +69,8 @@ done_certified (Faulty what line) is = absurd (cc)
 abbrev IsCertifiedSheet : Graph → EdgeOrder → (sheet hints text : List ℕ) → Sheet → Type 0
 IsCertifiedSheet g o sheet hints text said = HintsCertifySheet g o sheet hints said × ClaimsTruly g o said × IsHintsLine said text
 
-certified_of : (g : Graph) (o : EdgeOrder) (sheet hints text : List ℕ) (said : Sheet) → IsSheetText g false sheet said → IsHintsAnswer g o said hints Done text → IsCertifiedSheet g o sheet hints text said
+certified_of : (g : Graph) (o : EdgeOrder) (sheet hints text : List ℕ) (said : Sheet) → IsSheetText g false sheet said →
+    IsHintsAnswer g o said hints Done text → IsCertifiedSheet g o sheet hints text said
 certified_of g o sheet hints text said is (inl broken) = absurd (done_not_broken g o said said.found text broken)
 certified_of g o sheet hints text said is (inr claim) =
     let y = layout g o said.grid in
@@ -83,11 +88,13 @@ recheck_only file sheet hints text (inl (g, o, has, inl checked)) =
     let is = certified_of g o sheet hints text checked.said checked.is_text checked.answer in
     (g, o, checked.said, has, is.0, is.1, is.2)
 recheck_only file sheet hints text (inl (g, o, has, inr refused)) = let is : Done ≡ Refused = refused.answers.status_is in absurd (cc)
-recheck_only file sheet hints text (inr refused) = let is : Done ≡ Refused = refused.answers.status_is ∙ file_fault_status file refused.fault refused.has in absurd (cc)
+recheck_only file sheet hints text (inr refused) = let is : Done ≡ Refused = refused.answers.status_is
+    ∙ file_fault_status file refused.fault refused.has in absurd (cc)
 
 -- ---- the bytes that were read
 
-pub rechecked_of : (file sheet hints b s l : List ℕ) (status : Status) (text : List ℕ) → b ≡ file → s ≡ sheet → l ≡ hints → IsRechecked b s l status text → IsRechecked file sheet hints status text
+pub rechecked_of : (file sheet hints b s l : List ℕ) (status : Status) (text : List ℕ) → b ≡ file → s ≡ sheet → l ≡ hints → IsRechecked b s l status text →
+    IsRechecked file sheet hints status text
 rechecked_of file sheet hints b s l status text first second third h =
     subst (λ (x : List ℕ). IsRechecked file sheet x status text) third
     (subst (λ (x : List ℕ). IsRechecked file x l status text) second (subst (λ (x : List ℕ). IsRechecked x s l status text) first h))

@@ -34,19 +34,25 @@ use Rattle.run_check.specs.Finding.{IsClaimFinding, IsSheetFinding, IsFinding}
 -- what is left of a log where it certifies a claim on the drawings of a sheet's grid and order
 abbrev pub IsTrimmedFor : Graph → EdgeOrder → Sheet → Claim → List ℕ → Option TrimmedLog → Type 0
 IsTrimmedFor g o said claim log r =
-    MatchOption r (CertifiesWhole (layout g o said.grid) said.order claim log → ⊥) (λ left. CertifiesWhole (layout g o said.grid) said.order claim log × IsTrimmedLog (layout g o said.grid) said.order claim log left)
+    MatchOption r (CertifiesWhole (layout g o said.grid) said.order claim log → ⊥)
+    (λ left. CertifiesWhole (layout g o said.grid) said.order claim log × IsTrimmedLog (layout g o said.grid) said.order claim log left)
 
-pub trimmed_for : (g : Graph) (o : EdgeOrder) (said inside : Sheet) (claim : Claim) (log : List ℕ) (r : Option TrimmedLog) → inside ≡ said → claim ≡ claim_of said.order said.found said.ending → IsTrimmedFor g o inside claim log r →
+pub trimmed_for : (g : Graph) (o : EdgeOrder) (said inside : Sheet) (claim : Claim) (log : List ℕ) (r : Option TrimmedLog) → inside ≡ said →
+    claim ≡ claim_of said.order said.found said.ending → IsTrimmedFor g o inside claim log r →
     IsTrimmedFor g o said (claim_of said.order said.found said.ending) log r
-trimmed_for g o said inside claim log r same is h = subst (λ (k : Claim). IsTrimmedFor g o said k log r) is (subst (λ (s : Sheet). IsTrimmedFor g o s claim log r) same h)
+trimmed_for g o said inside claim log r same is h = subst (λ (k : Claim). IsTrimmedFor g o said k log r) is
+    (subst (λ (s : Sheet). IsTrimmedFor g o s claim log r) same h)
 
 -- check ends with another status than 0 where the log doesn't certify the claim
-pub lacking_not_done : (g : Graph) (o : EdgeOrder) (said : Sheet) (log : List ℕ) (status : Status) (text : List ℕ) → (CertifiesWhole (layout g o said.grid) said.order (claim_of said.order said.found said.ending) log → ⊥) →
+pub lacking_not_done : (g : Graph) (o : EdgeOrder) (said : Sheet) (log : List ℕ) (status : Status) (text : List ℕ) →
+    (CertifiesWhole (layout g o said.grid) said.order (claim_of said.order said.found said.ending) log → ⊥) →
     IsSheetAnswer g o said log status text → status ≢ Done
-lacking_not_done g o said log status text lacks answer is = lacks (certified_whole g o said log text (subst (λ (s : Status). IsSheetAnswer g o said log s text) is answer))
+lacking_not_done g o said log status text lacks answer is = lacks (certified_whole g o said log text
+    (subst (λ (s : Status). IsSheetAnswer g o said log s text) is answer))
 
 -- where the drawing is lawful, if there is one, and the log certifies the claim, it certifies what the sheet claims
-pub certifies_of : (g : Graph) (o : EdgeOrder) (said : Sheet) (log : List ℕ) → IfSome said.found (Lawful g (is_above o) said.grid) → CertifiesWhole (layout g o said.grid) said.order (claim_of said.order said.found said.ending) log →
+pub certifies_of : (g : Graph) (o : EdgeOrder) (said : Sheet) (log : List ℕ) → IfSome said.found (Lawful g (is_above o) said.grid) →
+    CertifiesWhole (layout g o said.grid) said.order (claim_of said.order said.found said.ending) log →
     (sheet : List ℕ) → IsSheetText g false sheet said → CertifiesSheet g o sheet log said
 certifies_of g o said log lawful whole sheet told = record {
   is_text = told;
@@ -60,24 +66,32 @@ certifies_of g o said log lawful whole sheet told = record {
 
 -- ---- the sheet that was read, and the file
 
-pub sheet_finding : (g : Graph) (o : EdgeOrder) (sheet log : List ℕ) (said : Sheet) (f : Finding) → IsSheetText g false sheet said → IsClaimFinding g o said log f → IsSheetFinding g o sheet log f
+pub sheet_finding : (g : Graph) (o : EdgeOrder) (sheet log : List ℕ) (said : Sheet) (f : Finding) → IsSheetText g false sheet said →
+    IsClaimFinding g o said log f → IsSheetFinding g o sheet log f
 sheet_finding g o sheet log said (Answered reply) told h = (inl (record { said = said; is_text = told; answer = h.0 }), h.1)
 sheet_finding g o sheet log said (Left r) told h = record { said = said; certifies = h.0 sheet told; left = h.1 }
 
-pub file_finding : (file sheet log : List ℕ) (g : Graph) (o : EdgeOrder) (f : Finding) → HasStation file g o → IsSheetFinding g o sheet log f → IsFinding file sheet log f
+pub file_finding : (file sheet log : List ℕ) (g : Graph) (o : EdgeOrder) (f : Finding) → HasStation file g o → IsSheetFinding g o sheet log f →
+    IsFinding file sheet log f
 file_finding file sheet log g o (Answered reply) has h = (inl (g, o, has, h.0), h.1)
 file_finding file sheet log g o (Left r) has h = record { graph = g; order = o; said = h.said; station = has; certifies = h.certifies; left = h.left }
 
 pub finding_of : (file sheet log b s l : List ℕ) (f e : Finding) → b ≡ file → s ≡ sheet → l ≡ log → f ≡ e → IsFinding b s l f → IsFinding file sheet log e
 finding_of file sheet log b s l f e first second third is h =
     subst (IsFinding file sheet log) is
-    (subst (λ (x : List ℕ). IsFinding file sheet x f) third (subst (λ (x : List ℕ). IsFinding file x l f) second (subst (λ (x : List ℕ). IsFinding x s l f) first h)))
+    (subst (λ (x : List ℕ). IsFinding file sheet x f) third (subst (λ (x : List ℕ). IsFinding file x l f) second
+    (subst (λ (x : List ℕ). IsFinding x s l f) first h)))
 
-pub answered_trim : (input sheet log hints bytes said lines : List ℕ) (met : Met) (reply : Reply) → AreFiles input sheet log met.before.contents bytes said lines → HasRead met 3 → IsFinding bytes said lines (Answered reply) →
+pub answered_trim : (input sheet log hints bytes said lines : List ℕ) (met : Met) (reply : Reply) →
+    AreFiles input sheet log met.before.contents bytes said lines → HasRead met 3 → IsFinding bytes said lines (Answered reply) →
     IsTrimAnswer input sheet log hints met reply.status reply.text.items
-answered_trim input sheet log hints bytes said lines met reply files read h = read_files input sheet log met (AreTrimmed hints met) bytes said lines reply.status reply.text.items files read (inl h)
+answered_trim input sheet log hints bytes said lines met reply files read h = read_files input sheet log met (AreTrimmed hints met) bytes said lines
+    reply.status reply.text.items files read (inl h)
 
-pub left_trim : (input sheet log hints bytes said lines : List ℕ) (old mid new : FilesAt) (r : TrimmedLog) (status : Status) (text : List ℕ) → AreFiles input sheet log old.contents bytes said lines → HasRead (between old new) 3 →
-    WhereTold old.contents mid.contents SameFiles → LeavesLines bytes said lines r → TellsLeft r hints (between mid new) status text → IsTrimAnswer input sheet log hints (between old new) status text
+pub left_trim : (input sheet log hints bytes said lines : List ℕ) (old mid new : FilesAt) (r : TrimmedLog) (status : Status) (text : List ℕ) →
+    AreFiles input sheet log old.contents bytes said lines → HasRead (between old new) 3 →
+    WhereTold old.contents mid.contents SameFiles → LeavesLines bytes said lines r → TellsLeft r hints (between mid new) status text →
+    IsTrimAnswer input sheet log hints (between old new) status text
 left_trim input sheet log hints bytes said lines old mid new r status text files read same leaves told =
-    read_files input sheet log (between old new) (AreTrimmed hints (between old new)) bytes said lines status text files read (inr (r, leaves, tells_later r hints old mid new status text same told))
+    read_files input sheet log (between old new) (AreTrimmed hints (between old new)) bytes said lines status text files read
+    (inr (r, leaves, tells_later r hints old mid new status text same told))

@@ -17,7 +17,8 @@ use Rattle.plan_core.specs.declared.limits.TheConstants.{MAX_FILE_BYTES}
 use Rattle.run_input.specs.Input.{HasRows}
 
 -- the rows of items are formed up to where the items end
-formed_through : (first : Bool) (at : ℕ) (bytes : List ℕ) (items : List Placed) (rest : List ℕ) (s : State) → Cuts first at bytes items rest → IsFormedUpTo s at → IsFormedUpTo (fold after_tag s (tags_in items)) (at + length bytes)
+formed_through : (first : Bool) (at : ℕ) (bytes : List ℕ) (items : List Placed) (rest : List ℕ) (s : State) → Cuts first at bytes items rest →
+    IsFormedUpTo s at → IsFormedUpTo (fold after_tag s (tags_in items)) (at + length bytes)
 formed_through first at bytes [] rest s cut formed = formed_later s at (at + length bytes) (omega arith) formed
 formed_through first at bytes (item ∷ items) rest s cut formed =
     let some = item_some first bytes cut.3.shape cut.1 cut.3.item in

@@ -44,7 +44,8 @@ one_topology bytes t u a b =
     one_resolved a.rows t u (rows_formed bytes a.rows a.has_rows) a.resolves.faultless a.resolves.is_topology (subst P same b.resolves.is_topology)
 
 is_resolved : (bytes : List ℕ) (t : Tracks) → HasTopology bytes t → IsResolved t
-is_resolved bytes t has = made_resolved has.rows t (all_sound has.rows (rows_formed bytes has.rows has.has_rows) has.resolves.faultless) has.resolves.is_topology
+is_resolved bytes t has = made_resolved has.rows t (all_sound has.rows (rows_formed bytes has.rows has.has_rows) has.resolves.faultless)
+    has.resolves.is_topology
 
 pub one_graph : (bytes : List ℕ) (g h : TrackGraph) → HasGraph bytes g → HasGraph bytes h → g ≡ h
 one_graph bytes g h a b =
@@ -100,7 +101,8 @@ few_or_too_many bytes (OfTopology what at first second) h = inr h.1.few
 few_or_too_many bytes (OfGraph fault) h = inr h.1.has_rows.few
 few_or_too_many bytes (OfOrder fault) h = inr h.1.has_topology.has_rows.few
 
-pub short_or_long : (bytes : List ℕ) (fault : RunFault) → HasFileFault bytes fault → (IsLong MAX_FILE_BYTES bytes × (fault ≡ Long 1)) ⊎ IsShort MAX_FILE_BYTES bytes
+pub short_or_long : (bytes : List ℕ) (fault : RunFault) → HasFileFault bytes fault →
+    (IsLong MAX_FILE_BYTES bytes × (fault ≡ Long 1)) ⊎ IsShort MAX_FILE_BYTES bytes
 short_or_long bytes fault h =
     let c = caused bytes fault h in
     subst (λ (f : RunFault). (IsLong MAX_FILE_BYTES bytes × (f ≡ Long 1)) ⊎ IsShort MAX_FILE_BYTES bytes) c.is (few_or_too_many bytes c.cause c.has)
@@ -111,10 +113,12 @@ too_long : (bytes : List ℕ) → IsLong MAX_FILE_BYTES bytes → IsShort MAX_FI
 too_long bytes long few = omega arith
 
 -- a file that has these rows isn't too long and has no fault of its text
-no_text_cause : (bytes : List ℕ) (rows : List Elem) (what : TextWhat) (at : ℕ) → HasRows bytes rows → IsShort MAX_FILE_BYTES bytes × IsTextFault bytes what at → ⊥
+no_text_cause : (bytes : List ℕ) (rows : List Elem) (what : TextWhat) (at : ℕ) → HasRows bytes rows → IsShort MAX_FILE_BYTES bytes × IsTextFault bytes what at →
+    ⊥
 no_text_cause bytes rows what at has h = has.gives.sound what at h.1
 
-no_topology_cause : (bytes : List ℕ) (t : Tracks) (what : TopologyWhat) (at : ℕ) (first second : List ℕ) → HasTopology bytes t → (rows : List Elem) × HasRows bytes rows × IsFirstTopologyFault rows what at first second → ⊥
+no_topology_cause : (bytes : List ℕ) (t : Tracks) (what : TopologyWhat) (at : ℕ) (first second : List ℕ) → HasTopology bytes t →
+    (rows : List Elem) × HasRows bytes rows × IsFirstTopologyFault rows what at first second → ⊥
 no_topology_cause bytes t what at first second has h =
     subst HasNoFault (one_rows bytes has.rows h.0 has.has_rows h.1) has.resolves.faultless what at first second h.2.holds
 
@@ -139,7 +143,9 @@ station_or_fault bytes g o fault has h = let c = caused bytes fault h in no_caus
 one_text_cause : (bytes : List ℕ) (what other : TextWhat) (at place : ℕ) → (what ≡ other) × (at ≡ place) → OfText what at ≡ OfText other place
 one_text_cause bytes what other at place (kind, here) = cc
 
-one_topology_cause : (bytes : List ℕ) (rows others : List Elem) (what other : TopologyWhat) (at place : ℕ) (a b c d : List ℕ) → HasRows bytes rows → HasRows bytes others → IsFirstTopologyFault rows what at a b → IsFirstTopologyFault others other place c d → OfTopology what at a b ≡ OfTopology other place c d
+one_topology_cause : (bytes : List ℕ) (rows others : List Elem) (what other : TopologyWhat) (at place : ℕ) (a b c d : List ℕ) → HasRows bytes rows →
+    HasRows bytes others → IsFirstTopologyFault rows what at a b → IsFirstTopologyFault others other place c d →
+    OfTopology what at a b ≡ OfTopology other place c d
 one_topology_cause bytes rows others what other at place a b c d has also h k =
     let P : List Elem → Type 0 = λ xs. IsFirstTopologyFault xs other place c d in
     let here = subst P (one_rows bytes others rows also has) k in

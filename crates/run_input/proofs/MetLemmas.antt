@@ -37,7 +37,8 @@ pub read_later : (done : ℕ) (old mid new : FilesAt) → mid.reads ≡ next_cou
 read_later done old mid new one read = read ∙ ap (λ (n : ℕ). rose_by done n) one ∙ rose_by-next done old.reads
 
 -- an input was read before the others
-pub reads_more : (inputs : ℕ) (All : Type 0) (old mid new : FilesAt) → mid.reads ≡ next_count old.reads → ReadsInputs inputs All (between mid new) → ReadsInputs (suc inputs) All (between old new)
+pub reads_more : (inputs : ℕ) (All : Type 0) (old mid new : FilesAt) → mid.reads ≡ next_count old.reads → ReadsInputs inputs All (between mid new) →
+    ReadsInputs (suc inputs) All (between old new)
 reads_more inputs All old mid new one reads =
     let within = reads.within in
     record {
@@ -48,5 +49,9 @@ reads_more inputs All old mid new one reads =
     }
 
 -- a read that failed after another one
-pub fails_later : (done : ℕ) (old mid new : FilesAt) → old.read_faults ≤ mid.read_faults → mid.reads ≡ next_count old.reads → ReadFails (between mid new) done → ReadFails (between old new) (suc done)
-fails_later done old mid new later one fails = let rose = fails.rose in record { rose = omega (arith, later, rose); reads_done = read_later done old mid new one fails.reads_done }
+pub fails_later : (done : ℕ) (old mid new : FilesAt) → old.read_faults ≤ mid.read_faults → mid.reads ≡ next_count old.reads → ReadFails (between mid new) done →
+    ReadFails (between old new) (suc done)
+fails_later done old mid new later one fails = let rose = fails.rose in record {
+  rose = omega (arith, later, rose);
+  reads_done = read_later done old mid new one fails.reads_done;
+}

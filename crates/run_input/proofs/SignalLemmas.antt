@@ -53,24 +53,31 @@ signal_fault_short bytes (Log what line) has = absurd has
 signal_fault_short bytes (ReadFailed input) has = absurd has
 
 -- a file with a fault of its own or of its signals is too long, which is then the fault, or it isn't
-pub fault_short_or_long : (bytes : List ℕ) (fault : RunFault) → HasFault bytes fault → (IsLong MAX_FILE_BYTES bytes × (fault ≡ Long 1)) ⊎ IsShort MAX_FILE_BYTES bytes
+pub fault_short_or_long : (bytes : List ℕ) (fault : RunFault) → HasFault bytes fault →
+    (IsLong MAX_FILE_BYTES bytes × (fault ≡ Long 1)) ⊎ IsShort MAX_FILE_BYTES bytes
 fault_short_or_long bytes fault (inl has) = short_or_long bytes fault has
 fault_short_or_long bytes fault (inr has) = inr (signal_fault_short bytes fault has)
 
 -- ---- a file whose signals have places has no fault
 
 -- the rows, the topology and the signals of the bytes are one
-one_beside : (bytes : List ℕ) (g : TrackGraph) (rows others : List Elem) (t u : Tracks) (signals also : List SignalElem) → AreSignalsBeside bytes (station rows t g) signals → AreSignalsBeside bytes (station others u g) also →
+one_beside : (bytes : List ℕ) (g : TrackGraph) (rows others : List Elem) (t u : Tracks) (signals also : List SignalElem) →
+    AreSignalsBeside bytes (station rows t g) signals → AreSignalsBeside bytes (station others u g) also →
     (rows ≡ others) × (t ≡ u) × (signals ≡ also)
 one_beside bytes g rows others t u signals also a b = (
   one_rows bytes rows others a.has_rows b.has_rows,
-  one_topology bytes t u (record { rows = rows; has_rows = a.has_rows; resolves = a.resolves }) (record { rows = others; has_rows = b.has_rows; resolves = b.resolves }),
+  one_topology bytes t u (record {
+    rows = rows;
+    has_rows = a.has_rows;
+    resolves = a.resolves;
+  }) (record { rows = others; has_rows = b.has_rows; resolves = b.resolves }),
   (let one = a.gives.are_signals in
       let other = b.gives.are_signals in
       one.found ∙ ap signals_of (one_tree bytes one.tree other.tree one.spells other.spells) ∙ sym other.found),
 )
 
-signals_or_faulty : (bytes : List ℕ) (g : TrackGraph) (signals : List SignalElem) (places : List SignalPlace) (what : SignalWhat) (at : ℕ) (first : List ℕ) → HasSignals bytes g signals places → HasFaultySignals bytes g what at first → ⊥
+signals_or_faulty : (bytes : List ℕ) (g : TrackGraph) (signals : List SignalElem) (places : List SignalPlace) (what : SignalWhat) (at : ℕ) (first : List ℕ) →
+    HasSignals bytes g signals places → HasFaultySignals bytes g what at first → ⊥
 signals_or_faulty bytes g signals places what at first has faulty =
     let same = one_beside bytes g faulty.rows has.rows faulty.topology has.topology faulty.signals signals faulty.beside has.beside in
     has.placed.faultless what at first
@@ -78,7 +85,8 @@ signals_or_faulty bytes g signals places what at first has faulty =
     (subst (λ (t : Tracks). IsSignalFault (station has.rows t g) faulty.signals what at first) same.1
     (subst (λ (rows : List Elem). IsSignalFault (station rows faulty.topology g) faulty.signals what at first) same.0 faulty.fault.holds)))
 
-signals_or_their_fault : (bytes : List ℕ) (g : TrackGraph) (o : EdgeOrder) (signals : List SignalElem) (places : List SignalPlace) (fault : RunFault) → HasSignalStation bytes g o signals places → HasFaultOfSignal bytes fault → ⊥
+signals_or_their_fault : (bytes : List ℕ) (g : TrackGraph) (o : EdgeOrder) (signals : List SignalElem) (places : List SignalPlace) (fault : RunFault) →
+    HasSignalStation bytes g o signals places → HasFaultOfSignal bytes fault → ⊥
 signals_or_their_fault bytes g o signals places (Signal what at first) has h =
     let same : h.0 ≡ g = one_graph bytes h.0 g h.2.has_graph has.has_station.has_graph in
     signals_or_faulty bytes g signals places what at first has.has_signals (subst (λ (x : TrackGraph). HasFaultySignals bytes x what at first) same h.3)
@@ -92,6 +100,7 @@ signals_or_their_fault bytes g o signals places (Sheet what line) has h = absurd
 signals_or_their_fault bytes g o signals places (Log what line) has h = absurd h
 signals_or_their_fault bytes g o signals places (ReadFailed input) has h = absurd h
 
-pub signals_or_fault : (bytes : List ℕ) (g : TrackGraph) (o : EdgeOrder) (signals : List SignalElem) (places : List SignalPlace) (fault : RunFault) → HasSignalStation bytes g o signals places → HasFault bytes fault → ⊥
+pub signals_or_fault : (bytes : List ℕ) (g : TrackGraph) (o : EdgeOrder) (signals : List SignalElem) (places : List SignalPlace) (fault : RunFault) →
+    HasSignalStation bytes g o signals places → HasFault bytes fault → ⊥
 signals_or_fault bytes g o signals places fault has (inl h) = station_or_fault bytes g o fault has.has_station h
 signals_or_fault bytes g o signals places fault has (inr h) = signals_or_their_fault bytes g o signals places fault has h

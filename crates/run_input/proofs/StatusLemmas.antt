@@ -51,6 +51,7 @@ refused_reply (Ok x) refused answered = refused_unanswered x.status refused answ
 refused_reply (Err e) refused answered = answered
 
 -- a run that is cut short ran out of memory, where nothing else may have cut it short
-pub cut_ends : (cut : Cut) (status : Status) (Ends Fails : Type 0) → status ≡ status_of_cut cut → (cut ≡ cuts.Unwritten → Fails) → (Fails → ⊥) → Ends ⊎ (status ≡ NoMemory)
+pub cut_ends : (cut : Cut) (status : Status) (Ends Fails : Type 0) → status ≡ status_of_cut cut → (cut ≡ cuts.Unwritten → Fails) → (Fails → ⊥) →
+    Ends ⊎ (status ≡ NoMemory)
 cut_ends cuts.Unwritten status Ends Fails is cause fine = absurd (fine (cause refl))
 cut_ends cuts.Memory status Ends Fails is cause fine = inr is

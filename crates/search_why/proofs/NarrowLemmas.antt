@@ -1,11 +1,13 @@
 -- Narrowing down: a law is kept or left out.
-use Rattle.std.proofs.Common.{◌≡◌, ◌≢◌, ℕ, suc, ◌+◌, ◌-◌, ◌<◌, ◌≤◌, ◌⊎◌, Bool, true, false, cond, List, [], ◌∷◌, ◌++◌, length, get_or, refl, sym, ◌∙◌, ap, subst, inl, inr, arith, take, append-nil, length-append}
+use Rattle.std.proofs.Common.{◌≡◌, ◌≢◌, ℕ, suc, ◌+◌, ◌-◌, ◌<◌, ◌≤◌, ◌⊎◌, Bool, true, false, cond, List, [], ◌∷◌, ◌++◌, length, get_or, refl, sym, ◌∙◌, ap}
+use Rattle.std.proofs.Common.{subst, inl, inr, arith, take, append-nil, length-append}
 use Rattle.std.specs.Prelude.{filter, slice_get, Some}
 use Rattle.std.specs.List.{All, Contains, remove}
 use Rattle.std.proofs.lemmas.List.{get_or_append_left}
 use Rattle.std.proofs.Math.Seq.{get_or-append_seam}
 use Rattle.std.proofs.lemmas.Option.{slice_get_within, get_or_from_slice_get, slice_get-get_or}
-use Rattle.std.proofs.lemmas.List.Elements.{All-nil, All-append, All-push, All-filter, All-contains, Contains-get_or, Contains-append_left, Contains-append_cases, Contains-push, Contains-push_cases}
+use Rattle.std.proofs.lemmas.List.Elements.{All-nil, All-append, All-push, All-filter, All-contains, Contains-get_or, Contains-append_left}
+use Rattle.std.proofs.lemmas.List.Elements.{Contains-append_cases, Contains-push, Contains-push_cases}
 use Rattle.std.proofs.lemmas.List.Kept.{AllPairs-filter}
 use Rattle.std.proofs.lemmas.List.Quantifiers.{all_pairs_push}
 use Rattle.std.proofs.lemmas.List.Edits.{remove-append_left, remove-append_right}
@@ -60,7 +62,8 @@ keeps_place p kept left n without d count each found i e is =
                 (all_front (MeetsAt p e) left (n ∷ []) rest),
           )
       | inr at ↦
-          let same : d ≡ e = sym (get_or-append_seam without d [] e) ∙ ap (λ k. get_or (without ++ d ∷ []) k e) (sym at) ∙ get_or_from_slice_get (without ++ d ∷ []) i e e is in
+          let same : d ≡ e = sym (get_or-append_seam without d [] e) ∙ ap (λ k. get_or (without ++ d ∷ []) k e) (sym at)
+          ∙ get_or_from_slice_get (without ++ d ∷ []) i e e is in
           let zero_left : i - length kept ≡ 0 = omega arith in
           let none : remove (kept ++ n ∷ []) i ≡ kept =
           remove-append_right kept (n ∷ []) (length kept) i refl (omega arith) ∙ ap (λ k. kept ++ remove (n ∷ []) k) zero_left ∙ append-nil kept in
@@ -115,24 +118,28 @@ narrow_refuted p kept left core n without h refuted =
           let all : All (MeetsAt p e) (remove kept i ++ (left ++ n ∷ [])) = old.1 in (
             old.0,
             All-append (MeetsAt p e) (remove kept i) only (all_front (MeetsAt p e) (remove kept i) (left ++ n ∷ []) all)
-                (All-filter (has_number core) (MeetsAt p e) left (all_front (MeetsAt p e) left (n ∷ []) (all_back (MeetsAt p e) (remove kept i) (left ++ n ∷ []) all))),
+                (All-filter (has_number core) (MeetsAt p e) left (all_front (MeetsAt p e) left (n ∷ [])
+                (all_back (MeetsAt p e) (remove kept i) (left ++ n ∷ []) all))),
           );
     }
   where
     from_filter : (t : ℕ → Bool) (xs : List ℕ) (b : ℕ) → Contains (filter t xs) b → Contains xs b
     from_filter t xs b c = All-contains (Contains xs) (filter t xs) b (All-filter t (Contains xs) xs (λ k d lt. Contains-get_or xs k d lt)) c
 
-    meets_core : (p : Task) (kept left core : List ℕ) (e : Drawing) → All (Contains (kept ++ left)) core → All (MeetsAt p e) (kept ++ filter (has_number core) left) → All (MeetsAt p e) core
+    meets_core : (p : Task) (kept left core : List ℕ) (e : Drawing) → All (Contains (kept ++ left)) core →
+    All (MeetsAt p e) (kept ++ filter (has_number core) left) → All (MeetsAt p e) core
     meets_core p kept left core e among all = λ k d lt.
         let c = get_or core k d in
         let is : Contains core c = Contains-get_or core k d lt in
         elim (Contains-append_cases kept left c (among k d lt)) [
           | inl there ↦ All-contains (MeetsAt p e) kept c (all_front (MeetsAt p e) kept (filter (has_number core) left) all) there
-          | inr there ↦ All-contains (MeetsAt p e) (filter (has_number core) left) c (all_back (MeetsAt p e) kept (filter (has_number core) left) all) (Contains-filter (has_number core) left c there (has_contained core c is))
+          | inr there ↦ All-contains (MeetsAt p e) (filter (has_number core) left) c (all_back (MeetsAt p e) kept (filter (has_number core) left) all)
+          (Contains-filter (has_number core) left c there (has_contained core c is))
         ]
 
 -- those of the first refuted question
-pub first_left : (p : Task) (all core : List ℕ) → AreLawPlaces p all → All (Contains all) core × NoneMeetsLaws p core → AreLawPlaces p (filter (has_number core) all) × NoneMeetsLaws p (filter (has_number core) all)
+pub first_left : (p : Task) (all core : List ℕ) → AreLawPlaces p all → All (Contains all) core × NoneMeetsLaws p core →
+    AreLawPlaces p (filter (has_number core) all) × NoneMeetsLaws p (filter (has_number core) all)
 first_left p all core places refuted = (
   record {
     there = All-filter (has_number core) (λ k. k < length p.laws) all places.there;
@@ -140,22 +147,29 @@ first_left p all core places refuted = (
   },
   λ e loose met. refuted.1 e loose (λ k d lt.
       let c = get_or core k d in
-      All-contains (MeetsAt p e) (filter (has_number core) all) c met (Contains-filter (has_number core) all c (refuted.0 k d lt) (has_contained core c (Contains-get_or core k d lt)))),
+      All-contains (MeetsAt p e) (filter (has_number core) all) c met (Contains-filter (has_number core) all c (refuted.0 k d lt)
+      (has_contained core c (Contains-get_or core k d lt)))),
 )
 
 -- ---- by the reply
 
-pub found_narrowed : (p : Task) (kept left wanted more : List ℕ) (n : ℕ) (without drawings : List Drawing) (d : Drawing) (reply : Reply) → wanted ≡ kept ++ left → reply ≡ Found d → IsRightReply p wanted reply →
+pub found_narrowed : (p : Task) (kept left wanted more : List ℕ) (n : ℕ) (without drawings : List Drawing) (d : Drawing) (reply : Reply) →
+    wanted ≡ kept ++ left → reply ≡ Found d → IsRightReply p wanted reply →
     IsNarrowed p kept (left ++ n ∷ []) without → more ≡ kept ++ n ∷ [] → drawings ≡ without ++ d ∷ [] → IsNarrowed p more left drawings
 found_narrowed p kept left wanted more n without drawings d reply asked is right h longer drawn =
-    let got : IsRightReply p (kept ++ left) (Found d) = subst (λ (r : Reply). IsRightReply p (kept ++ left) r) is (subst (λ (w : List ℕ). IsRightReply p w reply) asked right) in
-    subst (λ (k : List ℕ). IsNarrowed p k left drawings) (sym longer) (subst (λ (ds : List Drawing). IsNarrowed p (kept ++ n ∷ []) left ds) (sym drawn) (narrow_found p kept left n without d h got))
+    let got : IsRightReply p (kept ++ left) (Found d) = subst (λ (r : Reply). IsRightReply p (kept ++ left) r) is
+    (subst (λ (w : List ℕ). IsRightReply p w reply) asked right) in
+    subst (λ (k : List ℕ). IsNarrowed p k left drawings) (sym longer) (subst (λ (ds : List Drawing). IsNarrowed p (kept ++ n ∷ []) left ds) (sym drawn)
+    (narrow_found p kept left n without d h got))
 
-pub refuted_narrowed : (p : Task) (kept left wanted core core_slice fewer : List ℕ) (n : ℕ) (without : List Drawing) (reply : Reply) → wanted ≡ kept ++ left → reply ≡ Refuted core → IsRightReply p wanted reply →
+pub refuted_narrowed : (p : Task) (kept left wanted core core_slice fewer : List ℕ) (n : ℕ) (without : List Drawing) (reply : Reply) → wanted ≡ kept ++ left →
+    reply ≡ Refuted core → IsRightReply p wanted reply →
     IsNarrowed p kept (left ++ n ∷ []) without → core_slice ≡ core → fewer ≡ filter (has_number core_slice) left → IsNarrowed p kept fewer without
 refuted_narrowed p kept left wanted core core_slice fewer n without reply asked is right h same only =
-    let got : IsRightReply p (kept ++ left) (Refuted core) = subst (λ (r : Reply). IsRightReply p (kept ++ left) r) is (subst (λ (w : List ℕ). IsRightReply p w reply) asked right) in
-    subst (λ (l : List ℕ). IsNarrowed p kept l without) (sym (only ∙ ap (λ (c : List ℕ). filter (has_number c) left) same)) (narrow_refuted p kept left core n without h got)
+    let got : IsRightReply p (kept ++ left) (Refuted core) = subst (λ (r : Reply). IsRightReply p (kept ++ left) r) is
+    (subst (λ (w : List ℕ). IsRightReply p w reply) asked right) in
+    subst (λ (l : List ℕ). IsNarrowed p kept l without) (sym (only ∙ ap (λ (c : List ℕ). filter (has_number c) left) same))
+    (narrow_refuted p kept left core n without h got)
 
 filter_short : (t : ℕ → Bool) (xs : List ℕ) → length (filter t xs) ≤ length xs
 filter_short t [] = omega arith
@@ -168,11 +182,13 @@ filter_short t (x ∷ xs) = pick (t x) (filter_short t xs)
 pub filter_shorter : (t : ℕ → Bool) (xs ys : List ℕ) → ys ≡ filter t xs → length ys ≤ length xs
 filter_shorter t xs ys e = subst (λ (l : List ℕ). length l ≤ length xs) (sym e) (filter_short t xs)
 
-pub first_refuted : (p : Task) (all core core_slice left : List ℕ) (reply : Reply) → AreLawPlaces p all → reply ≡ Refuted core → IsRightReply p all reply → core_slice ≡ core → left ≡ filter (has_number core_slice) all →
+pub first_refuted : (p : Task) (all core core_slice left : List ℕ) (reply : Reply) → AreLawPlaces p all → reply ≡ Refuted core → IsRightReply p all reply →
+    core_slice ≡ core → left ≡ filter (has_number core_slice) all →
     AreLawPlaces p left × NoneMeetsLaws p left
 first_refuted p all core core_slice left reply places is right same only =
     let got : IsRightReply p all (Refuted core) = subst (λ (r : Reply). IsRightReply p all r) is right in
-    subst (λ (l : List ℕ). AreLawPlaces p l × NoneMeetsLaws p l) (sym (only ∙ ap (λ (c : List ℕ). filter (has_number c) all) same)) (first_left p all core places got)
+    subst (λ (l : List ℕ). AreLawPlaces p l × NoneMeetsLaws p l) (sym (only ∙ ap (λ (c : List ℕ). filter (has_number c) all) same))
+    (first_left p all core places got)
 
 pub nothing_left : (left rest : List ℕ) (n : ℕ) → left ≡ rest ++ [] → rest ≡ take (n - 1) left → n ≡ 0 → left ≡ []
 nothing_left left rest n items front none = let z : n - 1 ≡ 0 = omega arith in items ∙ append-nil rest ∙ front ∙ ap (λ k. take k left) z

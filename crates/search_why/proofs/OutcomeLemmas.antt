@@ -26,12 +26,14 @@ same_default (x ∷ xs) zero d e lt = refl
 same_default (x ∷ xs) (suc k) d e lt = same_default xs k d e (omega (arith, lt))
 
 -- a loose drawing that meets all laws is lawful
-met_all : (p : Task) (d : Drawing) → HasAllLaws p → All (MeetsAt p d) (countdown (length p.laws)) → (i : Instance) → Contains p.laws i → Meets p.graph p.grid d i
+met_all : (p : Task) (d : Drawing) → HasAllLaws p → All (MeetsAt p d) (countdown (length p.laws)) → (i : Instance) → Contains p.laws i →
+    Meets p.graph p.grid d i
 met_all p d h met i c =
     let at : MeetsAt p d c.0 = All-contains (MeetsAt p d) (countdown (length p.laws)) c.0 met (countdown_has (length p.laws) c.0 c.1) in
     subst (Meets p.graph p.grid d) (same_default p.laws c.0 (NodeOnGrid 0) i c.1 ∙ c.2) at
 
-meets_each : (p : Task) (d : Drawing) → HasAllLaws p → IsLoose p.graph p.grid d → All (MeetsAt p d) (countdown (length p.laws)) → (i : Instance) → IsInstance p.graph p.above i → Meets p.graph p.grid d i
+meets_each : (p : Task) (d : Drawing) → HasAllLaws p → IsLoose p.graph p.grid d → All (MeetsAt p d) (countdown (length p.laws)) → (i : Instance) →
+    IsInstance p.graph p.above i → Meets p.graph p.grid d i
 meets_each p d h loose met (NodeOnGrid n) is = loose.nodes_on_grid n is
 meets_each p d h loose met (LineOnGrid e) is = loose.lines_on_grid e is
 meets_each p d h loose met (Joined e) is = loose.joined e is
@@ -41,7 +43,8 @@ meets_each p d h loose met (Apart u v) is = met_all p d h met (Apart u v) (h.all
 meets_each p d h loose met (Over e f) is = met_all p d h met (Over e f) (h.all (Over e f) is tt)
 meets_each p d h loose met (Parted e f) is = met_all p d h met (Parted e f) (h.all (Parted e f) is tt)
 
-pub all_met : (p : Task) (d : Drawing) → HasAllLaws p → IsLoose p.graph p.grid d → All (MeetsAt p d) (countdown (length p.laws)) → Lawful p.graph p.above p.grid d
+pub all_met : (p : Task) (d : Drawing) → HasAllLaws p → IsLoose p.graph p.grid d → All (MeetsAt p d) (countdown (length p.laws)) →
+    Lawful p.graph p.above p.grid d
 all_met p d h loose met = record { fits = loose.fits; laws = meets_each p d h loose met }
 
 pub all_places_are : (p : Task) → AreLawPlaces p (countdown (length p.laws))
@@ -76,16 +79,20 @@ laws_once p kept without n = λ i j d lt within e.
     let others : All (MeetsAt p w) (remove kept i) = subst (All (MeetsAt p w)) (append-nil (remove kept i)) got.1 in
     let at_a : get_or kept i a ≡ a = same_default kept i a 0 i_within in
     let apart : a ≢ b = n.kept_places.once i j 0 lt j_within in
-    let met_b : MeetsAt p w b = All-contains (MeetsAt p w) (remove kept i) b others (remove_other kept i a b i_within at_a (Contains-get_or kept j 0 j_within) (λ z. apart (sym z))) in
+    let met_b : MeetsAt p w b = All-contains (MeetsAt p w) (remove kept i) b others
+    (remove_other kept i a b i_within at_a (Contains-get_or kept j 0 j_within) (λ z. apart (sym z))) in
     let met_a : MeetsAt p w a = subst (Meets p.graph p.grid w) (sym same) met_b in
     n.none w got.0 (subst (All (MeetsAt p w)) (sym (append-nil kept)) (λ k c inside. elim (eqb_tells (get_or kept k c) a) [
       | inl is ↦ subst (MeetsAt p w) (sym is.1) met_a
-      | inr other ↦ All-contains (MeetsAt p w) (remove kept i) (get_or kept k c) others (remove_other kept i a (get_or kept k c) i_within at_a (Contains-get_or kept k c inside) other.1)
+      | inr other ↦ All-contains (MeetsAt p w) (remove kept i) (get_or kept k c) others
+          (remove_other kept i a (get_or kept k c) i_within at_a (Contains-get_or kept k c inside) other.1)
     ]))
 
-pub narrowed_explains : (p : Task) (kept : List ℕ) (without : List Drawing) → HasAllLaws p → IsNarrowed p kept [] without → IsExplanation p.graph p.above p.grid (laws_at p kept)
+pub narrowed_explains : (p : Task) (kept : List ℕ) (without : List Drawing) → HasAllLaws p → IsNarrowed p kept [] without →
+    IsExplanation p.graph p.above p.grid (laws_at p kept)
 narrowed_explains p kept without h n = record {
-  each = All-map (IsChoiceOf p.graph p.above) (law_at p) kept (All-weaker (λ k. k < length p.laws) (λ k. IsChoiceOf p.graph p.above (law_at p k)) (λ k lt. h.each k (NodeOnGrid 0) lt) kept n.kept_places.there);
+  each = All-map (IsChoiceOf p.graph p.above) (law_at p) kept (All-weaker (λ k. k < length p.laws) (λ k. IsChoiceOf p.graph p.above (law_at p k))
+      (λ k lt. h.each k (NodeOnGrid 0) lt) kept n.kept_places.there);
   once = laws_once p kept without n;
   explain = λ d loose all. n.none d loose (subst (All (MeetsAt p d)) (sym (append-nil kept)) (all_mapped (Meets p.graph p.grid d) (law_at p) kept all));
 }
@@ -103,9 +110,15 @@ narrowed_without p kept without n = record {
 }
 
 -- the laws of explanations
-pub none_lawful : (g : Graph) (above : ℕ → ℕ → Bool) (grid : GridSize) (laws : List Instance) → IsExplanation g above grid laws → (d : Drawing) → Lawful g above grid d → ⊥
+pub none_lawful : (g : Graph) (above : ℕ → ℕ → Bool) (grid : GridSize) (laws : List Instance) → IsExplanation g above grid laws → (d : Drawing) →
+    Lawful g above grid d → ⊥
 none_lawful g above grid laws h d l = h.explain d
-    (record { fits = l.fits; nodes_on_grid = λ n lt. l.laws (NodeOnGrid n) lt; lines_on_grid = λ e lt. l.laws (LineOnGrid e) lt; joined = λ e lt. l.laws (Joined e) lt })
+    (record {
+      fits = l.fits;
+      nodes_on_grid = λ n lt. l.laws (NodeOnGrid n) lt;
+      lines_on_grid = λ e lt. l.laws (LineOnGrid e) lt;
+      joined = λ e lt. l.laws (Joined e) lt;
+    })
     (λ k e lt. l.laws (get_or laws k e) (h.each k e lt).is)
 
 pub irreducible : (g : Graph) (grid : GridSize) (laws : List Instance) (drawings : List Drawing) → AreWithout g grid laws drawings → IsIrreducible g grid laws
@@ -119,7 +132,9 @@ irreducible g grid laws drawings h = λ k there.
 
 -- ---- the first question
 
-pub found_all : (p : Task) (all : List ℕ) (d : Drawing) (reply : Reply) → all ≡ countdown (length p.laws) → reply ≡ Found d → IsRightReply p all reply → HasAllLaws p → Lawful p.graph p.above p.grid d
+pub found_all : (p : Task) (all : List ℕ) (d : Drawing) (reply : Reply) → all ≡ countdown (length p.laws) → reply ≡ Found d → IsRightReply p all reply →
+    HasAllLaws p → Lawful p.graph p.above p.grid d
 found_all p all d reply every is right h =
-    let got : IsRightReply p (countdown (length p.laws)) (Found d) = subst (λ (r : Reply). IsRightReply p (countdown (length p.laws)) r) is (subst (λ (w : List ℕ). IsRightReply p w reply) every right) in
+    let got : IsRightReply p (countdown (length p.laws)) (Found d) = subst (λ (r : Reply). IsRightReply p (countdown (length p.laws)) r) is
+    (subst (λ (w : List ℕ). IsRightReply p w reply) every right) in
     all_met p d h got.0 got.1

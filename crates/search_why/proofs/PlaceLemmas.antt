@@ -1,5 +1,6 @@
 -- Lists of places.
-use Rattle.std.proofs.Common.{◌≡◌, ◌≢◌, ℕ, zero, suc, ◌+◌, ◌-◌, ◌<◌, ◌≤◌, Bool, true, false, List, [], ◌∷◌, ◌++◌, length, get_or, take, drop, refl, sym, ◌∙◌, ap, subst, inl, inr, arith, append-nil, append_assoc, length-append, map, drop-cons, ◌⊎◌}
+use Rattle.std.proofs.Common.{◌≡◌, ◌≢◌, ℕ, zero, suc, ◌+◌, ◌-◌, ◌<◌, ◌≤◌, Bool, true, false, List, [], ◌∷◌, ◌++◌, length, get_or, take, drop, refl, sym, ◌∙◌}
+use Rattle.std.proofs.Common.{ap, subst, inl, inr, arith, append-nil, append_assoc, length-append, map, drop-cons, ◌⊎◌}
 use Rattle.std.specs.Prelude.{◌||◌, ◌==◌, slice_index_or}
 use Rattle.std.specs.List.{All, AllPairs, Contains, remove}
 use Rattle.std.proofs.lemmas.List.{get_or_append_left, take-map, drop-map, map-append}
@@ -34,7 +35,8 @@ pairs_head R x y xs h c =
     let is : slice_index_or xs k y ≡ y = c.2 in
     subst (R x) is (h 0 (suc k) y (omega arith) (omega arith))
 
-pub pairs_both : {X : Type 0} (R : X → X → Type 0) (xs ys : List X) → AllPairs R xs → AllPairs R ys → ((a b : X) → Contains xs a → Contains ys b → R a b) → AllPairs R (xs ++ ys)
+pub pairs_both : {X : Type 0} (R : X → X → Type 0) (xs ys : List X) → AllPairs R xs → AllPairs R ys → ((a b : X) → Contains xs a → Contains ys b → R a b) →
+    AllPairs R (xs ++ ys)
 pairs_both R xs [] p q h = subst (AllPairs R) (sym (append-nil xs)) p
 pairs_both R xs (y ∷ ys) p q h = subst (AllPairs R) (append_assoc xs (y ∷ []) ys)
     (pairs_both R (xs ++ y ∷ []) ys
@@ -50,17 +52,20 @@ pairs_both R xs (y ∷ ys) p q h = subst (AllPairs R) (append_assoc xs (y ∷ []
     last_is y a (suc k, lt, is) = absurd (omega (arith, lt))
 
 pub remove_map : {X Y : Type 0} (f : X → Y) (xs : List X) (i : ℕ) → remove (map f xs) i ≡ map f (remove xs i)
-remove_map f xs i = ap (λ z. z ++ drop (suc i) (map f xs)) (take-map f i xs) ∙ ap (λ z. map f (take i xs) ++ z) (drop-map f (suc i) xs) ∙ sym (map-append f (take i xs) (drop (suc i) xs))
+remove_map f xs i = ap (λ z. z ++ drop (suc i) (map f xs)) (take-map f i xs) ∙ ap (λ z. map f (take i xs) ++ z) (drop-map f (suc i) xs)
+    ∙ sym (map-append f (take i xs) (drop (suc i) xs))
 
 -- ---- all places
 
 pub countdown_below : (n : ℕ) → All (λ k. k < n) (countdown n)
 countdown_below zero = All-nil (λ k. k < 0)
-countdown_below (suc n) = All-cons (λ k. k < suc n) n (countdown n) (omega arith) (All-weaker (λ k. k < n) (λ k. k < suc n) (λ k lt. omega arith) (countdown n) (countdown_below n))
+countdown_below (suc n) = All-cons (λ k. k < suc n) n (countdown n) (omega arith)
+    (All-weaker (λ k. k < n) (λ k. k < suc n) (λ k lt. omega arith) (countdown n) (countdown_below n))
 
 pub countdown_once : (n : ℕ) → AllPairs (λ a b. a ≢ b) (countdown n)
 countdown_once zero = λ i j d lt within. absurd (omega (arith, within))
-countdown_once (suc n) = AllPairs-cons (λ a b. a ≢ b) n (countdown n) (All-weaker (λ k. k < n) (λ k. n ≢ k) (λ k lt e. omega (arith, lt, e)) (countdown n) (countdown_below n)) (countdown_once n)
+countdown_once (suc n) = AllPairs-cons (λ a b. a ≢ b) n (countdown n) (All-weaker (λ k. k < n) (λ k. n ≢ k) (λ k lt e. omega (arith, lt, e)) (countdown n)
+    (countdown_below n)) (countdown_once n)
 
 pub countdown_has : (n k : ℕ) → k < n → Contains (countdown n) k
 countdown_has zero k lt = absurd (omega (arith, lt))
@@ -86,10 +91,12 @@ has_contained (x ∷ xs) n (suc k, lt, is) = or_right (x == n) (has_number xs n)
 -- ---- loops
 
 pub countdown_next : (n i : ℕ) → i < n → countdown (n - i) ≡ (n - 1 - i) ∷ countdown (n - (i + 1))
-countdown_next n i lt = let e : n - i ≡ suc (n - 1 - i) = omega arith in let f : n - 1 - i ≡ n - (i + 1) = omega arith in ap countdown e ∙ ap (λ k. (n - 1 - i) ∷ countdown k) f
+countdown_next n i lt = let e : n - i ≡ suc (n - 1 - i) = omega arith in let f : n - 1 - i ≡ n - (i + 1) = omega arith in ap countdown e
+    ∙ ap (λ k. (n - 1 - i) ∷ countdown k) f
 
 number_next : (xs : List ℕ) (i n : ℕ) → i < length xs → has_number (drop i xs) n ≡ ((get_or xs i 0 == n) || has_number (drop (i + 1) xs) n)
-number_next xs i n lt = let e : suc i ≡ i + 1 = omega arith in ap (λ ys. has_number ys n) (drop-cons xs i 0 lt) ∙ ap (λ k. (get_or xs i 0 == n) || has_number (drop k xs) n) e
+number_next xs i n lt = let e : suc i ≡ i + 1 = omega arith in ap (λ ys. has_number ys n) (drop-cons xs i 0 lt)
+    ∙ ap (λ k. (get_or xs i 0 == n) || has_number (drop k xs) n) e
 
 pub number_here : (xs : List ℕ) (i n : ℕ) → i < length xs → get_or xs i 0 ≡ n → has_number (drop i xs) n ≡ true
 number_here xs i n lt same =

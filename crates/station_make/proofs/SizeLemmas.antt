@@ -8,7 +8,8 @@ use Rattle.plan_core.specs.declared.limits.TheConstants.{MAX_FILE_BYTES}
 use Rattle.plan_core.specs.declared.sides.Side.{Side}
 use Rattle.plan_core.specs.declared.sides.Side.TheVariants.{Upper, Lower}
 use Rattle.station_make.specs.Station.{loops, side, leaving, returning, main_length}
-use Rattle.station_make.specs.StationText.{numbered, eastward_hand, westward_hand, leaving_switch, returning_switch, switches, main_begin, main_end, main_track, loop_begin, loop_end, loop_track, byte_order_mark, file_begin, file_end, station_text}
+use Rattle.station_make.specs.StationText.{numbered, eastward_hand, westward_hand, leaving_switch, returning_switch, switches, main_begin, main_end}
+use Rattle.station_make.specs.StationText.{main_track, loop_begin, loop_end, loop_track, byte_order_mark, file_begin, file_end, station_text}
 
 -- a number below 10^10 has at most ten digits
 numbered_short : (text : List ℕ) (n : ℕ) → n < 10 ^ 10 → length (numbered text n) ≤ length text + 10
@@ -44,7 +45,12 @@ returning_short i s within =
     simp length-append (omega (arith, a, b, c, d, westward_short s))
 
 switches_short : (n i : ℕ) → i < 15 → length (switches n i) ≤ 400
-switches_short n i within = omega (arith, length-append (leaving_switch i (side n i)) (returning_switch i (side n i)), leaving_short i (side n i) within, returning_short i (side n i) within)
+switches_short n i within = omega (
+  arith,
+  length-append (leaving_switch i (side n i)) (returning_switch i (side n i)),
+  leaving_short i (side n i) within,
+  returning_short i (side n i) within,
+)
 
 -- a text of at most 400 bytes for each number of a range below 15
 each_short : (text : ℕ → List ℕ) (a n : ℕ) → ((i : ℕ) → i < 15 → length (text i) ≤ 400) → a + n ≤ 15 → length (flat_map text (range_with_len a n)) ≤ 400 * n

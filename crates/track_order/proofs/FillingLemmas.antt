@@ -54,7 +54,8 @@ filling_begins g way start edges nodes lt node_lt edge_size node_size no_edge no
       begun = marked_here edges start edge_there;
       sound = λ f _ marked. subst (λ (x : ℕ). Reaches g way start x) (only f marked) (reaches_self g way start);
       full = λ f among r. absurd (search rules);
-      ends = λ f _ marked. subst (λ (x : ℕ). IsMarked (slice_set nodes (end_of_edge g way start) true) (end_of_edge g way x)) (only f marked) (marked_here nodes (end_of_edge g way start) node_there);
+      ends = λ f _ marked. subst (λ (x : ℕ). IsMarked (slice_set nodes (end_of_edge g way start) true) (end_of_edge g way x)) (only f marked)
+          (marked_here nodes (end_of_edge g way start) node_there);
       cause = λ n marked. elim (marked_before nodes (end_of_edge g way start) n node_there marked) [
         | inl same ↦ (start, lt, marked_here edges start edge_there, same)
         | inr was ↦ absurd (grind (arith, no_node n))
@@ -83,7 +84,8 @@ filling_goes_on g way start done edges nodes e lt node_lt so_far marked =
         | inr new ↦ (let same : e ≡ f = search rules in subst (λ (x : ℕ). IsMarked (slice_set edges e true) x) same (marked_here edges e edge_there))
       ];
       ends = λ f there now. elim (marked_before edges e f edge_there now) [
-        | inl same ↦ subst (λ (x : ℕ). IsMarked (slice_set nodes (end_of_edge g way e) true) (end_of_edge g way x)) same (marked_here nodes (end_of_edge g way e) node_there)
+        | inl same ↦ subst (λ (x : ℕ). IsMarked (slice_set nodes (end_of_edge g way e) true) (end_of_edge g way x)) same
+            (marked_here nodes (end_of_edge g way e) node_there)
         | inr was ↦ marked_still nodes (end_of_edge g way e) (end_of_edge g way f) node_there (so_far.ends f there was)
       ];
       cause = λ n now. elim (marked_before nodes (end_of_edge g way e) n node_there now) [
@@ -101,7 +103,8 @@ filling_passes_over g way start done edges nodes e lt behind so_far unmarked =
     let at_e : Reaches g way start e → IsMarked edges e =
     (λ r. elim (arrives g way start e lt r) [
       | At same ↦ subst (λ (x : ℕ). IsMarked edges x) same so_far.begun
-      | From h there r_h follows ↦ absurd (unmarked (subst (λ (x : ℕ). IsMarked nodes x) (sym follows) (so_far.ends h there (so_far.full h (behind h there follows) r_h))))
+      | From h there r_h follows ↦ absurd (unmarked (subst (λ (x : ℕ). IsMarked nodes x) (sym follows)
+          (so_far.ends h there (so_far.full h (behind h there follows) r_h))))
     ]) in
     record {
       edge_size = so_far.edge_size;
@@ -150,12 +153,15 @@ filling_steps g way start done edges nodes e end is lt node_lt so_far marked =
     subst (λ (n : ℕ). IsFilling g way start (done ++ e ∷ []) (slice_set edges e true) (slice_set nodes n true)) (sym is)
     (filling_goes_on g way start done edges nodes e lt (subst (λ (n : ℕ). n < length g.nodes) is node_lt) so_far marked)
 
-pub filling_starts : (g : Graph) (way : Compass) (start end : ℕ) (edges nodes : List Bool) → end ≡ end_of_edge g way start → start < length g.edges → end < length g.nodes →
-    edges ≡ replicate (length g.edges) false → nodes ≡ replicate (length g.nodes) false → IsFilling g way start [] (slice_set edges start true) (slice_set nodes end true)
+pub filling_starts : (g : Graph) (way : Compass) (start end : ℕ) (edges nodes : List Bool) → end ≡ end_of_edge g way start → start < length g.edges →
+    end < length g.nodes →
+    edges ≡ replicate (length g.edges) false → nodes ≡ replicate (length g.nodes) false →
+    IsFilling g way start [] (slice_set edges start true) (slice_set nodes end true)
 filling_starts g way start end edges nodes is lt node_lt edges_are nodes_are =
     subst (λ (n : ℕ). IsFilling g way start [] (slice_set edges start true) (slice_set nodes n true)) (sym is)
     (subst (λ (xs : List Bool). IsFilling g way start [] (slice_set xs start true) (slice_set nodes (end_of_edge g way start) true)) (sym edges_are)
-    (subst (λ (xs : List Bool). IsFilling g way start [] (slice_set (replicate (length g.edges) false) start true) (slice_set xs (end_of_edge g way start) true)) (sym nodes_are)
+    (subst (λ (xs : List Bool). IsFilling g way start [] (slice_set (replicate (length g.edges) false) start true)
+    (slice_set xs (end_of_edge g way start) true)) (sym nodes_are)
     (filling_begins g way start (replicate (length g.edges) false) (replicate (length g.nodes) false) lt (subst (λ (n : ℕ). n < length g.nodes) is node_lt)
     (length-replicate (length g.edges) false) (length-replicate (length g.nodes) false) (none_marked (length g.edges)) (none_marked (length g.nodes)))))
 

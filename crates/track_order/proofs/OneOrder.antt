@@ -40,9 +40,12 @@ one_order g o p is also =
     let edges = is.edges in
     same_order o p (sym count)
     (same_rows o.edges o.above_rows p.above_rows is.tables.above (subst (λ (n : ℕ). IsTable n p.above_rows) count also.tables.above)
-    (λ e f first second. same_says (entry o.above_rows e f) (entry p.above_rows e f) (is.above e f (omega (arith, edges, first)) (omega (arith, edges, second))) (also.above e f (omega (arith, edges, first)) (omega (arith, edges, second)))))
+    (λ e f first second. same_says (entry o.above_rows e f) (entry p.above_rows e f) (is.above e f (omega (arith, edges, first)) (omega (arith, edges, second)))
+    (also.above e f (omega (arith, edges, first)) (omega (arith, edges, second)))))
     (same_rows o.edges o.overlap_rows p.overlap_rows is.tables.overlap (subst (λ (n : ℕ). IsTable n p.overlap_rows) count also.tables.overlap)
-    (λ e f first second. same_says (entry o.overlap_rows e f) (entry p.overlap_rows e f) (is.overlap e f (omega (arith, edges, first)) (omega (arith, edges, second))) (also.overlap e f (omega (arith, edges, first)) (omega (arith, edges, second)))))
+    (λ e f first second. same_says (entry o.overlap_rows e f) (entry p.overlap_rows e f)
+    (is.overlap e f (omega (arith, edges, first)) (omega (arith, edges, second)))
+    (also.overlap e f (omega (arith, edges, first)) (omega (arith, edges, second)))))
 
 one_contradiction : (g : Graph) (e f a b : ℕ) → IsFirstContradiction g e f → IsFirstContradiction g a b → (e ≡ a) × (f ≡ b)
 one_contradiction g e f a b is also = elim (cases_order e a) [
@@ -74,5 +77,6 @@ never_both g o (Contradicts e f) is fault =
 never_both g o Memory is fault = fault
 
 -- of a result that is the order, a fault or want of memory
-pub order_exactly : (g : Graph) (result : Result EdgeOrder OrderFault) → IfOk result (IsOrderOf g) → IfErr result (λ x. (x ≡ Memory) ⊎ IsOrderFault g x) → AnswersExactly result Memory (IsOrderOf g) (IsOrderFault g)
+pub order_exactly : (g : Graph) (result : Result EdgeOrder OrderFault) → IfOk result (IsOrderOf g) → IfErr result (λ x. (x ≡ Memory) ⊎ IsOrderFault g x) →
+    AnswersExactly result Memory (IsOrderOf g) (IsOrderFault g)
 order_exactly g result value fault = answers_exactly result Memory (IsOrderOf g) (IsOrderFault g) value fault (one_order g) (one_fault g) (never_both g)

@@ -9,16 +9,19 @@ use Rattle.track_order.specs.Order.{edge_order, AreTables, IsOrderOf, IsFirstCon
 use Rattle.track_order.specs.Searching.{IsBothWays, IsFirstBothWays}
 use Rattle.track_order.proofs.TableLemmas.{table_is}
 
-both_ways : (g : Graph) (above : List (List Bool)) (e f : ℕ) → IsTableOf (length g.edges) (length g.edges) (Above g) above → e < length g.edges → f < length g.edges → Contradicts g e f → IsBothWays above e f
+both_ways : (g : Graph) (above : List (List Bool)) (e f : ℕ) → IsTableOf (length g.edges) (length g.edges) (Above g) above → e < length g.edges →
+    f < length g.edges → Contradicts g e f → IsBothWays above e f
 both_ways g above e f table e_there f_there c = (((table.each e e_there).exact f f_there).1 c.over, ((table.each f f_there).exact e e_there).1 c.under)
 
-contradicts : (g : Graph) (above : List (List Bool)) (e f : ℕ) → IsTableOf (length g.edges) (length g.edges) (Above g) above → e < length g.edges → f < length g.edges → IsBothWays above e f → Contradicts g e f
+contradicts : (g : Graph) (above : List (List Bool)) (e f : ℕ) → IsTableOf (length g.edges) (length g.edges) (Above g) above → e < length g.edges →
+    f < length g.edges → IsBothWays above e f → Contradicts g e f
 contradicts g above e f table e_there f_there both = record {
   over = ((table.each e e_there).exact f f_there).0 both.0;
   under = ((table.each f f_there).exact e e_there).0 both.1;
 }
 
-pub tables_are : (g : Graph) (edges : ℕ) (above overlap : List (List Bool)) → edges ≡ length g.edges → edges ≤ MAX_EDGES → IsTableOf (length g.edges) (length g.edges) (Above g) above →
+pub tables_are : (g : Graph) (edges : ℕ) (above overlap : List (List Bool)) → edges ≡ length g.edges → edges ≤ MAX_EDGES →
+    IsTableOf (length g.edges) (length g.edges) (Above g) above →
     IsTableOf (length g.edges) (length g.edges) (Overlap g) overlap → AreTables (edge_order edges above overlap)
 tables_are g edges above overlap count few is_above is_overlap = record {
   few = few;
@@ -41,8 +44,10 @@ never_both g above table none e f e_there f_there c = elim (compare e f) [
     not_itself : Above g e e → ⊥
     not_itself above = above.parts.second.alone above.parts.first.reached
 
-pub order_is : (g : Graph) (edges : ℕ) (above overlap : List (List Bool)) → edges ≡ length g.edges → edges ≤ MAX_EDGES → IsTableOf (length g.edges) (length g.edges) (Above g) above →
-    IsTableOf (length g.edges) (length g.edges) (Overlap g) overlap → ((e f : ℕ) → e < f → f < edges → IsBothWays above e f → ⊥) → IsOrderOf g (edge_order edges above overlap)
+pub order_is : (g : Graph) (edges : ℕ) (above overlap : List (List Bool)) → edges ≡ length g.edges → edges ≤ MAX_EDGES →
+    IsTableOf (length g.edges) (length g.edges) (Above g) above →
+    IsTableOf (length g.edges) (length g.edges) (Overlap g) overlap → ((e f : ℕ) → e < f → f < edges → IsBothWays above e f → ⊥) →
+    IsOrderOf g (edge_order edges above overlap)
 order_is g edges above overlap count few is_above is_overlap none = record {
   edges = count;
   tables = tables_are g edges above overlap count few is_above is_overlap;
@@ -61,5 +66,6 @@ first_is g edges e f above count table first =
       rising = rising;
       there = there;
       both = contradicts g above e f table e_there there first.both;
-      first = λ a b less b_there earlier c. first.before.none a b less (subst (λ (n : ℕ). b < n) (sym count) b_there) earlier (both_ways g above a b table (omega (arith, less, b_there)) b_there c);
+      first = λ a b less b_there earlier c. first.before.none a b less (subst (λ (n : ℕ). b < n) (sym count) b_there) earlier
+          (both_ways g above a b table (omega (arith, less, b_there)) b_there c);
     }

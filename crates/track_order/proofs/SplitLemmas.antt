@@ -13,7 +13,8 @@ use Rattle.track_order.specs.Splits.{IsSplit, AreSplits, forks_before, IsFitting
 pub splits_begin : (g : Graph) → AreSplits g [] []
 splits_begin g = record { each = λ k among. absurd (search rules); no_other = λ s among. absurd (search rules) }
 
-pub splits_on : (g : Graph) (of : List Fork) (splits : List Split) (k : Fork) (s : Split) → AreSplits g of splits → IsSplit g k s → AreSplits g (of ++ k ∷ []) (splits ++ s ∷ [])
+pub splits_on : (g : Graph) (of : List Fork) (splits : List Split) (k : Fork) (s : Split) → AreSplits g of splits → IsSplit g k s →
+    AreSplits g (of ++ k ∷ []) (splits ++ s ∷ [])
 splits_on g of splits k s so_far is = record {
   each = λ j among. elim (Contains-append_cases of (k ∷ []) j among) [
     | inl old ↦ (let found = so_far.each j old in (found.0, Contains-append_left splits (s ∷ []) found.0 found.1, found.2))
@@ -34,12 +35,14 @@ split_fits g k s e f is e_there f_there = record {
 }
 
 -- every split has entries for all edges
-pub splits_fit : (g : Graph) (of : List Fork) (splits : List Split) (e f : ℕ) → AreSplits g of splits → e < length g.edges → f < length g.edges → All (λ s. IsFitting s e f) splits
+pub splits_fit : (g : Graph) (of : List Fork) (splits : List Split) (e f : ℕ) → AreSplits g of splits → e < length g.edges → f < length g.edges →
+    All (λ s. IsFitting s e f) splits
 splits_fit g of splits e f are e_there f_there k d less =
     let found = are.no_other (get_or splits k d) (k, less, get_or_default splits k (get_or splits k d) d less) in
     split_fits g found.0 (get_or splits k d) e f found.2 e_there f_there
 
-pub split_parts : (g : Graph) (k : Fork) (s : Split) (e f : ℕ) → IsSplit g k s → e < length g.edges → f < length g.edges → Overlap g e f → IsSplitBy s e f ↔ ForkParts g k e f
+pub split_parts : (g : Graph) (k : Fork) (s : Split) (e f : ℕ) → IsSplit g k s → e < length g.edges → f < length g.edges → Overlap g e f →
+    IsSplitBy s e f ↔ ForkParts g k e f
 split_parts g k s e f is e_there f_there overlap = (
   (λ by. record {
     first = record { reached = (is.upper.exact e e_there).0 by.e_upper; alone = λ r. by.e_lower ((is.lower.exact e e_there).1 r) };
@@ -59,7 +62,8 @@ fork_among : (g : Graph) (n : ℕ) (k : Fork) → n < length g.nodes → Contain
 fork_among g n k there among = subst (λ (xs : List Node). Contains (flat_map (λ (x : Node). forks x.ports) xs) k) (sym (take-length g.nodes))
     (Contains-flat_map (λ (x : Node). forks x.ports) g.nodes (node g n) k (n, there, get_or_default g.nodes n (node g n) no_node there) among)
 
-fork_in : (xs : List Node) (k : Fork) → Contains (flat_map (λ (x : Node). forks x.ports) xs) k → (n : ℕ) × (n < length xs) × Contains (forks (get_or xs n no_node).ports) k
+fork_in : (xs : List Node) (k : Fork) → Contains (flat_map (λ (x : Node). forks x.ports) xs) k →
+    (n : ℕ) × (n < length xs) × Contains (forks (get_or xs n no_node).ports) k
 fork_in [] k among = absurd (search rules)
 fork_in (x ∷ xs) k among = elim (Contains-append_cases (forks x.ports) (flat_map (λ (x : Node). forks x.ports) xs) k among) [
   | inl here ↦ (0, omega arith, here)
@@ -70,7 +74,8 @@ fork_at : (g : Graph) (k : Fork) → Contains (forks_before g (length g.nodes)) 
 fork_at g k among = fork_in g.nodes k (subst (λ (xs : List Node). Contains (flat_map (λ (x : Node). forks x.ports) xs) k) (take-length g.nodes) among)
 
 -- some split has the two edges on its sides exactly where one is above the other
-pub above_by_splits : (g : Graph) (splits : List Split) (e f : ℕ) → AreSplits g (forks_before g (length g.nodes)) splits → e < length g.edges → f < length g.edges → Overlap g e f →
+pub above_by_splits : (g : Graph) (splits : List Split) (e f : ℕ) → AreSplits g (forks_before g (length g.nodes)) splits → e < length g.edges →
+    f < length g.edges → Overlap g e f →
     Any (λ s. IsSplitBy s e f) splits ↔ Above g e f
 above_by_splits g splits e f are e_there f_there overlap = (
   (λ some.

@@ -14,7 +14,8 @@ pub row_on : (n : ℕ) (R : ℕ → Type 0) (row : List Bool) (b : Bool) → IsR
 row_on n R row b so_far last = record {
   size = omega (arith, so_far.size, length-append row (b ∷ []));
   exact = λ f less. elim (below_or_is f n less) [
-    | inl before ↦ subst (λ (x : Bool). (x ≡ true) ↔ R f) (sym (get_or_append_left row (b ∷ []) false f (omega (arith, so_far.size, before)))) (so_far.exact f before)
+    | inl before ↦ subst (λ (x : Bool). (x ≡ true) ↔ R f) (sym (get_or_append_left row (b ∷ []) false f (omega (arith, so_far.size, before))))
+        (so_far.exact f before)
     | inr same ↦ subst (λ (i : ℕ). IsMarked (row ++ b ∷ []) i ↔ R i) (sym same)
         (subst (λ (x : Bool). (x ≡ true) ↔ R n) (sym (ap (λ (i : ℕ). is_marked (row ++ b ∷ []) i) (sym so_far.size) ∙ get_or-append_seam row b [] false)) last)
   ];
@@ -23,13 +24,16 @@ row_on n R row b so_far last = record {
 pub table_begins : (edges : ℕ) (R : ℕ → ℕ → Type 0) → IsTableOf 0 edges R []
 table_begins edges R = record { high = refl; each = λ e less. absurd (omega arith) }
 
-pub table_on : (n edges : ℕ) (R : ℕ → ℕ → Type 0) (rows : List (List Bool)) (row : List Bool) → IsTableOf n edges R rows → IsRowOf edges (R n) row → IsTableOf (n + 1) edges R (rows ++ row ∷ [])
+pub table_on : (n edges : ℕ) (R : ℕ → ℕ → Type 0) (rows : List (List Bool)) (row : List Bool) → IsTableOf n edges R rows → IsRowOf edges (R n) row →
+    IsTableOf (n + 1) edges R (rows ++ row ∷ [])
 table_on n edges R rows row so_far last = record {
   high = omega (arith, so_far.high, length-append rows (row ∷ []));
   each = λ e less. elim (below_or_is e n less) [
-    | inl before ↦ subst (λ (x : List Bool). IsRowOf edges (R e) x) (sym (get_or_append_left rows (row ∷ []) [] e (omega (arith, so_far.high, before)))) (so_far.each e before)
+    | inl before ↦ subst (λ (x : List Bool). IsRowOf edges (R e) x) (sym (get_or_append_left rows (row ∷ []) [] e (omega (arith, so_far.high, before))))
+        (so_far.each e before)
     | inr same ↦ subst (λ (i : ℕ). IsRowOf edges (R i) (slice_index_or (rows ++ row ∷ []) i [])) (sym same)
-        (subst (λ (x : List Bool). IsRowOf edges (R n) x) (sym (ap (λ (i : ℕ). slice_index_or (rows ++ row ∷ []) i []) (sym so_far.high) ∙ get_or-append_seam rows row [] [])) last)
+        (subst (λ (x : List Bool). IsRowOf edges (R n) x) (sym (ap (λ (i : ℕ). slice_index_or (rows ++ row ∷ []) i []) (sym so_far.high)
+        ∙ get_or-append_seam rows row [] [])) last)
   ];
 }
 
@@ -40,7 +44,9 @@ table_is edges R rows t = record {
 }
 
 pub none_begins : (rows : List (List Bool)) (count : ℕ) → HasNoneBefore rows count 0 0
-none_begins rows count = record { none = λ a b rising there before both. elim before [ inl less ↦ omega arith | inr same ↦ (let less = same.1 in omega arith) ] }
+none_begins rows count = record {
+  none = λ a b rising there before both. elim before [ inl less ↦ omega arith | inr same ↦ (let less = same.1 in omega arith) ];
+}
 
 -- behind the first of a row nothing rises up to e
 pub none_up_to : (rows : List (List Bool)) (count e : ℕ) → HasNoneBefore rows count e 0 → HasNoneBefore rows count e (e + 1)

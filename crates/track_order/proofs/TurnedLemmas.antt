@@ -114,15 +114,19 @@ fork_turned : (p : Ports) (k : Fork) → Contains (forks p) k → Contains (fork
 fork_turned (End e side) k among = absurd (search rules)
 fork_turned (Joint west east) k among = absurd (search rules)
 fork_turned (Switch legs Upper trunk straight diverging) k among =
-    subst (λ (j : Fork). Contains (fork (opposite legs) straight diverging ∷ []) (turned_fork j)) (only (fork legs diverging straight) k among) (0, omega arith, refl)
+    subst (λ (j : Fork). Contains (fork (opposite legs) straight diverging ∷ []) (turned_fork j)) (only (fork legs diverging straight) k among)
+    (0, omega arith, refl)
 fork_turned (Switch legs Lower trunk straight diverging) k among =
-    subst (λ (j : Fork). Contains (fork (opposite legs) diverging straight ∷ []) (turned_fork j)) (only (fork legs straight diverging) k among) (0, omega arith, refl)
+    subst (λ (j : Fork). Contains (fork (opposite legs) diverging straight ∷ []) (turned_fork j)) (only (fork legs straight diverging) k among)
+    (0, omega arith, refl)
 fork_turned (Crossing west_upper west_lower east_upper east_lower) k among =
     elim (Contains-append_cases (fork West west_upper west_lower ∷ []) (fork East east_upper east_lower ∷ []) k among) [
       | inl first ↦
-          subst (λ (j : Fork). Contains (fork West east_lower east_upper ∷ fork East west_lower west_upper ∷ []) (turned_fork j)) (only (fork West west_upper west_lower) k first) (1, omega arith, refl)
+          subst (λ (j : Fork). Contains (fork West east_lower east_upper ∷ fork East west_lower west_upper ∷ []) (turned_fork j))
+          (only (fork West west_upper west_lower) k first) (1, omega arith, refl)
       | inr second ↦
-          subst (λ (j : Fork). Contains (fork West east_lower east_upper ∷ fork East west_lower west_upper ∷ []) (turned_fork j)) (only (fork East east_upper east_lower) k second) (0, omega arith, refl)
+          subst (λ (j : Fork). Contains (fork West east_lower east_upper ∷ fork East west_lower west_upper ∷ []) (turned_fork j))
+          (only (fork East east_upper east_lower) k second) (0, omega arith, refl)
     ]
 
 pub above_turned : (g : Graph) (e f : ℕ) → Above g e f → Above (turned_graph g) f e
@@ -130,7 +134,8 @@ above_turned g e f above = record {
   at = above.at;
   there = subst (λ (n : ℕ). above.at < n) (sym (length-map g.nodes turned_node)) above.there;
   fork = fork (opposite above.fork.way) above.fork.lower above.fork.upper;
-  among = subst (λ (x : Node). Contains (forks x.ports) (fork (opposite above.fork.way) above.fork.lower above.fork.upper)) (sym (node-turned g above.at above.there))
+  among = subst (λ (x : Node). Contains (forks x.ports) (fork (opposite above.fork.way) above.fork.lower above.fork.upper))
+      (sym (node-turned g above.at above.there))
       (fork_turned (node g above.at).ports above.fork above.among);
   parts = record {
     first = alone_turned g above.fork.way above.fork.lower above.fork.upper f above.parts.second;

@@ -1,5 +1,6 @@
 -- The outputs of a sum as literals: where they lie, and how many are true.
-use Rattle.std.proofs.Common.{◌≡◌, ℕ, ◌+◌, ◌<◌, ◌≤◌, Bool, true, false, cond, zero, suc, List, [], ◌∷◌, ◌++◌, length, take, refl, sym, ◌∙◌, ap, arith, append_assoc}
+use Rattle.std.proofs.Common.{◌≡◌, ℕ, ◌+◌, ◌<◌, ◌≤◌, Bool, true, false, cond, zero, suc, List, [], ◌∷◌, ◌++◌, length, take, refl, sym, ◌∙◌, ap, arith}
+use Rattle.std.proofs.Common.{append_assoc}
 use Rattle.std.specs.Prelude.{◌-◌, nat_le, nat_lt, min}
 use Rattle.std.proofs.lemmas.List.{take_all}
 use Rattle.std.proofs.lemmas.Bool.Decides.{nat_tests}
@@ -15,7 +16,8 @@ use Rattle.unary_sum.proofs.SumLemmas.{part_size-top, top_there, tree_there, the
 use Rattle.unary_sum.proofs.SizeLemmas.{size_bound}
 
 -- a block, variable by variable
-pub block_next : (first count k : ℕ) (front : List Literal) → k < count → front ++ block (first + k) (count - k) ≡ (front ++ positive_of (first + k) ∷ []) ++ block (first + (k + 1)) (count - (k + 1))
+pub block_next : (first count k : ℕ) (front : List Literal) → k < count →
+    front ++ block (first + k) (count - k) ≡ (front ++ positive_of (first + k) ∷ []) ++ block (first + (k + 1)) (count - (k + 1))
 block_next first count k front lt =
     let one : count - k ≡ suc (count - (k + 1)) = omega arith in
     let next : first + k + 1 ≡ first + (k + 1) = omega arith in
@@ -80,7 +82,8 @@ outputs_true v most (Outputs first count) n some small c =
     (rw t at (c (suc k) (omega arith))) ∙ u) in
     omega (arith, all, enough)
 
-pub sum_outputs_true : (v : Assignment) (most vars : ℕ) (ls : List Literal) → SatisfiesAll v (tree_clauses most vars (tree_of (length ls) ls)) → count_true v (take most (part_outputs (tree_top most vars (tree_of (length ls) ls)))) ≡ min (count_true v ls) most
+pub sum_outputs_true : (v : Assignment) (most vars : ℕ) (ls : List Literal) → SatisfiesAll v (tree_clauses most vars (tree_of (length ls) ls)) →
+    count_true v (take most (part_outputs (tree_top most vars (tree_of (length ls) ls)))) ≡ min (count_true v ls) most
 sum_outputs_true v zero vars ls h = omega arith
 sum_outputs_true v (suc m) vars ls h =
     let most = suc m in
@@ -90,14 +93,17 @@ sum_outputs_true v (suc m) vars ls h =
     let whole : take most (part_outputs p) ≡ part_outputs p = take_all most (part_outputs p) (omega (arith, length-outputs p, size, bound)) in
     ap (count_true v) whole ∙ outputs_true v most p (count_true v ls) (omega arith) (omega (arith, size, bound)) (sum_means v most vars ls h)
 
-pub sum_outputs_whole : (most vars : ℕ) (ls : List Literal) → 1 ≤ most → take most (part_outputs (tree_top most vars (tree_of (length ls) ls))) ≡ part_outputs (tree_top most vars (tree_of (length ls) ls))
+pub sum_outputs_whole : (most vars : ℕ) (ls : List Literal) → 1 ≤ most →
+    take most (part_outputs (tree_top most vars (tree_of (length ls) ls))) ≡ part_outputs (tree_top most vars (tree_of (length ls) ls))
 sum_outputs_whole most vars ls some =
     let p = tree_top most vars (tree_of (length ls) ls) in
     let size = part_size-top most vars (tree_of (length ls) ls) in
     let bound = size_bound most (length ls) ls (omega arith) in
     take_all most (part_outputs p) (omega (arith, length-outputs p, size, bound))
 
-pub sum_outputs_there : (most vars : ℕ) (ls : List Literal) → AreThere vars ls → AreThere (vars + tree_count most (tree_of (length ls) ls)) (take most (part_outputs (tree_top most vars (tree_of (length ls) ls))))
+pub sum_outputs_there : (most vars : ℕ) (ls : List Literal) → AreThere vars ls →
+    AreThere (vars + tree_count most (tree_of (length ls) ls)) (take most (part_outputs (tree_top most vars (tree_of (length ls) ls))))
 sum_outputs_there most vars ls h =
     let t = tree_of (length ls) ls in
-    there_take (vars + tree_count most t) most (part_outputs (tree_top most vars t)) (outputs_there (vars + tree_count most t) (tree_top most vars t) (top_there most vars t (tree_there vars (length ls) ls h)))
+    there_take (vars + tree_count most t) most (part_outputs (tree_top most vars t))
+    (outputs_there (vars + tree_count most t) (tree_top most vars t) (top_there most vars t (tree_there vars (length ls) ls h)))

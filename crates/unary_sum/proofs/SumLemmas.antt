@@ -1,5 +1,6 @@
 -- What the clauses of a sum's tree say.
-use Rattle.std.proofs.Common.{◌≡◌, ◌≢◌, ℕ, ◌+◌, ◌<◌, ◌≤◌, true, false, cond, zero, suc, List, [], ◌∷◌, ◌++◌, length, take, drop, refl, sym, ◌∙◌, ap, subst, arith, length-drop, length-take}
+use Rattle.std.proofs.Common.{◌≡◌, ◌≢◌, ℕ, ◌+◌, ◌<◌, ◌≤◌, true, false, cond, zero, suc, List, [], ◌∷◌, ◌++◌, length, take, drop, refl, sym, ◌∙◌, ap, subst}
+use Rattle.std.proofs.Common.{arith, length-drop, length-take}
 use Rattle.std.specs.Prelude.{◌-◌, ◌/◌, nat_le, nat_lt, min}
 use Rattle.std.proofs.lemmas.List.{take_all}
 use Rattle.std.proofs.lemmas.Bool.Decides.{nat_tests}
@@ -60,15 +61,24 @@ tree_true-of v depth (l ∷ []) h = omega arith
 tree_true-of v zero (k ∷ l ∷ ls) h = absurd (omega arith)
 tree_true-of v (suc depth) (k ∷ l ∷ ls) h =
     let all = k ∷ l ∷ ls in
-    omega (arith, tree_true-of v depth (take (length all / 2) all) (left_depth depth all (omega arith) h), tree_true-of v depth (drop (length all / 2) all) (right_depth depth all (omega arith) h), count_true_halves v (length all / 2) all)
+    omega (
+      arith,
+      tree_true-of v depth (take (length all / 2) all) (left_depth depth all (omega arith) h),
+      tree_true-of v depth (drop (length all / 2) all)
+          (right_depth depth all (omega arith) h),
+      count_true_halves v (length all / 2) all,
+    )
 
 pub tree_there : (vars depth : ℕ) (ls : List Literal) → AreThere vars ls → TreeIsThere vars (tree_of depth ls)
 tree_there vars depth [] h = tt
 tree_there vars depth (l ∷ []) h = h.0
 tree_there vars zero (k ∷ l ∷ ls) h = tt
 tree_there vars (suc depth) (k ∷ l ∷ ls) h =
-    let all = k ∷ l ∷ ls in
-    (tree_there vars depth (take (length all / 2) all) (there_take vars (length all / 2) all h), tree_there vars depth (drop (length all / 2) all) (there_drop vars (length all / 2) all h))
+    let all = k ∷ l ∷ ls in (
+      tree_there vars depth (take (length all / 2) all) (there_take vars (length all / 2) all h),
+      tree_there vars depth (drop (length all / 2) all)
+          (there_drop vars (length all / 2) all h),
+    )
 
 -- sizes and places
 pub part_size-top : (most vars : ℕ) (t : InputTree) → part_size (tree_top most vars t) ≡ tree_size most t
@@ -83,32 +93,42 @@ top_there most vars (Node a b) h = (omega arith, omega arith)
 
 -- the join of a node
 abbrev pub node_join : ℕ → ℕ → InputTree → InputTree → Join
-node_join most vars a b = sides_join (tree_top most vars a) (tree_top most (vars + tree_count most a) b) (vars + (tree_count most a + tree_count most b)) (min (tree_size most a + tree_size most b) most)
+node_join most vars a b = sides_join (tree_top most vars a) (tree_top most (vars + tree_count most a) b) (vars + (tree_count most a + tree_count most b))
+    (min (tree_size most a + tree_size most b) most)
 
-node_count : (most vars : ℕ) (a b : InputTree) → (node_join most vars a b).count ≡ min (part_size (node_join most vars a b).left + part_size (node_join most vars a b).right) most
+node_count : (most vars : ℕ) (a b : InputTree) → (node_join most vars a b).count ≡ min
+    (part_size (node_join most vars a b).left + part_size (node_join most vars a b).right) most
 node_count most vars a b = let x = part_size-top most vars a in let y = part_size-top most (vars + tree_count most a) b in omega arith
 
 pub part_there_more : (m n : ℕ) (p : Part) → m ≤ n → PartIsThere m p → PartIsThere n p
 part_there_more m n (Input l) le h = (h.0, omega (arith, h.1))
 part_there_more m n (Outputs first count) le h = (h.0, omega (arith, h.1))
 
-left_there : (most vars more : ℕ) (a b : InputTree) → TreeIsThere vars (Node a b) → PartIsThere (vars + (tree_count most a + tree_count most b) + more) (tree_top most vars a)
-left_there most vars more a b h = part_there_more (vars + tree_count most a) (vars + (tree_count most a + tree_count most b) + more) (tree_top most vars a) (omega arith) (top_there most vars a h.0)
+left_there : (most vars more : ℕ) (a b : InputTree) → TreeIsThere vars (Node a b) →
+    PartIsThere (vars + (tree_count most a + tree_count most b) + more) (tree_top most vars a)
+left_there most vars more a b h = part_there_more (vars + tree_count most a) (vars + (tree_count most a + tree_count most b) + more) (tree_top most vars a)
+    (omega arith) (top_there most vars a h.0)
 
-right_there : (most vars more : ℕ) (a b : InputTree) → TreeIsThere vars (Node a b) → PartIsThere (vars + (tree_count most a + tree_count most b) + more) (tree_top most (vars + tree_count most a) b)
-right_there most vars more a b h = part_there_more (vars + tree_count most a + tree_count most b) (vars + (tree_count most a + tree_count most b) + more) (tree_top most (vars + tree_count most a) b) (omega arith) (top_there most (vars + tree_count most a) b (tree_there_more vars (vars + tree_count most a) b (omega arith) h.1))
+right_there : (most vars more : ℕ) (a b : InputTree) → TreeIsThere vars (Node a b) →
+    PartIsThere (vars + (tree_count most a + tree_count most b) + more) (tree_top most (vars + tree_count most a) b)
+right_there most vars more a b h = part_there_more (vars + tree_count most a + tree_count most b) (vars + (tree_count most a + tree_count most b) + more)
+    (tree_top most (vars + tree_count most a) b) (omega arith) (top_there most (vars + tree_count most a) b
+    (tree_there_more vars (vars + tree_count most a) b (omega arith) h.1))
 
 -- the clauses make the top count the inputs
 leaf_counts : (v : Assignment) (most vars : ℕ) (l : Literal) → Counts v most (tree_top most vars (Leaf l)) (tree_true v (Leaf l))
 leaf_counts v most vars l zero le = sym (grind (arith, nat_tests))
-leaf_counts v most vars l (suc zero) le = elim (truth v l) as (λ b. b ≡ nat_le 1 (cond b 1 0)) [ true ↦ sym (grind (arith, nat_tests)) | false ↦ sym (grind (arith, nat_tests)) ]
-leaf_counts v most vars l (suc (suc k)) le = elim (truth v l) as (λ b. false ≡ nat_le (suc (suc k)) (cond b 1 0)) [ true ↦ sym (grind (arith, nat_tests)) | false ↦ sym (grind (arith, nat_tests)) ]
+leaf_counts v most vars l (suc zero) le = elim (truth v l) as (λ b. b ≡ nat_le 1 (cond b 1 0))
+    [ true ↦ sym (grind (arith, nat_tests)) | false ↦ sym (grind (arith, nat_tests)) ]
+leaf_counts v most vars l (suc (suc k)) le = elim (truth v l) as (λ b. false ≡ nat_le (suc (suc k)) (cond b 1 0))
+    [ true ↦ sym (grind (arith, nat_tests)) | false ↦ sym (grind (arith, nat_tests)) ]
 
 empty_counts : (v : Assignment) (most vars : ℕ) → Counts v most (tree_top most vars Empty) 0
 empty_counts v most vars zero le = sym (grind (arith, nat_tests))
 empty_counts v most vars (suc k) le = let t : nat_lt k 0 ≡ false = grind (arith, nat_tests) in rw t refl
 
-pub tree_means : (v : Assignment) (most vars : ℕ) (t : InputTree) → SatisfiesAll v (tree_clauses most vars t) → Counts v most (tree_top most vars t) (tree_true v t)
+pub tree_means : (v : Assignment) (most vars : ℕ) (t : InputTree) → SatisfiesAll v (tree_clauses most vars t) →
+    Counts v most (tree_top most vars t) (tree_true v t)
 tree_means v most vars Empty h = empty_counts v most vars
 tree_means v most vars (Leaf l) h = leaf_counts v most vars l
 tree_means v most vars (Node a b) h =
@@ -133,7 +153,8 @@ tree_clauses_there most vars (Node a b) h =
     all_there_append all (xs ++ ys) (join_clauses m)
     (all_there_append all xs ys
     (all_there_more (vars + tree_count most a) all xs (omega arith) (tree_clauses_there most vars a h.0))
-    (all_there_more (vars + tree_count most a + tree_count most b) all ys (omega arith) (tree_clauses_there most (vars + tree_count most a) b (tree_there_more vars (vars + tree_count most a) b (omega arith) h.1))))
+    (all_there_more (vars + tree_count most a + tree_count most b) all ys (omega arith)
+    (tree_clauses_there most (vars + tree_count most a) b (tree_there_more vars (vars + tree_count most a) b (omega arith) h.1))))
     (join_there all m
     (part_there_more (vars + (tree_count most a + tree_count most b) + 0) all m.left (omega arith) (left_there most vars 0 a b h))
     (part_there_more (vars + (tree_count most a + tree_count most b) + 0) all m.right (omega arith) (right_there most vars 0 a b h))
@@ -146,8 +167,10 @@ tree_true_same v w vars (Leaf l) there e = ap (λ x. cond (same_sign l.positive 
 tree_true_same v w vars (Node a b) there e = let x = tree_true_same v w vars a there.0 e in let y = tree_true_same v w vars b there.1 e in omega arith
 
 -- outputs of which as many are true as inputs satisfy the clauses of a node
-pub node_holds : (w : Assignment) (most vars : ℕ) (a b : InputTree) → SatisfiesAll w (tree_clauses most vars a) → SatisfiesAll w (tree_clauses most (vars + tree_count most a) b) →
-    ((k : ℕ) → k < min (tree_size most a + tree_size most b) most → w (vars + (tree_count most a + tree_count most b) + 1 + k) ≡ nat_lt k (tree_true w a + tree_true w b)) →
+pub node_holds : (w : Assignment) (most vars : ℕ) (a b : InputTree) → SatisfiesAll w (tree_clauses most vars a) →
+    SatisfiesAll w (tree_clauses most (vars + tree_count most a) b) →
+    ((k : ℕ) → k < min (tree_size most a + tree_size most b) most →
+    w (vars + (tree_count most a + tree_count most b) + 1 + k) ≡ nat_lt k (tree_true w a + tree_true w b)) →
     SatisfiesAll w (tree_clauses most vars (Node a b))
 node_holds w most vars a b ha hb set =
     let m = node_join most vars a b in
@@ -156,11 +179,14 @@ node_holds w most vars a b ha hb set =
     let ca = tree_means w most vars a ha in
     let cb = tree_means w most (vars + tree_count most a) b hb in
     satisfies_append w (xs ++ ys) (join_clauses m) (satisfies_append w xs ys ha hb)
-    (join_holds w most m (tree_true w a) (tree_true w b) (omega arith) ca cb (outputs_count w most m (tree_true w a) (tree_true w b) (node_count most vars a b) ca cb set))
+    (join_holds w most m (tree_true w a) (tree_true w b) (omega arith) ca cb (outputs_count w most m (tree_true w a) (tree_true w b) (node_count most vars a b)
+    ca cb set))
 
 -- each assignment of the inputs extends to the variables of the tree
-node_extends : (v : Assignment) (most vars : ℕ) (a b : InputTree) → TreeIsThere vars (Node a b) → SatisfiesAll v (tree_clauses most vars a ++ tree_clauses most (vars + tree_count most a) b) →
-    Extends (vars + 1 + (tree_count most a + tree_count most b)) (min (tree_size most a + tree_size most b) most) v (λ w. SatisfiesAll w (join_clauses (node_join most vars a b)))
+node_extends : (v : Assignment) (most vars : ℕ) (a b : InputTree) → TreeIsThere vars (Node a b) →
+    SatisfiesAll v (tree_clauses most vars a ++ tree_clauses most (vars + tree_count most a) b) →
+    Extends (vars + 1 + (tree_count most a + tree_count most b)) (min (tree_size most a + tree_size most b) most) v
+    (λ w. SatisfiesAll w (join_clauses (node_join most vars a b)))
 node_extends v most vars a b there h =
     let first = vars + 1 + (tree_count most a + tree_count most b) in
     let count = min (tree_size most a + tree_size most b) most in
@@ -173,7 +199,8 @@ node_extends v most vars a b there h =
     let stays : AllThere (vars + (tree_count most a + tree_count most b)) (xs ++ ys) =
     all_there_append (vars + (tree_count most a + tree_count most b)) xs ys
     (all_there_more (vars + tree_count most a) (vars + (tree_count most a + tree_count most b)) xs (omega arith) (tree_clauses_there most vars a there.0))
-    (all_there_more (vars + tree_count most a + tree_count most b) (vars + (tree_count most a + tree_count most b)) ys (omega arith) (tree_clauses_there most (vars + tree_count most a) b (tree_there_more vars (vars + tree_count most a) b (omega arith) there.1))) in
+    (all_there_more (vars + tree_count most a + tree_count most b) (vars + (tree_count most a + tree_count most b)) ys (omega arith)
+    (tree_clauses_there most (vars + tree_count most a) b (tree_there_more vars (vars + tree_count most a) b (omega arith) there.1))) in
     let both = satisfies_before first count (vars + (tree_count most a + tree_count most b)) v w (xs ++ ys) (omega arith) stays same h in
     let below : (x : ℕ) → x ≤ vars → w x ≡ v x = λ x le. same.below x (omega arith) in
     let ta = tree_true_same v w vars a there.0 below in
@@ -188,7 +215,8 @@ node_extends v most vars a b there h =
           ap w z ∙ patch_at first count f v k lt ∙ ap (λ x. nat_lt k x) n));
     }
 
-pub tree_extends : (v : Assignment) (most vars : ℕ) (t : InputTree) → TreeIsThere vars t → Extends (vars + 1) (tree_count most t) v (λ w. SatisfiesAll w (tree_clauses most vars t))
+pub tree_extends : (v : Assignment) (most vars : ℕ) (t : InputTree) → TreeIsThere vars t →
+    Extends (vars + 1) (tree_count most t) v (λ w. SatisfiesAll w (tree_clauses most vars t))
 tree_extends v most vars Empty there = record { to = v; same = same_none (vars + 1) 0 v; holds = tt }
 tree_extends v most vars (Leaf l) there = record { to = v; same = same_none (vars + 1) 0 v; holds = tt }
 tree_extends v most vars (Node a b) there =
@@ -204,7 +232,8 @@ tree_extends v most vars (Node a b) there =
     (all_there_more (vars + tree_count most a + tree_count most b) all ys (omega arith) (tree_clauses_there most (vars + tree_count most a) b right_there)) in
     let next : vars + tree_count most a + 1 ≡ vars + 1 + tree_count most a = omega arith in
     extends_clauses (vars + 1) (tree_count most a + tree_count most b) count all v (xs ++ ys) (join_clauses m) (omega arith) stays
-    (extends_clauses (vars + 1) (tree_count most a) (tree_count most b) (vars + tree_count most a) v xs ys (omega arith) (tree_clauses_there most vars a there.0) (tree_extends v most vars a there.0)
+    (extends_clauses (vars + 1) (tree_count most a) (tree_count most b) (vars + tree_count most a) v xs ys (omega arith)
+    (tree_clauses_there most vars a there.0) (tree_extends v most vars a there.0)
     (λ w same h. subst (λ p. Extends p (tree_count most b) w (λ u. SatisfiesAll u ys)) next (tree_extends w most (vars + tree_count most a) b right_there)))
     (λ w same h. node_extends w most vars a b there h)
 
@@ -212,7 +241,8 @@ pub drop_whole : (n : ℕ) (ls : List Literal) → take (length ls - n) (drop n 
 drop_whole n ls = take_all (length ls - n) (drop n ls) (omega (arith, length-drop n ls))
 
 -- a tree over two inputs or more is a node over their halves, as slices of them
-pub tree_of-node : (depth : ℕ) (ls : List Literal) → depth ≢ 0 → 1 < length ls → tree_of depth ls ≡ Node (tree_of (depth - 1) (take (length ls / 2) ls)) (tree_of (depth - 1) (take (length ls - length ls / 2) (drop (length ls / 2) ls)))
+pub tree_of-node : (depth : ℕ) (ls : List Literal) → depth ≢ 0 → 1 < length ls →
+    tree_of depth ls ≡ Node (tree_of (depth - 1) (take (length ls / 2) ls)) (tree_of (depth - 1) (take (length ls - length ls / 2) (drop (length ls / 2) ls)))
 tree_of-node zero ls ne two = absurd (ne refl)
 tree_of-node (suc depth) [] ne two = absurd (omega arith)
 tree_of-node (suc depth) (l ∷ []) ne two = absurd (omega arith)
@@ -230,17 +260,22 @@ size_small most zero (k ∷ l ∷ ls) h = omega arith
 size_small most (suc depth) (k ∷ l ∷ ls) h = omega arith
 
 -- the whole sum
-pub sum_means : (v : Assignment) (most vars : ℕ) (ls : List Literal) → SatisfiesAll v (tree_clauses most vars (tree_of (length ls) ls)) → Counts v most (tree_top most vars (tree_of (length ls) ls)) (count_true v ls)
-sum_means v most vars ls h = subst (Counts v most (tree_top most vars (tree_of (length ls) ls))) (tree_true-of v (length ls) ls (omega arith)) (tree_means v most vars (tree_of (length ls) ls) h)
+pub sum_means : (v : Assignment) (most vars : ℕ) (ls : List Literal) → SatisfiesAll v (tree_clauses most vars (tree_of (length ls) ls)) →
+    Counts v most (tree_top most vars (tree_of (length ls) ls)) (count_true v ls)
+sum_means v most vars ls h = subst (Counts v most (tree_top most vars (tree_of (length ls) ls))) (tree_true-of v (length ls) ls (omega arith))
+    (tree_means v most vars (tree_of (length ls) ls) h)
 
-pub sum_extends : (v : Assignment) (most vars : ℕ) (ls : List Literal) → AreThere vars ls → Extends (vars + 1) (tree_count most (tree_of (length ls) ls)) v (λ w. SatisfiesAll w (tree_clauses most vars (tree_of (length ls) ls)))
+pub sum_extends : (v : Assignment) (most vars : ℕ) (ls : List Literal) → AreThere vars ls →
+    Extends (vars + 1) (tree_count most (tree_of (length ls) ls)) v (λ w. SatisfiesAll w (tree_clauses most vars (tree_of (length ls) ls)))
 sum_extends v most vars ls there = tree_extends v most vars (tree_of (length ls) ls) (tree_there vars (length ls) ls there)
 
-pub sum_there : (most vars : ℕ) (ls : List Literal) → AreThere vars ls → AllThere (vars + tree_count most (tree_of (length ls) ls)) (tree_clauses most vars (tree_of (length ls) ls))
+pub sum_there : (most vars : ℕ) (ls : List Literal) → AreThere vars ls →
+    AllThere (vars + tree_count most (tree_of (length ls) ls)) (tree_clauses most vars (tree_of (length ls) ls))
 sum_there most vars ls there = tree_clauses_there most vars (tree_of (length ls) ls) (tree_there vars (length ls) ls there)
 
 -- a node whose two sides are set, and then its outputs
-pub node_put : (v left right w : Assignment) (most vars from last : ℕ) (a b : InputTree) → TreeIsThere vars (Node a b) → from ≡ vars + tree_count most a → last ≡ from + tree_count most b →
+pub node_put : (v left right w : Assignment) (most vars from last : ℕ) (a b : InputTree) → TreeIsThere vars (Node a b) → from ≡ vars + tree_count most a →
+    last ≡ from + tree_count most b →
     SameOutside (vars + 1) (tree_count most a) v left → SatisfiesAll left (tree_clauses most vars a) →
     SameOutside (from + 1) (tree_count most b) left right → SatisfiesAll right (tree_clauses most from b) →
     SameOutside (last + 1) (min (tree_size most a + tree_size most b) most) right w →
@@ -252,9 +287,12 @@ node_put v left right w most vars from last a b there is_from is_last same_left 
     let ys = tree_clauses most (vars + tree_count most a) b in
     let next : TreeIsThere (vars + tree_count most a) b = tree_there_more vars (vars + tree_count most a) b (omega arith) there.1 in
     let hb' : SatisfiesAll right ys = subst (λ n. SatisfiesAll right (tree_clauses most n b)) is_from hb in
-    let left_stays = satisfies_before (from + 1) (tree_count most b) (vars + tree_count most a) left right xs (omega arith) (tree_clauses_there most vars a there.0) same_right ha in
-    let xs_hold = satisfies_before (last + 1) count (vars + tree_count most a) right w xs (omega arith) (tree_clauses_there most vars a there.0) same_out left_stays in
-    let ys_hold = satisfies_before (last + 1) count (vars + tree_count most a + tree_count most b) right w ys (omega arith) (tree_clauses_there most (vars + tree_count most a) b next) same_out hb' in
+    let left_stays = satisfies_before (from + 1) (tree_count most b) (vars + tree_count most a) left right xs (omega arith)
+    (tree_clauses_there most vars a there.0) same_right ha in
+    let xs_hold = satisfies_before (last + 1) count (vars + tree_count most a) right w xs (omega arith) (tree_clauses_there most vars a there.0) same_out
+    left_stays in
+    let ys_hold = satisfies_before (last + 1) count (vars + tree_count most a + tree_count most b) right w ys (omega arith)
+    (tree_clauses_there most (vars + tree_count most a) b next) same_out hb' in
     let below : (x : ℕ) → x ≤ vars → w x ≡ right x = λ x le. same_out.below x (omega arith) in
     let ta = tree_true_same right w vars a there.0 below in
     let tb = tree_true_same right w vars b there.1 below in (

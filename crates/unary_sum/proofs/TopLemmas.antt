@@ -30,7 +30,8 @@ size_enough most (suc depth) (k ∷ l ∷ ls) h =
     let b = size_enough most depth (drop (length all / 2) all) deep.1 in
     omega arith
 
-pub top_between : (most vars depth k : ℕ) (ls : List Literal) → length ls ≤ 1 + depth → 1 ≤ k → k ≤ most → k ≤ length ls → IsLit (part_at_least (tree_top most vars (tree_of depth ls)) k)
+pub top_between : (most vars depth k : ℕ) (ls : List Literal) → length ls ≤ 1 + depth → 1 ≤ k → k ≤ most → k ≤ length ls →
+    IsLit (part_at_least (tree_top most vars (tree_of depth ls)) k)
 top_between most vars depth zero ls h some le within = absurd (omega arith)
 top_between most vars depth (suc j) [] h some le within = absurd (omega arith)
 top_between most vars depth (suc zero) (l ∷ []) h some le within = tt

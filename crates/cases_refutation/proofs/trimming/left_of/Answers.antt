@@ -21,10 +21,13 @@ refuted_there lines p (Query c) e h = absurd h
 refuted_there lines p (Refuted c) e h = (c, e)
 refuted_there lines p Model e h = absurd h
 
-one_wanted : (lines : Lines) (found : Option ℕ) (p : ℕ) → found ≡ Some p → FindsFirst (λ _ line. IsRefutedWithin [] line) lines found → AreRefutedLines lines (p ∷ [])
+one_wanted : (lines : Lines) (found : Option ℕ) (p : ℕ) → found ≡ Some p → FindsFirst (λ _ line. IsRefutedWithin [] line) lines found →
+    AreRefutedLines lines (p ∷ [])
 one_wanted lines found p is finds =
-    let first : IsFirst (λ _ line. IsRefutedWithin [] line) lines p = subst (λ (f : Option ℕ). FindsFirst (λ _ line. IsRefutedWithin [] line) lines f) is finds in
-    λ q among. All-contains (IsRefutedAt lines) (p ∷ []) q (All-cons (IsRefutedAt lines) p [] (refuted_there lines p first.x first.is first.holds) (All-nil (IsRefutedAt lines))) among
+    let first : IsFirst (λ _ line. IsRefutedWithin [] line) lines p = subst (λ (f : Option ℕ). FindsFirst (λ _ line. IsRefutedWithin [] line) lines f) is
+    finds in
+    λ q among. All-contains (IsRefutedAt lines) (p ∷ []) q (All-cons (IsRefutedAt lines) p [] (refuted_there lines p first.x first.is first.holds)
+    (All-nil (IsRefutedAt lines))) among
 
 pub trim-requires : goal.trim-requires
 trim-requires c = one_wanted c.args.lines.now c.first_refuted.result c.in-Some.place c.in-Some.is c.first_refuted.ensures

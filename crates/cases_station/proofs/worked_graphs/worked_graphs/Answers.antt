@@ -1,5 +1,6 @@
 use Rattle.std.proofs.Common.{refl}
-use Rattle.port_graph.specs.Examples.{one_topology, loop_topology, back_topology, cross_topology, two_topology, scissors_topology, station_topology, joint_topology, left_topology, bent_topology}
+use Rattle.port_graph.specs.Examples.{one_topology, loop_topology, back_topology, cross_topology, two_topology, scissors_topology, station_topology}
+use Rattle.port_graph.specs.Examples.{joint_topology, left_topology, bent_topology}
 use Rattle.port_graph.proofs.GraphTest.{graph_by_test}
 use Rattle.cases_station.proofs.worked_graphs.worked_graphs.Goals as goal
 

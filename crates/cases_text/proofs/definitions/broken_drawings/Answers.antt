@@ -1,4 +1,6 @@
-use Rattle.plan_core.proofs.Breaking.{too_wide_breaks, too_high_breaks, uneven_breaks, swapped_breaks, short_breaks, exchanged_breaks, crowded_breaks, loop_breaks, too_steep_breaks, bent_rising_path_breaks, bent_falling_path_breaks, bent_main_breaks, sloping_breaks, kinked_breaks, one_point_breaks, touching_breaks, begins_above_breaks, ends_below_breaks, touched_breaks, crossed_breaks}
+use Rattle.plan_core.proofs.Breaking.{too_wide_breaks, too_high_breaks, uneven_breaks, swapped_breaks, short_breaks, exchanged_breaks, crowded_breaks}
+use Rattle.plan_core.proofs.Breaking.{loop_breaks, too_steep_breaks, bent_rising_path_breaks, bent_falling_path_breaks, bent_main_breaks, sloping_breaks}
+use Rattle.plan_core.proofs.Breaking.{kinked_breaks, one_point_breaks, touching_breaks, begins_above_breaks, ends_below_breaks, touched_breaks, crossed_breaks}
 use Rattle.cases_text.proofs.definitions.broken_drawings.Goals as goal
 
 pub returns-clause-too_wide : goal.returns-clause-too_wide

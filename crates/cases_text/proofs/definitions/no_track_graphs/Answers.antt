@@ -1,4 +1,5 @@
-use Rattle.plan_core.proofs.NoGraphs.{backwards_graph_is_none, flat_graph_is_none, loose_graph_is_none, misplaced_graph_is_none, stray_graph_is_none, one_legged_graph_is_none, idle_graph_is_none}
+use Rattle.plan_core.proofs.NoGraphs.{backwards_graph_is_none, flat_graph_is_none, loose_graph_is_none, misplaced_graph_is_none, stray_graph_is_none}
+use Rattle.plan_core.proofs.NoGraphs.{one_legged_graph_is_none, idle_graph_is_none}
 use Rattle.cases_text.proofs.definitions.no_track_graphs.Goals as goal
 
 pub returns-clause-an_edge_backwards : goal.returns-clause-an_edge_backwards

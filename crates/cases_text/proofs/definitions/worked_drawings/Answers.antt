@@ -1,4 +1,5 @@
-use Rattle.plan_core.proofs.Worked.{one_is_worked, farthest_is_worked, loop_is_worked, roomy_is_worked, back_is_worked, cross_is_worked, two_is_worked, scissors_is_worked, station_is_worked}
+use Rattle.plan_core.proofs.Worked.{one_is_worked, farthest_is_worked, loop_is_worked, roomy_is_worked, back_is_worked, cross_is_worked, two_is_worked}
+use Rattle.plan_core.proofs.Worked.{scissors_is_worked, station_is_worked}
 use Rattle.cases_text.proofs.definitions.worked_drawings.Goals as goal
 
 pub returns-clause-one_track : goal.returns-clause-one_track

@@ -16,7 +16,8 @@ add_pairs-requires-clause-within c =
     let vars = c.args.f.now.vars in
     let a = end_slope c.args.a.now.west (lits_of c.args.a.now.edge.now) in
     let e : map pair_literals (flat_rules a) ≡ (c.negated.result ∷ False ∷ []) ∷ (c.negated-2.result ∷ False ∷ []) ∷ [] = search rules in
-    subst (λ (l : List (List LitOrTruth)). PairsWithin vars l) e (flat_within vars a (end_there vars (lits_of c.args.a.now.edge.now) c.args.a.now.west (edge_whole c.args.a.now.edge.now vars c.rises.ensures.placed c.requires.a_there)))
+    subst (λ (l : List (List LitOrTruth)). PairsWithin vars l) e (flat_within vars a
+    (end_there vars (lits_of c.args.a.now.edge.now) c.args.a.now.west (edge_whole c.args.a.now.edge.now vars c.rises.ensures.placed c.requires.a_there)))
 
 pub returns : goal.returns
 returns c =

@@ -16,12 +16,16 @@ add_pairs-requires-clause-within c =
     let vars = c.args.f.now.vars in
     let a = end_slope c.args.a.now.west (lits_of c.args.a.now.edge.now) in
     let b = end_slope c.args.b.now.west (lits_of c.args.b.now.edge.now) in
-    let e : map pair_literals (greater_rules a b) ≡ (c.negated.result ∷ False ∷ []) ∷ (c.negated-2.result ∷ False ∷ []) ∷ (c.rises-2.result ∷ c.falls-2.result ∷ []) ∷ [] = search rules in
-    subst (λ (l : List (List LitOrTruth)). PairsWithin vars l) e (greater_within vars a b (end_there vars (lits_of c.args.a.now.edge.now) c.args.a.now.west (edge_whole c.args.a.now.edge.now vars c.rises.ensures.placed c.requires.a_there)) (end_there vars (lits_of c.args.b.now.edge.now) c.args.b.now.west (edge_whole c.args.b.now.edge.now vars c.falls.ensures.placed c.requires.b_there)))
+    let e : map pair_literals (greater_rules a b) ≡ (c.negated.result ∷ False ∷ []) ∷ (c.negated-2.result ∷ False ∷ [])
+    ∷ (c.rises-2.result ∷ c.falls-2.result ∷ []) ∷ [] = search rules in
+    subst (λ (l : List (List LitOrTruth)). PairsWithin vars l) e (greater_within vars a b
+    (end_there vars (lits_of c.args.a.now.edge.now) c.args.a.now.west (edge_whole c.args.a.now.edge.now vars c.rises.ensures.placed c.requires.a_there))
+    (end_there vars (lits_of c.args.b.now.edge.now) c.args.b.now.west (edge_whole c.args.b.now.edge.now vars c.falls.ensures.placed c.requires.b_there)))
 
 pub returns : goal.returns
 returns c =
     let a = end_slope c.args.a.now.west (lits_of c.args.a.now.edge.now) in
     let b = end_slope c.args.b.now.west (lits_of c.args.b.now.edge.now) in
-    let e : map pair_literals (greater_rules a b) ≡ (c.negated.result ∷ False ∷ []) ∷ (c.negated-2.result ∷ False ∷ []) ∷ (c.rises-2.result ∷ c.falls-2.result ∷ []) ∷ [] = search rules in
+    let e : map pair_literals (greater_rules a b) ≡ (c.negated.result ∷ False ∷ []) ∷ (c.negated-2.result ∷ False ∷ [])
+    ∷ (c.rises-2.result ∷ c.falls-2.result ∷ []) ∷ [] = search rules in
     adds_pairs c.add_pairs.result _ _ c.args.unless.now _ _ _ e c.add_pairs.ensures

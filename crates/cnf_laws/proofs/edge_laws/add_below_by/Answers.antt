@@ -11,7 +11,8 @@ returns-in_err-add_over_where c =
     let a = c.args in
     let xs = cond a.below (Over a.h.0 a.e.0 ∷ []) [] in
     let ys = cond (a.above || (a.below || not a.overlap)) [] (Parted a.e.0 a.h.0 ∷ []) in
-    laws_refused c.add_over_where.result c.from_residual.result _ _ a.g.now (drawing_vars a.g.now a.grid.now) a.grid.now.width xs ys 7 c.from_residual.ensures.0 (λ k. search (rules, k)) c.add_over_where.ensures
+    laws_refused c.add_over_where.result c.from_residual.result _ _ a.g.now (drawing_vars a.g.now a.grid.now) a.grid.now.width xs ys 7 c.from_residual.ensures.0
+    (λ k. search (rules, k)) c.add_over_where.ensures
 
 pub returns : goal.returns
 returns c =
@@ -19,4 +20,5 @@ returns c =
     let xs = cond a.below (Over a.h.0 a.e.0 ∷ []) [] in
     let ys = cond (a.above || (a.below || not a.overlap)) [] (Parted a.e.0 a.h.0 ∷ []) in
     laws_after _ c.add_parted_where.result _ _ _ a.g.now (drawing_vars a.g.now a.grid.now) a.grid.now.width xs ys 7 c.in_ok-add_over_where.ensures
-    (subst (λ b. AddsLaws c.add_parted_where.result c.add_over_where.new.f c.add_parted_where.new.f a.g.now (drawing_vars a.g.now a.grid.now) a.grid.now.width (cond b [] (Parted a.e.0 a.h.0 ∷ [])) 7) c.is_settled.ensures c.add_parted_where.ensures)
+    (subst (λ b. AddsLaws c.add_parted_where.result c.add_over_where.new.f c.add_parted_where.new.f a.g.now (drawing_vars a.g.now a.grid.now) a.grid.now.width
+    (cond b [] (Parted a.e.0 a.h.0 ∷ [])) 7) c.is_settled.ensures c.add_parted_where.ensures)

@@ -13,7 +13,9 @@ returns-in-Crossing c =
     let k = c.in-Crossing in
     let g = c.args.g.now in
     let e : Crossing k.west_upper.0 k.west_lower.0 k.east_upper.0 k.east_lower.0 ≡ (node g c.args.n.0).ports = search rules in
-    subst (λ (p : Ports). AddsClauses c.add_crossing_at.result c.args.f.now c.add_crossing_at.new.f (unless_rules c.args.unless.now (ports_rules (slope_vars g (drawing_vars g c.args.grid.now) c.args.n.0) p)) (length c.args.unless.now + 2)) e c.add_crossing_at.ensures
+    subst (λ (p : Ports). AddsClauses c.add_crossing_at.result c.args.f.now c.add_crossing_at.new.f
+    (unless_rules c.args.unless.now (ports_rules (slope_vars g (drawing_vars g c.args.grid.now) c.args.n.0) p)) (length c.args.unless.now + 2)) e
+    c.add_crossing_at.ensures
 
 pub add_end-requires-clause-e : goal.add_end-requires-clause-e
 add_end-requires-clause-e c = (end_there c.args.g.now c.args.n.0 _ _ c.in-End.ensures.there)

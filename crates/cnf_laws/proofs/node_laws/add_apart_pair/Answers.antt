@@ -12,4 +12,5 @@ returns-clause-allows c =
     let grid = c.args.grid.now in
     let s = c.nodes.ensures.station in
     let size = c.width.ensures.is_grid in
-    apart_allows g grid c.args.u c.args.v (c.args.f.now.vars + 1) size (few_variables g grid size s.few_nodes s.few_edges) c.requires.there c.requires.u c.requires.v
+    apart_allows g grid c.args.u c.args.v (c.args.f.now.vars + 1) size (few_variables g grid size s.few_nodes s.few_edges) c.requires.there c.requires.u
+    c.requires.v

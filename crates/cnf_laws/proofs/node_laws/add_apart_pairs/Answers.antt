@@ -4,7 +4,8 @@ use Rattle.cnf_laws.proofs.node_laws.add_apart_pairs.Goals as goal
 
 pub returns-in_err-add_apart_row : goal.returns-in_err-add_apart_row
 returns-in_err-add_apart_row c =
-    lawing_refused c.add_apart_row.result c.from_residual.result _ _ _ _ _ _ _ _ _ _ _ c.from_residual.ensures.0 (λ k. search (rules, k)) c.loop-u-test.true c.loop-u.invariant c.add_apart_row.ensures
+    lawing_refused c.add_apart_row.result c.from_residual.result _ _ _ _ _ _ _ _ _ _ _ c.from_residual.ensures.0 (λ k. search (rules, k)) c.loop-u-test.true
+    c.loop-u.invariant c.add_apart_row.ensures
 
 pub loop-u-preserved : goal.loop-u-preserved
 loop-u-preserved c = lawing_more _ _ _ _ _ _ _ _ _ _ _ _ c.loop-u-test.true c.loop-u.invariant c.in_ok-add_apart_row.ensures

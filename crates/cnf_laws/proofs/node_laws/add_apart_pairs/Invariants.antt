@@ -5,4 +5,5 @@ use Rattle.cnf_laws.proofs.LawCode.{IsLawing}
 use Rattle.cnf_laws.proofs.node_laws.add_apart_pairs.Given as goal
 
 abbrev pub invariant-loop-u : goal.invariant-loop-u
-invariant-loop-u l = IsLawing l.g (drawing_vars l.g l.grid) l.grid.width (pairs_from (length l.g.nodes) (λ u v. Apart u v ∷ [])) l.fn.f l.f (instance_pairs (length l.g.nodes) (λ u v. Apart u v ∷ [])) l.u l.end
+invariant-loop-u l = IsLawing l.g (drawing_vars l.g l.grid) l.grid.width (pairs_from (length l.g.nodes) (λ u v. Apart u v ∷ [])) l.fn.f l.f
+    (instance_pairs (length l.g.nodes) (λ u v. Apart u v ∷ [])) l.u l.end

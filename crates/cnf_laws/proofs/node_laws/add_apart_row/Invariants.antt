@@ -5,4 +5,5 @@ use Rattle.cnf_laws.proofs.LawCode.{IsLawing}
 use Rattle.cnf_laws.proofs.node_laws.add_apart_row.Given as goal
 
 abbrev pub invariant-loop-v : goal.invariant-loop-v
-invariant-loop-v l = IsLawing l.g (drawing_vars l.g l.grid) l.grid.width (λ v. Apart l.u v ∷ []) l.fn.f l.f (pairs_from (length l.g.nodes) (λ u v. Apart u v ∷ []) l.u) l.v l.end
+invariant-loop-v l = IsLawing l.g (drawing_vars l.g l.grid) l.grid.width (λ v. Apart l.u v ∷ []) l.fn.f l.f
+    (pairs_from (length l.g.nodes) (λ u v. Apart u v ∷ []) l.u) l.v l.end

@@ -4,7 +4,8 @@ use Rattle.cnf_laws.proofs.node_laws.add_ordered_row.Goals as goal
 
 pub returns-in_err-add_ordered_pair : goal.returns-in_err-add_ordered_pair
 returns-in_err-add_ordered_pair c =
-    lawing_refused c.add_ordered_pair.result c.from_residual.result _ _ _ _ _ _ _ _ _ _ _ c.from_residual.ensures.0 (λ k. search (rules, k)) c.loop-v-test.true c.loop-v.invariant c.add_ordered_pair.ensures
+    lawing_refused c.add_ordered_pair.result c.from_residual.result _ _ _ _ _ _ _ _ _ _ _ c.from_residual.ensures.0 (λ k. search (rules, k)) c.loop-v-test.true
+    c.loop-v.invariant c.add_ordered_pair.ensures
 
 pub loop-v-preserved : goal.loop-v-preserved
 loop-v-preserved c = lawing_more _ _ _ _ _ _ _ _ _ _ _ _ c.loop-v-test.true c.loop-v.invariant c.in_ok-add_ordered_pair.ensures

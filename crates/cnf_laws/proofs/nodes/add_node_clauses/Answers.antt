@@ -10,7 +10,8 @@ add_node-requires-clause-there c =
 
 pub returns-in_err-add_node : goal.returns-in_err-add_node
 returns-in_err-add_node c =
-    adding_refused c.add_node.result c.from_residual.result _ _ _ _ _ _ _ _ c.from_residual.ensures.0 (λ k. search (rules, k)) c.loop-n-test.true c.loop-n.invariant c.add_node.ensures
+    adding_refused c.add_node.result c.from_residual.result _ _ _ _ _ _ _ _ c.from_residual.ensures.0 (λ k. search (rules, k)) c.loop-n-test.true
+    c.loop-n.invariant c.add_node.ensures
 
 pub loop-n-preserved : goal.loop-n-preserved
 loop-n-preserved c = adding_more _ _ _ _ _ _ _ _ _ c.loop-n-test.true c.loop-n.invariant c.in_ok-add_node.ensures

@@ -14,8 +14,11 @@ returns-in_err-add_nodes c =
     let g = c.args.g.now in
     let n = length g.nodes in
     let m = length g.edges in
-    block_refused c.add_nodes.result c.from_residual.result c.args.f.now c.add_nodes.new.f (n * (d.height + d.width)) (m * edge_size d.height d.width) (each (λ k. node_clauses (ints_at_place d (west_rank g k))) 0 n) (each (edge_part g (drawing_vars g d) d) 0 m) 7 c.from_residual.ensures.0 (λ k. search (rules, k))
-    (subst (λ j. AddsBlock c.add_nodes.result c.args.f.now c.add_nodes.new.f (j * (d.height + d.width)) (each (λ k. node_clauses (ints_at_place d (west_rank g k))) 0 j) 7) c.nodes-count.ensures.value c.add_nodes.ensures)
+    block_refused c.add_nodes.result c.from_residual.result c.args.f.now c.add_nodes.new.f (n * (d.height + d.width)) (m * edge_size d.height d.width)
+    (each (λ k. node_clauses (ints_at_place d (west_rank g k))) 0 n) (each (edge_part g (drawing_vars g d) d) 0 m) 7 c.from_residual.ensures.0
+    (λ k. search (rules, k))
+    (subst (λ j. AddsBlock c.add_nodes.result c.args.f.now c.add_nodes.new.f (j * (d.height + d.width))
+    (each (λ k. node_clauses (ints_at_place d (west_rank g k))) 0 j) 7) c.nodes-count.ensures.value c.add_nodes.ensures)
 
 pub returns : goal.returns
 returns c =
@@ -23,6 +26,7 @@ returns c =
     let g = c.args.g.now in
     let n = length g.nodes in
     let m = length g.edges in
-    block_after _ c.add_edges.result c.args.f.now c.add_nodes.new.f c.add_edges.new.f (n * (d.height + d.width)) (m * edge_size d.height d.width) (each (λ k. node_clauses (ints_at_place d (west_rank g k))) 0 n) (each (edge_part g (drawing_vars g d) d) 0 m) 7
+    block_after _ c.add_edges.result c.args.f.now c.add_nodes.new.f c.add_edges.new.f (n * (d.height + d.width)) (m * edge_size d.height d.width)
+    (each (λ k. node_clauses (ints_at_place d (west_rank g k))) 0 n) (each (edge_part g (drawing_vars g d) d) 0 m) 7
     (adds_count _ _ _ (λ k. node_clauses (ints_at_place d (west_rank g k))) (d.height + d.width) _ _ 7 c.nodes-count.ensures.value c.in_ok-add_nodes.ensures)
     c.add_edges.ensures

@@ -6,4 +6,5 @@ pub returns-clause-says : goal.returns-clause-says
 returns-clause-says c = aligned_says c.args.g.now c.args.grid.now c.args.n.0 c.args.unless.now c.nodes.ensures.station.track_graph c.requires.n
 
 pub returns-clause-allows : goal.returns-clause-allows
-returns-clause-allows c = aligned_allows c.args.g.now c.args.grid.now c.args.n.0 c.args.unless.now (c.args.f.now.vars + 1) c.nodes.ensures.station.track_graph c.requires.n
+returns-clause-allows c = aligned_allows c.args.g.now c.args.grid.now c.args.n.0 c.args.unless.now (c.args.f.now.vars + 1) c.nodes.ensures.station.track_graph
+    c.requires.n

@@ -14,9 +14,11 @@ loop-u-preserved c =
     omega (arith, next, c.loop-u.invariant, c.one_before-count.ensures.value)
 
 pub returns-clause-value : goal.returns-clause-value
-returns-clause-value c = rank_of_count c.args.g.now c.args.n c.loop-u.u c.loop-u.count c.nodes-end.result c.loop-u-test.false c.loop-u.auto.u-end c.nodes-end.ensures.value c.loop-u.invariant
+returns-clause-value c = rank_of_count c.args.g.now c.args.n c.loop-u.u c.loop-u.count c.nodes-end.result c.loop-u-test.false c.loop-u.auto.u-end
+    c.nodes-end.ensures.value c.loop-u.invariant
 
 pub returns-clause-within : goal.returns-clause-within
 returns-clause-within c =
-    let e = rank_of_count c.args.g.now c.args.n c.loop-u.u c.loop-u.count c.nodes-end.result c.loop-u-test.false c.loop-u.auto.u-end c.nodes-end.ensures.value c.loop-u.invariant in
+    let e = rank_of_count c.args.g.now c.args.n c.loop-u.u c.loop-u.count c.nodes-end.result c.loop-u-test.false c.loop-u.auto.u-end c.nodes-end.ensures.value
+    c.loop-u.invariant in
     omega (arith, e, rank_below c.args.g.now c.args.n c.requires)

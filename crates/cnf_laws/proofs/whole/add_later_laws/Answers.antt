@@ -12,7 +12,8 @@ returns-in_err-add_aligned_nodes c =
     let last = instance_pairs (length g.edges) (edge_pair (is_above c.args.t.now) (is_overlap c.args.t.now)) in
     let xs = instances_from (λ n. Aligned n ∷ []) 0 (length g.nodes) in
     let ys = instance_pairs (length g.nodes) (λ u v. Apart u v ∷ []) ++ last in
-    laws_refused c.add_aligned_nodes.result c.from_residual.result _ _ g (drawing_vars g d) d.width xs ys 7 c.from_residual.ensures.0 (λ k. search (rules, k)) c.add_aligned_nodes.ensures
+    laws_refused c.add_aligned_nodes.result c.from_residual.result _ _ g (drawing_vars g d) d.width xs ys 7 c.from_residual.ensures.0 (λ k. search (rules, k))
+    c.add_aligned_nodes.ensures
 
 pub returns : goal.returns
 returns c =

@@ -20,7 +20,8 @@ returns-clause-vars c = c.add_kept-outcome.ensures.adds.made
 pub returns-clause-there : goal.returns-clause-there
 returns-clause-there c =
     let e = c.args.e.now in
-    there_after c.add_kept-outcome.result e.graph (encoded_vars e) e.grid e.formula.vars c.add_kept-outcome.new.e.formula.vars c.args.cap c.args.c c.add_kept-outcome.ensures.adds.made
+    there_after c.add_kept-outcome.result e.graph (encoded_vars e) e.grid e.formula.vars c.add_kept-outcome.new.e.formula.vars c.args.cap c.args.c
+    c.add_kept-outcome.ensures.adds.made
 
 pub returns-clause-kept : goal.returns-clause-kept
 returns-clause-kept c = c.add_kept-outcome.ensures.adds.room
@@ -63,24 +64,29 @@ returns-clause-forced c = λ k from to past.
 pub returns-clause-whole : goal.returns-clause-whole
 returns-clause-whole c =
     let k = c.add_kept-outcome.ensures in
-    whole_after c.add_kept-outcome.result c.args.e.now c.add_kept-outcome.new.e c.args.c c.args.cap k.graph k.order k.grid k.bounds k.adds.made k.adds.added c.requires.whole
+    whole_after c.add_kept-outcome.result c.args.e.now c.add_kept-outcome.new.e c.args.c c.args.cap k.graph k.order k.grid k.bounds k.adds.made k.adds.added
+    c.requires.whole
 
 pub returns-clause-sound : goal.returns-clause-sound
 returns-clause-sound c =
     let k = c.add_kept-outcome.ensures in
     let e = c.args.e.now in
-    sound_after c.add_kept-outcome.result c.e.inside.graph.now c.e.inside.grid.now c.add_kept-outcome.new.e c.nodes.ensures.station.track_graph c.width.ensures.is_grid
+    sound_after c.add_kept-outcome.result c.e.inside.graph.now c.e.inside.grid.now c.add_kept-outcome.new.e c.nodes.ensures.station.track_graph
+    c.width.ensures.is_grid
     (k.graph ∙ sym (ap (λ (z : Encoding). z.graph) c.e.view_is)) (k.grid ∙ sym (ap (λ (z : Encoding). z.grid) c.e.view_is))
-    (whole_after c.add_kept-outcome.result e c.add_kept-outcome.new.e c.args.c c.args.cap k.graph k.order k.grid k.bounds k.adds.made k.adds.added c.requires.whole)
+    (whole_after c.add_kept-outcome.result e c.add_kept-outcome.new.e c.args.c c.args.cap k.graph k.order k.grid k.bounds k.adds.made k.adds.added
+    c.requires.whole)
 
 pub returns-clause-covers : goal.returns-clause-covers
 returns-clause-covers c =
     let k = c.add_kept-outcome.ensures in
     let e = c.args.e.now in
     let s = c.nodes.ensures.station in
-    covers_after c.add_kept-outcome.result c.e.inside.graph.now c.e.inside.grid.now c.add_kept-outcome.new.e s.track_graph s.few_nodes s.few_edges c.width.ensures.is_grid
+    covers_after c.add_kept-outcome.result c.e.inside.graph.now c.e.inside.grid.now c.add_kept-outcome.new.e s.track_graph s.few_nodes s.few_edges
+    c.width.ensures.is_grid
     (k.graph ∙ sym (ap (λ (z : Encoding). z.graph) c.e.view_is)) (k.grid ∙ sym (ap (λ (z : Encoding). z.grid) c.e.view_is))
-    (whole_after c.add_kept-outcome.result e c.add_kept-outcome.new.e c.args.c c.args.cap k.graph k.order k.grid k.bounds k.adds.made k.adds.added c.requires.whole)
+    (whole_after c.add_kept-outcome.result e c.add_kept-outcome.new.e c.args.c c.args.cap k.graph k.order k.grid k.bounds k.adds.made k.adds.added
+    c.requires.whole)
 
 pub returns-clause-graph : goal.returns-clause-graph
 returns-clause-graph c = c.add_kept-outcome.ensures.graph

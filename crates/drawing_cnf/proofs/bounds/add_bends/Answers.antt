@@ -13,4 +13,5 @@ returns-clause-adds c =
     let new = c.add_bends_bound.new.f in
     let is : c.deref.result.now ≡ west_first a.g.now = c.deref.ensures.value ∙ c.in_ok-edges.ensures in
     block_longer _ a.f.now new _ _ 3 (longest_of_bound a.g.now a.grid.now) (omega arith)
-    (block_same _ _ a.f.now new _ _ 3 _ refl (subst (λ (es : List ℕ). AddsBlock (Ok c.in_ok-sum.sum) a.f.now new (bends_bound_size x es a.f.now.vars a.cap) (bends_bound x es a.f.now.vars a.cap) 3) is c.in_ok-sum.ensures.adds))
+    (block_same _ _ a.f.now new _ _ 3 _ refl (subst (λ (es : List ℕ). AddsBlock (Ok c.in_ok-sum.sum) a.f.now new (bends_bound_size x es a.f.now.vars a.cap)
+    (bends_bound x es a.f.now.vars a.cap) 3) is c.in_ok-sum.ensures.adds))

@@ -10,4 +10,5 @@ loop-k-preserved c =
     let count = c.args.count in
     let k = c.loop-k.k in
     let e : c.push.new.self.items ≡ c.loop-k.lits.items ++ positive_of (first + k) ∷ [] = search rules in
-    ap (λ (ls : List Literal). ls ++ block (first + (k + 1)) (count - (k + 1))) e ∙ sym (block_next first count k c.loop-k.lits.items c.loop-k-test.true) ∙ c.loop-k.invariant
+    ap (λ (ls : List Literal). ls ++ block (first + (k + 1)) (count - (k + 1))) e ∙ sym (block_next first count k c.loop-k.lits.items c.loop-k-test.true)
+    ∙ c.loop-k.invariant

@@ -34,7 +34,8 @@ returns-in_err-sum-clause-adds c =
     let inputs = step_lits e 0 a.width in
     let s = sum_vars inputs a.most a.f.now.vars in
     let is : c.deref.result.now ≡ inputs = c.deref.ensures.value ∙ c.in_ok-inputs.ensures in
-    clauses_refused c.build.result c.from_residual-in_err-sum.result a.f.now c.build.new.f (sum_count s) (sum_clauses s) (steps_beside e s) 3 c.from_residual-in_err-sum.ensures.0 (λ k. search (rules, k))
+    clauses_refused c.build.result c.from_residual-in_err-sum.result a.f.now c.build.new.f (sum_count s) (sum_clauses s) (steps_beside e s) 3
+    c.from_residual-in_err-sum.ensures.0 (λ k. search (rules, k))
     (built_adds c.build.result a.f.now c.build.new.f c.deref.result.now inputs a.most is c.build.ensures.adds)
 
 pub returns-in_err-add_steps_beside-clause-adds : goal.returns-in_err-add_steps_beside-clause-adds
@@ -46,9 +47,12 @@ returns-in_err-add_steps_beside-clause-adds c =
     let is : c.deref.result.now ≡ inputs = c.deref.ensures.value ∙ c.in_ok-inputs.ensures in
     let sum : c.in_ok-sum.sum ≡ s = c.in_ok-sum.ensures.sum ∙ ap (λ (ls : List Literal). sum_vars ls a.most a.f.now.vars) is in
     let built = built_adds _ a.f.now c.build.new.f c.deref.result.now inputs a.most is c.in_ok-sum.ensures.adds in
-    let beside = subst (λ (t : SumVars). AddsClauses c.add_steps_beside.result c.build.new.f c.add_steps_beside.new.f (steps_beside e t) 3) sum c.add_steps_beside.ensures in
-    let all = clauses_after _ c.add_steps_beside.result a.f.now c.build.new.f c.add_steps_beside.new.f (sum_count s) (sum_clauses s) (steps_beside e s) 3 built beside in
-    block_fault c.add_steps_beside.result c.from_residual-in_err-add_steps_beside.result a.f.now c.add_steps_beside.new.f (sum_count s) (edge_steps e s) 3 c.from_residual-in_err-add_steps_beside.ensures.0 (λ k. search (rules, k)) all
+    let beside = subst (λ (t : SumVars). AddsClauses c.add_steps_beside.result c.build.new.f c.add_steps_beside.new.f (steps_beside e t) 3) sum
+    c.add_steps_beside.ensures in
+    let all = clauses_after _ c.add_steps_beside.result a.f.now c.build.new.f c.add_steps_beside.new.f (sum_count s) (sum_clauses s) (steps_beside e s) 3 built
+    beside in
+    block_fault c.add_steps_beside.result c.from_residual-in_err-add_steps_beside.result a.f.now c.add_steps_beside.new.f (sum_count s) (edge_steps e s) 3
+    c.from_residual-in_err-add_steps_beside.ensures.0 (λ k. search (rules, k)) all
 
 pub returns-clause-adds : goal.returns-clause-adds
 returns-clause-adds c =
@@ -59,8 +63,10 @@ returns-clause-adds c =
     let is : c.deref.result.now ≡ inputs = c.deref.ensures.value ∙ c.in_ok-inputs.ensures in
     let sum : c.in_ok-sum.sum ≡ s = c.in_ok-sum.ensures.sum ∙ ap (λ (ls : List Literal). sum_vars ls a.most a.f.now.vars) is in
     let built = built_adds _ a.f.now c.build.new.f c.deref.result.now inputs a.most is c.in_ok-sum.ensures.adds in
-    let beside = subst (λ (t : SumVars). AddsClauses c.add_steps_beside.result c.build.new.f c.add_steps_beside.new.f (steps_beside e t) 3) sum c.add_steps_beside.ensures in
-    let all = clauses_after _ c.add_steps_beside.result a.f.now c.build.new.f c.add_steps_beside.new.f (sum_count s) (sum_clauses s) (steps_beside e s) 3 built beside in
+    let beside = subst (λ (t : SumVars). AddsClauses c.add_steps_beside.result c.build.new.f c.add_steps_beside.new.f (steps_beside e t) 3) sum
+    c.add_steps_beside.ensures in
+    let all = clauses_after _ c.add_steps_beside.result a.f.now c.build.new.f c.add_steps_beside.new.f (sum_count s) (sum_clauses s) (steps_beside e s) 3 built
+    beside in
     block_same c.add_steps_beside.result _ a.f.now c.add_steps_beside.new.f (sum_count s) (edge_steps e s) 3 c.in_ok-add_steps_beside.field-0 (search rules) all
 
 pub returns-clause-sum : goal.returns-clause-sum
@@ -76,10 +82,12 @@ pub add_steps_beside-requires-clause-inputs : goal.add_steps_beside-requires-cla
 add_steps_beside-requires-clause-inputs c =
     let a = c.args in
     let is : c.deref.result.now ≡ step_lits (lits_of a.e.now) 0 a.width = c.deref.ensures.value ∙ c.in_ok-inputs.ensures in
-    subst (λ (s : SumVars). AreThere s.vars s.inputs) (sym c.in_ok-sum.ensures.sum) (steps_inputs a.e.now a.width a.f.now.vars c.deref.result.now c.requires.placed c.requires.edge c.requires.width is).there
+    subst (λ (s : SumVars). AreThere s.vars s.inputs) (sym c.in_ok-sum.ensures.sum)
+    (steps_inputs a.e.now a.width a.f.now.vars c.deref.result.now c.requires.placed c.requires.edge c.requires.width is).there
 
 pub add_steps_beside-requires-clause-most : goal.add_steps_beside-requires-clause-most
 add_steps_beside-requires-clause-most c = sym (ap (λ (s : SumVars). s.most) c.in_ok-sum.ensures.sum)
 
 pub add_steps_beside-requires-clause-there : goal.add_steps_beside-requires-clause-there
-add_steps_beside-requires-clause-there c = subst (λ (s : SumVars). s.vars + sum_count s ≡ c.build.new.f.vars) (sym c.in_ok-sum.ensures.sum) (sym c.in_ok-sum.ensures.adds.made)
+add_steps_beside-requires-clause-there c = subst (λ (s : SumVars). s.vars + sum_count s ≡ c.build.new.f.vars) (sym c.in_ok-sum.ensures.sum)
+    (sym c.in_ok-sum.ensures.adds.made)

@@ -13,11 +13,13 @@ returns-clause-sum c =
     let d = a.grid.now in
     let spot = edge_spot (edge_first a.g.now d a.e) d.height d.width in
     subst (λ n. IfOk c.add_edge_sum.result (λ (s : SumVars). s ≡ steps_sum (lits_of spot) n a.most a.f.now.vars)) c.width.ensures.value
-    (subst (λ (z : EdgeSpot). IfOk c.add_edge_sum.result (λ (s : SumVars). s ≡ steps_sum (lits_of z) c.width.result a.most a.f.now.vars)) c.edge_vars-vars.ensures.edge c.add_edge_sum.ensures.sum)
+    (subst (λ (z : EdgeSpot). IfOk c.add_edge_sum.result (λ (s : SumVars). s ≡ steps_sum (lits_of z) c.width.result a.most a.f.now.vars))
+    c.edge_vars-vars.ensures.edge c.add_edge_sum.ensures.sum)
 
 pub returns-clause-adds : goal.returns-clause-adds
 returns-clause-adds c =
     let a = c.args in
     let d = a.grid.now in
     let spot = edge_spot (edge_first a.g.now d a.e) d.height d.width in
-    edge_adds c.add_edge_sum.result a.f.now c.add_edge_sum.new.f c.edge_vars-vars.result spot c.width.result d.width a.most c.edge_vars-vars.ensures.edge c.width.ensures.value c.add_edge_sum.ensures.adds
+    edge_adds c.add_edge_sum.result a.f.now c.add_edge_sum.new.f c.edge_vars-vars.result spot c.width.result d.width a.most c.edge_vars-vars.ensures.edge
+    c.width.ensures.value c.add_edge_sum.ensures.adds

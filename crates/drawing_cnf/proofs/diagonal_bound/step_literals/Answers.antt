@@ -20,7 +20,8 @@ loop-c-preserved c =
     let there : nat_lt k e.width ≡ true = grind (arith, nat_tests) in
     let front = c.loop-c.lits.items in
     let up : c.literal_of.result ≡ positive_of (x.up k) = c.literal_of.ensures (x.up k) (c.up.ensures.value ∙ ap (λ b. cond b (yes (x.up k)) False) there) in
-    let down : c.literal_of-in-loop-c.result ≡ positive_of (x.down k) = c.literal_of-in-loop-c.ensures (x.down k) (c.down.ensures.value ∙ ap (λ b. cond b (yes (x.down k)) False) there) in
+    let down : c.literal_of-in-loop-c.result ≡ positive_of (x.down k) = c.literal_of-in-loop-c.ensures (x.down k)
+    (c.down.ensures.value ∙ ap (λ b. cond b (yes (x.down k)) False) there) in
     let one : c.push.new.self.items ≡ front ++ c.literal_of.result ∷ [] = c.in_ok-push.ensures.items in
     let two : c.push-in-loop-c.new.self.items ≡ c.push.new.self.items ++ c.literal_of-in-loop-c.result ∷ [] = c.in_ok-push-2.ensures.items in
     steps_next x k c.args.width front c.push.new.self.items c.push-in-loop-c.new.self.items (step_lits x 0 c.args.width) c.loop-c-test.true
@@ -45,4 +46,5 @@ literal_of-requires-in-loop-c c =
     subst IsLit (sym (c.down.ensures.value ∙ ap (λ b. cond b (yes ((lits_of e).down k)) False) there)) tt
 
 pub returns : goal.returns
-returns c = steps_done (lits_of c.args.e.now) c.loop-c.c c.args.width c.loop-c.lits.items (step_lits (lits_of c.args.e.now) 0 c.args.width) c.loop-c-test.false c.loop-c.invariant
+returns c = steps_done (lits_of c.args.e.now) c.loop-c.c c.args.width c.loop-c.lits.items (step_lits (lits_of c.args.e.now) 0 c.args.width) c.loop-c-test.false
+    c.loop-c.invariant

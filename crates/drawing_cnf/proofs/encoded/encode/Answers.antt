@@ -16,14 +16,16 @@ returns-clause-covers c =
     let g = c.args.g.now in
     let t = c.args.t.now in
     let s = c.nodes.ensures.station in
-    formula_covers g (is_above t) (is_overlap t) c.args.grid.now s.track_graph c.width.ensures.is_grid (few_variables g c.args.grid.now c.width.ensures.is_grid s.few_nodes s.few_edges) (order_tables g t c.requires.order)
+    formula_covers g (is_above t) (is_overlap t) c.args.grid.now s.track_graph c.width.ensures.is_grid
+    (few_variables g c.args.grid.now c.width.ensures.is_grid s.few_nodes s.few_edges) (order_tables g t c.requires.order)
 
 pub returns-clause-words_bounded : goal.returns-clause-words_bounded
 returns-clause-words_bounded c =
     let g = c.args.g.now in
     let t = c.args.t.now in
     let s = c.nodes.ensures.station in
-    formula_words g (is_above t) (is_overlap t) c.args.grid.now s.track_graph c.width.ensures.is_grid (few_variables g c.args.grid.now c.width.ensures.is_grid s.few_nodes s.few_edges)
+    formula_words g (is_above t) (is_overlap t) c.args.grid.now s.track_graph c.width.ensures.is_grid
+    (few_variables g c.args.grid.now c.width.ensures.is_grid s.few_nodes s.few_edges)
 
 pub returns-clause-vars_bounded : goal.returns-clause-vars_bounded
 returns-clause-vars_bounded c = formula_variables c.args.g.now (is_above c.args.t.now) (is_overlap c.args.t.now) c.args.grid.now

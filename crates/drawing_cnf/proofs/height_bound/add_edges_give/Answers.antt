@@ -4,7 +4,8 @@ use Rattle.drawing_cnf.proofs.height_bound.add_edges_give.Goals as goal
 
 pub returns-in_err-add_edge_gives : goal.returns-in_err-add_edge_gives
 returns-in_err-add_edge_gives c =
-    adding_refused c.add_edge_gives.result c.from_residual.result _ _ _ _ _ _ _ _ c.from_residual.ensures.0 (λ k. search (rules, k)) c.loop-e-test.true c.loop-e.invariant c.add_edge_gives.ensures
+    adding_refused c.add_edge_gives.result c.from_residual.result _ _ _ _ _ _ _ _ c.from_residual.ensures.0 (λ k. search (rules, k)) c.loop-e-test.true
+    c.loop-e.invariant c.add_edge_gives.ensures
 
 pub loop-e-preserved : goal.loop-e-preserved
 loop-e-preserved c = adding_more _ _ _ _ _ _ _ _ _ c.loop-e-test.true c.loop-e.invariant c.in_ok-add_edge_gives.ensures

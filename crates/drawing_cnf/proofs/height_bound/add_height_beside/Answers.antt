@@ -23,7 +23,8 @@ returns-in_err-add_beside c =
     let east = (x.node (edge a.g.now a.e).east).y in
     let eu = c.west_up.ensures.value ∙ ap (λ (s : EdgeSpot). yes (lits_of s).west_up) c.edge_vars-vars.ensures.edge in
     let ew = c.node_vars-west.ensures.y ∙ ap (λ n. (ints_at_place a.grid.now (west_rank a.g.now n)).y) c.west.ensures.value in
-    adds_refused c.add_beside.result c.from_residual.result _ _ (beside_clause up west b k) (beside_clause down east b k) 3 c.from_residual.ensures.0 (λ k. search (rules, k)) (beside_adds c.add_beside.result _ _ c.west_up.result up c.node_vars-west.result.y west b k eu ew c.add_beside.ensures)
+    adds_refused c.add_beside.result c.from_residual.result _ _ (beside_clause up west b k) (beside_clause down east b k) 3 c.from_residual.ensures.0
+    (λ k. search (rules, k)) (beside_adds c.add_beside.result _ _ c.west_up.result up c.node_vars-west.result.y west b k eu ew c.add_beside.ensures)
 
 pub returns : goal.returns
 returns c =
@@ -39,7 +40,9 @@ returns c =
     let ew = c.node_vars-west.ensures.y ∙ ap (λ n. (ints_at_place a.grid.now (west_rank a.g.now n)).y) c.west.ensures.value in
     let ed = c.east_down.ensures.value ∙ ap (λ (s : EdgeSpot). yes (lits_of s).east_down) c.edge_vars-vars.ensures.edge in
     let ee = c.node_vars-east.ensures.y ∙ ap (λ n. (ints_at_place a.grid.now (west_rank a.g.now n)).y) c.east.ensures.value in
-    adds_after _ c.add_beside-2.result _ _ _ (beside_clause up west b k) (beside_clause down east b k) 3 (beside_adds _ _ _ c.west_up.result up c.node_vars-west.result.y west b k eu ew c.in_ok-add_beside.ensures) (beside_adds c.add_beside-2.result _ _ c.east_down.result down c.node_vars-east.result.y east b k ed ee c.add_beside-2.ensures)
+    adds_after _ c.add_beside-2.result _ _ _ (beside_clause up west b k) (beside_clause down east b k) 3
+    (beside_adds _ _ _ c.west_up.result up c.node_vars-west.result.y west b k eu ew c.in_ok-add_beside.ensures)
+    (beside_adds c.add_beside-2.result _ _ c.east_down.result down c.node_vars-east.result.y east b k ed ee c.add_beside-2.ensures)
 
 pub add_beside-requires-clause-there : goal.add_beside-requires-clause-there
 add_beside-requires-clause-there c =
@@ -51,7 +54,8 @@ pub add_beside-requires-2-clause-there : goal.add_beside-requires-2-clause-there
 add_beside-requires-2-clause-there c =
     let vars = c.args.f.now.vars in
     let within : edges_first c.args.g.now c.args.grid.now ≤ vars + 1 = omega (arith, c.requires.there, c.edge_vars-vars.ensures.within) in
-    subst (λ n. IntIsThere n c.node_vars-east.result.y) (sym c.in_ok-add_beside.ensures.vars) (subst (λ (i : IntVars). IntIsThere vars i) (sym c.node_vars-east.ensures.y) (c.node_vars-east.ensures.there vars within).y)
+    subst (λ n. IntIsThere n c.node_vars-east.result.y) (sym c.in_ok-add_beside.ensures.vars)
+    (subst (λ (i : IntVars). IntIsThere vars i) (sym c.node_vars-east.ensures.y) (c.node_vars-east.ensures.there vars within).y)
 
 pub add_beside-requires-2-clause-limit : goal.add_beside-requires-2-clause-limit
 add_beside-requires-2-clause-limit c = subst (λ n. n ≤ VARS) (sym c.in_ok-add_beside.ensures.vars) c.requires.limit

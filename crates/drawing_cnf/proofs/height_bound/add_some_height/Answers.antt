@@ -16,7 +16,8 @@ add-requires-clause-distinct c =
     let k = c.args.k in
     let all = height_lits (drawing_vars g d) d.width k 0 (length g.edges) in
     let grown : c.push.new.self.items ≡ c.in_ok-lits.lits.items ++ c.new.result ∷ [] = c.in_ok-push.ensures.items in
-    let is : c.deref.result.now ≡ all ++ negative_of b ∷ [] = c.deref.ensures.value ∙ grown ∙ ap (λ (ls : List Literal). ls ++ c.new.result ∷ []) c.in_ok-lits.ensures ∙ ap (λ (l : Literal). all ++ l ∷ []) c.new.ensures in
+    let is : c.deref.result.now ≡ all ++ negative_of b ∷ [] = c.deref.ensures.value ∙ grown
+    ∙ ap (λ (ls : List Literal). ls ++ c.new.result ∷ []) c.in_ok-lits.ensures ∙ ap (λ (l : Literal). all ++ l ∷ []) c.new.ensures in
     subst (λ (ls : List Literal). AreDistinct ls) (sym is) (long_distinct g d b k c.requires.some c.requires.few c.requires.there)
 
 pub add-requires-clause-there : goal.add-requires-clause-there
@@ -27,8 +28,10 @@ add-requires-clause-there c =
     let k = c.args.k in
     let all = height_lits (drawing_vars g d) d.width k 0 (length g.edges) in
     let grown : c.push.new.self.items ≡ c.in_ok-lits.lits.items ++ c.new.result ∷ [] = c.in_ok-push.ensures.items in
-    let is : c.deref.result.now ≡ all ++ negative_of b ∷ [] = c.deref.ensures.value ∙ grown ∙ ap (λ (ls : List Literal). ls ++ c.new.result ∷ []) c.in_ok-lits.ensures ∙ ap (λ (l : Literal). all ++ l ∷ []) c.new.ensures in
-    subst (λ (ls : List Literal). AreThere c.args.f.now.vars ls) (sym is) (long_there g d b k c.args.f.now.vars c.requires.some c.requires.few c.requires.there c.requires.to)
+    let is : c.deref.result.now ≡ all ++ negative_of b ∷ [] = c.deref.ensures.value ∙ grown
+    ∙ ap (λ (ls : List Literal). ls ++ c.new.result ∷ []) c.in_ok-lits.ensures ∙ ap (λ (l : Literal). all ++ l ∷ []) c.new.ensures in
+    subst (λ (ls : List Literal). AreThere c.args.f.now.vars ls) (sym is) (long_there g d b k c.args.f.now.vars c.requires.some c.requires.few c.requires.there
+    c.requires.to)
 
 pub returns-in_err-add : goal.returns-in_err-add
 returns-in_err-add c =
@@ -38,9 +41,12 @@ returns-in_err-add c =
     let k = c.args.k in
     let all = height_lits (drawing_vars g d) d.width k 0 (length g.edges) in
     let grown : c.push.new.self.items ≡ c.in_ok-lits.lits.items ++ c.new.result ∷ [] = c.in_ok-push.ensures.items in
-    let is : c.deref.result.now ≡ all ++ negative_of b ∷ [] = c.deref.ensures.value ∙ grown ∙ ap (λ (ls : List Literal). ls ++ c.new.result ∷ []) c.in_ok-lits.ensures ∙ ap (λ (l : Literal). all ++ l ∷ []) c.new.ensures in
-    adds_fault c.add.result c.from_residual-in_err-add.result _ _ _ (length g.edges * (d.width + 1) + 3) c.from_residual-in_err-add.ensures.0 (λ k. search (rules, k))
-    (some_adds c.add.result c.args.f.now c.add.new.self g d b k c.deref.result.now is c.requires.some c.requires.few c.requires.there c.add.ensures.ok c.add.ensures.room.0 c.add.ensures.err)
+    let is : c.deref.result.now ≡ all ++ negative_of b ∷ [] = c.deref.ensures.value ∙ grown
+    ∙ ap (λ (ls : List Literal). ls ++ c.new.result ∷ []) c.in_ok-lits.ensures ∙ ap (λ (l : Literal). all ++ l ∷ []) c.new.ensures in
+    adds_fault c.add.result c.from_residual-in_err-add.result _ _ _ (length g.edges * (d.width + 1) + 3) c.from_residual-in_err-add.ensures.0
+    (λ k. search (rules, k))
+    (some_adds c.add.result c.args.f.now c.add.new.self g d b k c.deref.result.now is c.requires.some c.requires.few c.requires.there c.add.ensures.ok
+    c.add.ensures.room.0 c.add.ensures.err)
 
 pub returns : goal.returns
 returns c =
@@ -50,6 +56,8 @@ returns c =
     let k = c.args.k in
     let all = height_lits (drawing_vars g d) d.width k 0 (length g.edges) in
     let grown : c.push.new.self.items ≡ c.in_ok-lits.lits.items ++ c.new.result ∷ [] = c.in_ok-push.ensures.items in
-    let is : c.deref.result.now ≡ all ++ negative_of b ∷ [] = c.deref.ensures.value ∙ grown ∙ ap (λ (ls : List Literal). ls ++ c.new.result ∷ []) c.in_ok-lits.ensures ∙ ap (λ (l : Literal). all ++ l ∷ []) c.new.ensures in
+    let is : c.deref.result.now ≡ all ++ negative_of b ∷ [] = c.deref.ensures.value ∙ grown
+    ∙ ap (λ (ls : List Literal). ls ++ c.new.result ∷ []) c.in_ok-lits.ensures ∙ ap (λ (l : Literal). all ++ l ∷ []) c.new.ensures in
     adds_same c.add.result tt _ _ _ (length g.edges * (d.width + 1) + 3) c.in_ok-add.field-0 (search rules)
-    (some_adds c.add.result c.args.f.now c.add.new.self g d b k c.deref.result.now is c.requires.some c.requires.few c.requires.there c.add.ensures.ok c.add.ensures.room.0 c.add.ensures.err)
+    (some_adds c.add.result c.args.f.now c.add.new.self g d b k c.deref.result.now is c.requires.some c.requires.few c.requires.there c.add.ensures.ok
+    c.add.ensures.room.0 c.add.ensures.err)

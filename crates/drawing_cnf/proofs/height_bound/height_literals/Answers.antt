@@ -17,7 +17,8 @@ loop-e-preserved c =
     let end = c.edges-end.ensures.value in
     let lt : e < length g.edges = omega arith in
     let more : c.push_heights.new.lits.items ≡ front ++ column_lits (x.edge e) k 0 (d.width + 1) =
-    c.in_ok-push_heights.ensures ∙ ap (λ (s : EdgeSpot). front ++ column_lits (lits_of s) k 0 (c.width.result + 1)) c.edge_vars-vars.ensures.edge ∙ ap (λ n. front ++ column_lits (x.edge e) k 0 (n + 1)) c.width.ensures.value in
+    c.in_ok-push_heights.ensures ∙ ap (λ (s : EdgeSpot). front ++ column_lits (lits_of s) k 0 (c.width.result + 1)) c.edge_vars-vars.ensures.edge
+    ∙ ap (λ n. front ++ column_lits (x.edge e) k 0 (n + 1)) c.width.ensures.value in
     heights_next x d.width k e (length g.edges) front c.push_heights.new.lits.items (height_lits x d.width k 0 (length g.edges)) lt more c.loop-e.invariant
 
 pub push_heights-requires-clause-to : goal.push_heights-requires-clause-to

@@ -13,6 +13,9 @@ loop-c-preserved c =
     let k = c.args.k in
     let i = (lits_of e).height c.loop-c.c in
     let front = c.loop-c.lits.items in
-    let lit : c.literal_of.result ≡ positive_of (i.first + (k - 1)) = c.literal_of.ensures (i.first + (k - 1)) (c.at_least.ensures ∙ ap (λ (z : IntVars). int_at_least z k) c.height.ensures.value ∙ at_least_is e.high i.first k c.requires.from c.requires.to) in
+    let lit : c.literal_of.result ≡ positive_of (i.first + (k - 1)) = c.literal_of.ensures (i.first + (k - 1))
+    (c.at_least.ensures ∙ ap (λ (z : IntVars). int_at_least z k) c.height.ensures.value ∙ at_least_is e.high i.first k c.requires.from c.requires.to) in
     let grown : c.push.new.self.items ≡ front ++ c.literal_of.result ∷ [] = c.in_ok-push.ensures.items in
-    column_next (lits_of e) k c.loop-c.c (c.args.width + 1) front c.push.new.self.items (c.args.lits.now.items ++ column_lits (lits_of e) k 0 (c.args.width + 1)) c.loop-c-test.true (grown ∙ ap (λ (l : Literal). front ++ l ∷ []) lit) c.loop-c.invariant
+    column_next (lits_of e) k c.loop-c.c (c.args.width + 1) front c.push.new.self.items
+    (c.args.lits.now.items ++ column_lits (lits_of e) k 0 (c.args.width + 1)) c.loop-c-test.true (grown ∙ ap (λ (l : Literal). front ++ l ∷ []) lit)
+    c.loop-c.invariant

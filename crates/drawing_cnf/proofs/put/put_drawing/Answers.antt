@@ -30,11 +30,14 @@ pub returns : goal.returns
 returns c =
     let s = c.args.s.now in
     let small = c.requires.small in
-    let put = put_base_to s.graph.now s.grid.now s.drawing.now (assignment c.put_base.new.m) c.nodes.ensures.station.track_graph c.width.ensures.is_grid (omega arith)
+    let put = put_base_to s.graph.now s.grid.now s.drawing.now (assignment c.put_base.new.m) c.nodes.ensures.station.track_graph c.width.ensures.is_grid
+    (omega arith)
     (lawful_loose s.graph.now (is_above s.order.now) s.grid.now s.drawing.now c.nodes.ensures.station.track_graph c.requires.lawful) c.put_base.ensures.reads in
     record {
-      reads = drawing_reads s.graph.now (is_above s.order.now) (is_overlap s.order.now) s.grid.now s.drawing.now (assignment c.put_base.new.m) (assignment c.put_laws.new.m) put c.put_laws.ensures.puts;
-      holds = drawing_holds s.graph.now (is_above s.order.now) (is_overlap s.order.now) s.grid.now s.drawing.now (assignment c.put_base.new.m) (assignment c.put_laws.new.m) put c.put_base.ensures.satisfies c.put_laws.ensures.puts;
+      reads = drawing_reads s.graph.now (is_above s.order.now) (is_overlap s.order.now) s.grid.now s.drawing.now (assignment c.put_base.new.m)
+          (assignment c.put_laws.new.m) put c.put_laws.ensures.puts;
+      holds = drawing_holds s.graph.now (is_above s.order.now) (is_overlap s.order.now) s.grid.now s.drawing.now (assignment c.put_base.new.m)
+          (assignment c.put_laws.new.m) put c.put_base.ensures.satisfies c.put_laws.ensures.puts;
       later = λ y high. c.put_laws.ensures.puts.same.above y (omega arith) ∙ c.put_base.ensures.later y (omega arith);
       vars = c.put_laws.ensures.vars ∙ c.put_base.ensures.vars;
     }

@@ -20,9 +20,11 @@ loop-e-preserved c =
     let s = c.nodes.ensures.station in
     let size = c.width.ensures.is_grid in
     let p = c.put_edge.ensures in (
-      edge_put g grid c.args.d.now (assignment c.loop-e.m) (assignment c.put_edge.new.m) c.loop-e.e s.track_graph size (few_variables g grid size s.few_nodes s.few_edges) (omega arith) c.loop-e.invariant.0 p.same p.reads p.satisfies,
+      edge_put g grid c.args.d.now (assignment c.loop-e.m) (assignment c.put_edge.new.m) c.loop-e.e s.track_graph size
+          (few_variables g grid size s.few_nodes s.few_edges) (omega arith) c.loop-e.invariant.0 p.same p.reads p.satisfies,
       p.vars ∙ c.loop-e.invariant.1,
-      λ y high. let all = edge_spot_in g grid c.loop-e.e size (few_variables g grid size s.few_nodes s.few_edges) (omega arith) in let top = all.1 in p.same.above y (omega arith) ∙ c.loop-e.invariant.2 y high,
+      λ y high. let all = edge_spot_in g grid c.loop-e.e size (few_variables g grid size s.few_nodes s.few_edges) (omega arith) in let top = all.1 in
+          p.same.above y (omega arith) ∙ c.loop-e.invariant.2 y high,
     )
 
 pub returns : goal.returns

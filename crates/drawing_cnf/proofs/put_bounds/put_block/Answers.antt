@@ -8,7 +8,8 @@ loop-k-init c = (block_start c.args.last c.args.value (assignment c.args.m.now),
 
 pub loop-k-preserved : goal.loop-k-preserved
 loop-k-preserved c = (
-  block_more c.args.last c.args.value (assignment c.args.m.now) (assignment c.loop-k.m) (assignment c.put_variable.new.m) c.loop-k.k c.loop-k.auto.k c.loop-k.invariant.0 c.put_variable.ensures.value c.put_variable.ensures.others,
+  block_more c.args.last c.args.value (assignment c.args.m.now) (assignment c.loop-k.m) (assignment c.put_variable.new.m) c.loop-k.k c.loop-k.auto.k
+      c.loop-k.invariant.0 c.put_variable.ensures.value c.put_variable.ensures.others,
   c.put_variable.ensures.vars ∙ c.loop-k.invariant.1,
 )
 

@@ -10,7 +10,9 @@ loop-s-init c = let k = c.args.k.now in (sums_start (k.last + k.cap) k.sums.item
 pub put-requires-clause-inputs : goal.put-requires-clause-inputs
 put-requires-clause-inputs c =
     let k = c.args.k.now in
-    let n = next_sum (k.last + k.cap) k.sums.items c.loop-s.s-index c.s-item.result (assignment c.put_block.new.m) (assignment c.loop-s.m) (item_within k.sums.items c.deref-s-items.result.now c.loop-s.s-index c.deref-s-items.ensures.value c.loop-s-test.true) (item_is k.sums.items c.deref-s-items.result.now c.loop-s.s-index c.s-item.result c.deref-s-items.ensures.value c.s-item.is) c.loop-s.invariant.0 in
+    let n = next_sum (k.last + k.cap) k.sums.items c.loop-s.s-index c.s-item.result (assignment c.put_block.new.m) (assignment c.loop-s.m)
+    (item_within k.sums.items c.deref-s-items.result.now c.loop-s.s-index c.deref-s-items.ensures.value c.loop-s-test.true)
+    (item_is k.sums.items c.deref-s-items.result.now c.loop-s.s-index c.s-item.result c.deref-s-items.ensures.value c.s-item.is) c.loop-s.invariant.0 in
     let to = n.to in
     let room = c.requires.there in
     let same = c.put_block.ensures.vars in
@@ -20,7 +22,9 @@ put-requires-clause-inputs c =
 pub put-requires-clause-own : goal.put-requires-clause-own
 put-requires-clause-own c = λ some.
     let k = c.args.k.now in
-    let n = next_sum (k.last + k.cap) k.sums.items c.loop-s.s-index c.s-item.result (assignment c.put_block.new.m) (assignment c.loop-s.m) (item_within k.sums.items c.deref-s-items.result.now c.loop-s.s-index c.deref-s-items.ensures.value c.loop-s-test.true) (item_is k.sums.items c.deref-s-items.result.now c.loop-s.s-index c.s-item.result c.deref-s-items.ensures.value c.s-item.is) c.loop-s.invariant.0 in
+    let n = next_sum (k.last + k.cap) k.sums.items c.loop-s.s-index c.s-item.result (assignment c.put_block.new.m) (assignment c.loop-s.m)
+    (item_within k.sums.items c.deref-s-items.result.now c.loop-s.s-index c.deref-s-items.ensures.value c.loop-s-test.true)
+    (item_is k.sums.items c.deref-s-items.result.now c.loop-s.s-index c.s-item.result c.deref-s-items.ensures.value c.s-item.is) c.loop-s.invariant.0 in
     let to = n.to in
     let room = c.requires.there in
     let same = c.put_block.ensures.vars in
@@ -30,14 +34,18 @@ put-requires-clause-own c = λ some.
 pub loop-s-preserved : goal.loop-s-preserved
 loop-s-preserved c =
     let k = c.args.k.now in (
-      sums_more (k.last + k.cap) k.sums.items c.loop-s.s-index c.s-item.result (assignment c.put_block.new.m) (assignment c.loop-s.m) (assignment c.put.new.m) (item_within k.sums.items c.deref-s-items.result.now c.loop-s.s-index c.deref-s-items.ensures.value c.loop-s-test.true) (item_is k.sums.items c.deref-s-items.result.now c.loop-s.s-index c.s-item.result c.deref-s-items.ensures.value c.s-item.is) c.loop-s.invariant.0 c.put.ensures.model c.put.ensures.same,
+      sums_more (k.last + k.cap) k.sums.items c.loop-s.s-index c.s-item.result (assignment c.put_block.new.m) (assignment c.loop-s.m) (assignment c.put.new.m)
+          (item_within k.sums.items c.deref-s-items.result.now c.loop-s.s-index c.deref-s-items.ensures.value c.loop-s-test.true)
+          (item_is k.sums.items c.deref-s-items.result.now c.loop-s.s-index c.s-item.result c.deref-s-items.ensures.value c.s-item.is) c.loop-s.invariant.0
+          c.put.ensures.model c.put.ensures.same,
       c.put.ensures.vars ∙ c.loop-s.invariant.1,
     )
 
 pub returns : goal.returns
 returns c =
     let k = c.args.k.now in
-    let p = sums_done (k.last + k.cap) k.sums.items c.loop-s.s-index (assignment c.put_block.new.m) (assignment c.loop-s.m) (item_past k.sums.items c.deref-s-items.result.now c.loop-s.s-index c.deref-s-items.ensures.value c.loop-s-test.false) c.loop-s.invariant.0 in
+    let p = sums_done (k.last + k.cap) k.sums.items c.loop-s.s-index (assignment c.put_block.new.m) (assignment c.loop-s.m)
+    (item_past k.sums.items c.deref-s-items.result.now c.loop-s.s-index c.deref-s-items.ensures.value c.loop-s-test.false) c.loop-s.invariant.0 in
     let b = c.put_block.ensures in
     record {
       same = record {

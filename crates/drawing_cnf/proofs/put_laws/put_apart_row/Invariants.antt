@@ -6,4 +6,5 @@ use Rattle.drawing_cnf.proofs.PutLaws.{IsPuttingLaws}
 use Rattle.drawing_cnf.proofs.put_laws.put_apart_row.Given as goal
 
 abbrev pub invariant-loop-v : goal.invariant-loop-v
-invariant-loop-v l = IsPuttingLaws l.s.graph.now l.s.grid.now (λ b. Apart l.u b ∷ []) (pairs_from (length l.s.graph.now.nodes) (λ a b. Apart a b ∷ []) l.u) l.first (assignment l.initial.m) (assignment l.m) l.next l.v l.end × (length l.m ≡ length l.initial.m)
+invariant-loop-v l = IsPuttingLaws l.s.graph.now l.s.grid.now (λ b. Apart l.u b ∷ []) (pairs_from (length l.s.graph.now.nodes) (λ a b. Apart a b ∷ []) l.u)
+    l.first (assignment l.initial.m) (assignment l.m) l.next l.v l.end × (length l.m ≡ length l.initial.m)

@@ -21,7 +21,8 @@ put_apart_pairs-next-requires-clause-put c =
 pub put_apart_pairs-next-requires-clause-to : goal.put_apart_pairs-next-requires-clause-to
 put_apart_pairs-next-requires-clause-to c =
     let s = c.args.s.now in
-    let sizes = sizes_of_all s.graph.now s.grid.now s.drawing.now (is_above s.order.now) (is_overlap s.order.now) (assignment c.args.m.now) (laws_first s.graph.now s.grid.now) c.requires.lawful c.requires.put in
+    let sizes = sizes_of_all s.graph.now s.grid.now s.drawing.now (is_above s.order.now) (is_overlap s.order.now) (assignment c.args.m.now)
+    (laws_first s.graph.now s.grid.now) c.requires.lawful c.requires.put in
     let is = c.laws_start-first.ensures in
     let to = c.requires.to in
     omega arith
@@ -29,7 +30,8 @@ put_apart_pairs-next-requires-clause-to c =
 pub put_apart_pairs-next-requires-clause-small : goal.put_apart_pairs-next-requires-clause-small
 put_apart_pairs-next-requires-clause-small c =
     let s = c.args.s.now in
-    let sizes = sizes_of_all s.graph.now s.grid.now s.drawing.now (is_above s.order.now) (is_overlap s.order.now) (assignment c.args.m.now) (laws_first s.graph.now s.grid.now) c.requires.lawful c.requires.put in
+    let sizes = sizes_of_all s.graph.now s.grid.now s.drawing.now (is_above s.order.now) (is_overlap s.order.now) (assignment c.args.m.now)
+    (laws_first s.graph.now s.grid.now) c.requires.lawful c.requires.put in
     let is = c.laws_start-first.ensures in
     let to = c.requires.small in
     omega arith
@@ -46,13 +48,15 @@ put_edge_pairs-requires-clause-put c =
     let p = c.put_apart_pairs-next.ensures in
     let is = c.laws_start-first.ensures in
     let behind = p.next in
-    put_to_more s.graph.now s.grid.now s.drawing.now (assignment c.args.m.now) (assignment c.put_apart_pairs-next.new.m) (laws_first s.graph.now s.grid.now) c.put_apart_pairs-next.result c.requires.put (omega arith)
+    put_to_more s.graph.now s.grid.now s.drawing.now (assignment c.args.m.now) (assignment c.put_apart_pairs-next.new.m) (laws_first s.graph.now s.grid.now)
+    c.put_apart_pairs-next.result c.requires.put (omega arith)
     (λ y low. p.puts.same.below y (omega arith))
 
 pub put_edge_pairs-requires-clause-to : goal.put_edge_pairs-requires-clause-to
 put_edge_pairs-requires-clause-to c =
     let s = c.args.s.now in
-    let sizes = sizes_of_all s.graph.now s.grid.now s.drawing.now (is_above s.order.now) (is_overlap s.order.now) (assignment c.args.m.now) (laws_first s.graph.now s.grid.now) c.requires.lawful c.requires.put in
+    let sizes = sizes_of_all s.graph.now s.grid.now s.drawing.now (is_above s.order.now) (is_overlap s.order.now) (assignment c.args.m.now)
+    (laws_first s.graph.now s.grid.now) c.requires.lawful c.requires.put in
     let is = c.laws_start-first.ensures in
     let behind = c.put_apart_pairs-next.ensures.next in
     let same = c.put_apart_pairs-next.ensures.vars in
@@ -62,7 +66,8 @@ put_edge_pairs-requires-clause-to c =
 pub put_edge_pairs-requires-clause-small : goal.put_edge_pairs-requires-clause-small
 put_edge_pairs-requires-clause-small c =
     let s = c.args.s.now in
-    let sizes = sizes_of_all s.graph.now s.grid.now s.drawing.now (is_above s.order.now) (is_overlap s.order.now) (assignment c.args.m.now) (laws_first s.graph.now s.grid.now) c.requires.lawful c.requires.put in
+    let sizes = sizes_of_all s.graph.now s.grid.now s.drawing.now (is_above s.order.now) (is_overlap s.order.now) (assignment c.args.m.now)
+    (laws_first s.graph.now s.grid.now) c.requires.lawful c.requires.put in
     let is = c.laws_start-first.ensures in
     let behind = c.put_apart_pairs-next.ensures.next in
     let to = c.requires.small in
@@ -76,7 +81,9 @@ returns c =
     let is = c.laws_start-first.ensures in
     let behind = p.next in
     record {
-      puts = all_put g s.grid.now s.drawing.now (is_above s.order.now) (is_overlap s.order.now) (laws_first g s.grid.now) c.put_apart_pairs-next.result (assignment c.args.m.now) (assignment c.put_apart_pairs-next.new.m) (assignment c.put_edge_pairs.new.m) c.requires.lawful c.requires.put
-          (subst (λ n. PutsLaws g s.grid.now (instance_pairs (length g.nodes) (λ u v. Apart u v ∷ [])) n (assignment c.args.m.now) (assignment c.put_apart_pairs-next.new.m)) is p.puts) (omega arith) c.put_edge_pairs.ensures.puts;
+      puts = all_put g s.grid.now s.drawing.now (is_above s.order.now) (is_overlap s.order.now) (laws_first g s.grid.now) c.put_apart_pairs-next.result
+          (assignment c.args.m.now) (assignment c.put_apart_pairs-next.new.m) (assignment c.put_edge_pairs.new.m) c.requires.lawful c.requires.put
+          (subst (λ n. PutsLaws g s.grid.now (instance_pairs (length g.nodes) (λ u v. Apart u v ∷ [])) n (assignment c.args.m.now)
+          (assignment c.put_apart_pairs-next.new.m)) is p.puts) (omega arith) c.put_edge_pairs.ensures.puts;
       vars = c.put_edge_pairs.ensures.vars ∙ p.vars;
     }

@@ -6,4 +6,5 @@ use Rattle.drawing_cnf.specs.Bounds.{same_as}
 use Rattle.drawing_cnf.proofs.sum_bounds.add_outputs.Given as goal
 
 abbrev pub invariant-loop-k : goal.invariant-loop-k
-invariant-loop-k l = IsAdding (λ k. same_as (l.last + k) (sum_at_least l.s k)) l.fn.f l.f (each (λ k. same_as (l.last + k) (sum_at_least l.s k)) 1 (l.cap)) l.k l.end
+invariant-loop-k l = IsAdding (λ k. same_as (l.last + k) (sum_at_least l.s k)) l.fn.f l.f (each (λ k. same_as (l.last + k) (sum_at_least l.s k)) 1 (l.cap)) l.k
+    l.end

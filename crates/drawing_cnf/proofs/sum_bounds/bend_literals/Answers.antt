@@ -18,8 +18,10 @@ loop-e-preserved c =
     let es = c.args.edges.now in
     let k = c.loop-e.e-index in
     let lt : k < length es = omega arith in
-    bends_next (drawing_vars c.args.g.now c.args.grid.now) es (drop k es) (drop (k + 1) es) _ c.loop-e.lits.items c.push.new.self.items c.push-in-loop-e.new.self.items c.literal_of.result c.literal_of-in-loop-e.result (left_one es k _ lt)
-    (c.literal_of.ensures _ (c.first_bend.ensures.value ∙ ap (λ (l : EdgeLits). yes l.first_bend) c.edge_vars-vars.ensures.lits)) (c.literal_of-in-loop-e.ensures _ (c.second_bend.ensures.value ∙ ap (λ (l : EdgeLits). yes l.second_bend) c.edge_vars-vars.ensures.lits))
+    bends_next (drawing_vars c.args.g.now c.args.grid.now) es (drop k es) (drop (k + 1) es) _ c.loop-e.lits.items c.push.new.self.items
+    c.push-in-loop-e.new.self.items c.literal_of.result c.literal_of-in-loop-e.result (left_one es k _ lt)
+    (c.literal_of.ensures _ (c.first_bend.ensures.value ∙ ap (λ (l : EdgeLits). yes l.first_bend) c.edge_vars-vars.ensures.lits))
+    (c.literal_of-in-loop-e.ensures _ (c.second_bend.ensures.value ∙ ap (λ (l : EdgeLits). yes l.second_bend) c.edge_vars-vars.ensures.lits))
     c.in_ok-push.ensures.items c.in_ok-push-2.ensures.items c.loop-e.invariant
 
 pub returns : goal.returns

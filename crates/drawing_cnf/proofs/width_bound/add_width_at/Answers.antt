@@ -12,7 +12,8 @@ returns-in_err-add_columns_give c =
     let n = length a.g.now.nodes in
     let long = n + 3 in
     let gives = each (column_gives x a.b a.k) 0 n in
-    adds_refused c.add_columns_give.result c.from_residual.result _ _ (gives) (some_column_clause x n a.b a.k) long c.from_residual.ensures.0 (λ k. search (rules, k)) (adds_longer c.add_columns_give.result _ _ gives 2 long (omega arith) c.add_columns_give.ensures)
+    adds_refused c.add_columns_give.result c.from_residual.result _ _ (gives) (some_column_clause x n a.b a.k) long c.from_residual.ensures.0
+    (λ k. search (rules, k)) (adds_longer c.add_columns_give.result _ _ gives 2 long (omega arith) c.add_columns_give.ensures)
 
 pub returns : goal.returns
 returns c =
@@ -21,4 +22,5 @@ returns c =
     let n = length a.g.now.nodes in
     let long = n + 3 in
     let gives = each (column_gives x a.b a.k) 0 n in
-    adds_after _ c.add_some_column.result _ _ _ (gives) (some_column_clause x n a.b a.k) long (adds_longer _ _ _ gives 2 long (omega arith) c.in_ok-add_columns_give.ensures) (c.add_some_column.ensures)
+    adds_after _ c.add_some_column.result _ _ _ (gives) (some_column_clause x n a.b a.k) long
+    (adds_longer _ _ _ gives 2 long (omega arith) c.in_ok-add_columns_give.ensures) (c.add_some_column.ensures)

@@ -19,4 +19,5 @@ loop-n-preserved c =
     let lt : n < length g.nodes = omega arith in
     let grown : c.push.new.self.items ≡ front ++ c.at_least.result ∷ [] = search rules in
     let is : c.at_least.result ≡ int_at_least (x.node n).x k = c.at_least.ensures ∙ ap (λ (i : IntVars). int_at_least i k) c.node_vars.ensures.x in
-    nodes_next x k n (length g.nodes) front c.push.new.self.items (node_columns x k 0 (length g.nodes)) lt (grown ∙ ap (λ (t : LitOrTruth). front ++ t ∷ []) is) c.loop-n.invariant
+    nodes_next x k n (length g.nodes) front c.push.new.self.items (node_columns x k 0 (length g.nodes)) lt (grown ∙ ap (λ (t : LitOrTruth). front ++ t ∷ []) is)
+    c.loop-n.invariant

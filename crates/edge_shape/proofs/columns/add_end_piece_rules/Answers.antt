@@ -16,7 +16,11 @@ add_all-requires c =
     let p = c.requires.placed.spot in
     let there = c.requires.there in
     let e : map literals_of (end_piece_rules (edge_lits x.first x.high x.width) c.args.c) ≡ c.three.result ∷ c.three-2.result ∷ [] = search rules in
-    record { within = subst (λ (ls : List (List LitOrTruth)). AllWithin c.args.f.now.vars ls) e (through_within vars l c.args.c (whole_literals x.first x.high x.width vars p there) (step_literals x.first x.high x.width vars c.args.c p there c.requires.c)) }
+    record {
+      within = subst (λ (ls : List (List LitOrTruth)). AllWithin c.args.f.now.vars ls) e
+          (through_within vars l c.args.c (whole_literals x.first x.high x.width vars p there)
+          (step_literals x.first x.high x.width vars c.args.c p there c.requires.c));
+    }
 
 pub returns : goal.returns
 returns c =

@@ -20,11 +20,17 @@ returns-clause-words c =
     let ex = east.x_there in
     let ey = east.y_there in
     let added = c.make_edge.ensures.adds.words in
-    let most : words_of (edge_clauses (edge_lits first g.height g.width) (node_ints c.args.west.now.x c.args.west.now.y) (node_ints c.args.east.now.x c.args.east.now.y) g.least g.height g.width) ≤ 2000 * ((g.width + 1) * (g.height + 1)) =
-    edge_words first g.height g.width (c.args.f.now.vars + size) g.least (node_ints c.args.west.now.x c.args.west.now.y) (node_ints c.args.east.now.x c.args.east.now.y)
+    let most : words_of (edge_clauses (edge_lits first g.height g.width) (node_ints c.args.west.now.x c.args.west.now.y)
+    (node_ints c.args.east.now.x c.args.east.now.y) g.least g.height g.width) ≤ 2000 * ((g.width + 1) * (g.height + 1)) =
+    edge_words first g.height g.width (c.args.f.now.vars + size) g.least (node_ints c.args.west.now.x c.args.west.now.y)
+    (node_ints c.args.east.now.x c.args.east.now.y)
     (record { from = omega arith; rows = is.height_limit; some_columns = is.some_width; columns = is.width_limit }) (omega arith)
-    (record { from = wx.from; to = omega arith }) (record { from = wy.from; to = omega arith }) (record { from = ex.from; to = omega arith }) (record { from = ey.from; to = omega arith })
-    (let low = west.x_low in let high = west.x_high in omega arith) (let low = west.y_low in let high = west.y_high in omega arith) (let low = east.y_low in let high = east.y_high in omega arith) in
+    (record {
+      from = wx.from;
+      to = omega arith;
+    }) (record { from = wy.from; to = omega arith }) (record { from = ex.from; to = omega arith }) (record { from = ey.from; to = omega arith })
+    (let low = west.x_low in let high = west.x_high in omega arith) (let low = west.y_low in let high = west.y_high in omega arith)
+    (let low = east.y_low in let high = east.y_high in omega arith) in
     omega (arith, added, most)
 
 pub returns-clause-vars : goal.returns-clause-vars
@@ -40,11 +46,15 @@ returns-clause-models c = λ v p q rx ra rz rb h.
     let first = c.args.f.now.vars + 1 in
     let wide = c.requires.east.x_high in
     let far = rz.high in
-    models_are_lines v (edge_lits first g.height g.width) (node_ints c.args.west.now.x c.args.west.now.y) (node_ints c.args.east.now.x c.args.east.now.y) g.least g.height g.width p q (rows_of first g.height g.width) c.make_edge.ensures.is_grid.some_least (omega arith) rx ra rz rb h
+    models_are_lines v (edge_lits first g.height g.width) (node_ints c.args.west.now.x c.args.west.now.y) (node_ints c.args.east.now.x c.args.east.now.y)
+    g.least g.height g.width p q (rows_of first g.height g.width) c.make_edge.ensures.is_grid.some_least (omega arith) rx ra rz rb h
 
 pub returns-clause-lines : goal.returns-clause-lines
 returns-clause-lines c = λ v p q line rx ra rz rb j.
     let g = c.args.grid.now in
     let first = c.args.f.now.vars + 1 in
     line_extends v first g.height g.width g.least (node_ints c.args.west.now.x c.args.west.now.y) (node_ints c.args.east.now.x c.args.east.now.y) p q line
-    (record { x = c.requires.west.x_there.to; y = c.requires.west.y_there.to }) (record { x = c.requires.east.x_there.to; y = c.requires.east.y_there.to }) rx ra rz rb j
+    (record {
+      x = c.requires.west.x_there.to;
+      y = c.requires.west.y_there.to;
+    }) (record { x = c.requires.east.x_there.to; y = c.requires.east.y_there.to }) rx ra rz rb j

@@ -10,9 +10,11 @@ pub add_two_equal-requires : goal.add_two_equal-requires
 add_two_equal-requires c =
     let x = c.args.e.now in
     record {
-      a = subst (λ (i : IntVars). IntIsThere c.args.f.now.vars i) (sym c.height.ensures) (height_there x.first x.high x.width c.args.f.now.vars 0 c.requires.placed.spot c.requires.there (omega arith));
+      a = subst (λ (i : IntVars). IntIsThere c.args.f.now.vars i) (sym c.height.ensures)
+          (height_there x.first x.high x.width c.args.f.now.vars 0 c.requires.placed.spot c.requires.there (omega arith));
       b = c.requires.west_y;
-      c = subst (λ (i : IntVars). IntIsThere c.args.f.now.vars i) (sym c.height-2.ensures) (height_there x.first x.high x.width c.args.f.now.vars x.width c.requires.placed.spot c.requires.there (omega arith));
+      c = subst (λ (i : IntVars). IntIsThere c.args.f.now.vars i) (sym c.height-2.ensures)
+          (height_there x.first x.high x.width c.args.f.now.vars x.width c.requires.placed.spot c.requires.there (omega arith));
       d = c.requires.east_y;
     }
 
@@ -20,5 +22,6 @@ pub returns : goal.returns
 returns c =
     let l = edge_lits c.args.e.now.first c.args.e.now.high c.args.e.now.width in
     adds_as c.add_two_equal.result _ _ _ _ 2 2
-    (ap (λ (i : IntVars). equal_clauses i c.args.west_y.now [] ++ equal_clauses c.height-2.result c.args.east_y.now []) c.height.ensures ∙ ap (λ (i : IntVars). equal_clauses (l.height 0) c.args.west_y.now [] ++ equal_clauses i c.args.east_y.now []) c.height-2.ensures)
+    (ap (λ (i : IntVars). equal_clauses i c.args.west_y.now [] ++ equal_clauses c.height-2.result c.args.east_y.now []) c.height.ensures
+    ∙ ap (λ (i : IntVars). equal_clauses (l.height 0) c.args.west_y.now [] ++ equal_clauses i c.args.east_y.now []) c.height-2.ensures)
     (omega arith) c.add_two_equal.ensures

@@ -11,4 +11,5 @@ pub returns-then-east_end-c : goal.returns-then-east_end-c
 returns-then-east_end-c c =
     let l = c.args.line.now in
     let is_line = c.points-points.ensures.is_line in
-    level_high (height l) (west_end l).x (steps_of l) (east_end l).x c.args.c (steps_are l is_line) (ends_rise l is_line) (subst (λ (p : Point). p.x ≤ c.args.c) c.east_end.ensures c.if-east_end-c.true)
+    level_high (height l) (west_end l).x (steps_of l) (east_end l).x c.args.c (steps_are l is_line) (ends_rise l is_line)
+    (subst (λ (p : Point). p.x ≤ c.args.c) c.east_end.ensures c.if-east_end-c.true)

@@ -8,7 +8,8 @@ use Rattle.edge_shape.proofs.line_columns.is_level_by.Goals as goal
 pub returns-then-is_level_at : goal.returns-then-is_level_at
 returns-then-is_level_at c =
     let l = c.args.line.now in
-    sym (seen_true (height l) (west_end l).x (steps_of l) c.loop-k.k (sym c.is_level_at.ensures ∙ c.if-is_level_at.true) (c.args.c - c.loop-k.k) c.args.c (omega (arith, c.loop-k-test.true)))
+    sym (seen_true (height l) (west_end l).x (steps_of l) c.loop-k.k (sym c.is_level_at.ensures ∙ c.if-is_level_at.true) (c.args.c - c.loop-k.k) c.args.c
+    (omega (arith, c.loop-k-test.true)))
 
 pub returns : goal.returns
 returns c =

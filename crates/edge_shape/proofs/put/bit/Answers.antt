@@ -13,7 +13,8 @@ returns-then-k-lt6 c =
 pub returns-then-place-first : goal.returns-then-place-first
 returns-then-place-first c =
     let e = c.args.e.now in
-    c.column_bit.ensures ∙ first_setting (line_bits c.args.line.now) e.first e.high e.width c.args.x (omega (arith, c.if-k-lt6.false)) (omega (arith, c.if-place-first.true))
+    c.column_bit.ensures ∙ first_setting (line_bits c.args.line.now) e.first e.high e.width c.args.x (omega (arith, c.if-k-lt6.false))
+    (omega (arith, c.if-place-first.true))
 
 pub returns : goal.returns
 returns c =
@@ -23,6 +24,8 @@ returns c =
     let some : 0 < block = omega arith in
     let small : past % block < block = mod-lt past some in
     let cut : past / block * block + past % block ≡ past = div-add-mod' past block in
-    let low : past < e.width * block = (let to = c.requires.to in let from = c.requires.from in let k = c.if-k-lt6.false in let p = c.if-place-first.false in omega (arith, to, from, k, p)) in
+    let low : past < e.width * block = (let to = c.requires.to in let from = c.requires.from in let k = c.if-k-lt6.false in let p = c.if-place-first.false in
+    omega (arith, to, from, k, p)) in
     let few : past / block < e.width = (div-lt_iff_lt-mul some).1 low in
-    c.column_bit-2.ensures ∙ later_setting (line_bits c.args.line.now) e.first e.high e.width c.args.x (past / block) (past % block) (omega (arith, c.if-k-lt6.false)) (omega (arith, c.if-place-first.false)) (sym cut) small (omega (arith, few))
+    c.column_bit-2.ensures ∙ later_setting (line_bits c.args.line.now) e.first e.high e.width c.args.x (past / block) (past % block)
+    (omega (arith, c.if-k-lt6.false)) (omega (arith, c.if-place-first.false)) (sym cut) small (omega (arith, few))

@@ -33,6 +33,7 @@ returns c =
     let old = assignment c.args.m.now in
     let to = c.loop-x-test.false in
     record {
-      set = put_all c.loop-x.x old (set_edge b e.first e.high e.width old) (assignment c.loop-x.m) c.loop-x.invariant.put (λ k le. (set_same b e.first e.high e.width old).above k (omega (arith, to, le)));
+      set = put_all c.loop-x.x old (set_edge b e.first e.high e.width old) (assignment c.loop-x.m) c.loop-x.invariant.put
+          (λ k le. (set_same b e.first e.high e.width old).above k (omega (arith, to, le)));
       vars = c.loop-x.invariant.vars;
     }

@@ -11,11 +11,19 @@ use Rattle.edge_shape.proofs.steps.add_seen_rules.Goals as goal
 pub add_all-requires : goal.add_all-requires
 add_all-requires c =
     let x = c.args.e.now in
-    let e : map literals_of (seen_rules (edge_lits x.first x.high x.width) c.args.c) ≡ (c.negated.result ∷ c.negated-2.result ∷ c.up.result ∷ c.down.result ∷ c.seen.result ∷ []) ∷ c.two.result ∷ c.three.result ∷ c.three-2.result ∷ c.three-3.result ∷ c.three-4.result ∷ [] = search rules in
-    record { within = subst (λ (l : List (List LitOrTruth)). AllWithin c.args.f.now.vars l) e (seen_within c.args.f.now.vars (edge_lits x.first x.high x.width) c.args.c (step_literals x.first x.high x.width c.args.f.now.vars c.args.c c.requires.placed.spot c.requires.there c.requires.c)) }
+    let e : map literals_of (seen_rules (edge_lits x.first x.high x.width) c.args.c)
+    ≡ (c.negated.result ∷ c.negated-2.result ∷ c.up.result ∷ c.down.result ∷ c.seen.result ∷ []) ∷ c.two.result ∷ c.three.result ∷ c.three-2.result
+    ∷ c.three-3.result ∷ c.three-4.result ∷ [] = search rules in
+    record {
+      within = subst (λ (l : List (List LitOrTruth)). AllWithin c.args.f.now.vars l) e
+          (seen_within c.args.f.now.vars (edge_lits x.first x.high x.width) c.args.c (step_literals x.first x.high x.width c.args.f.now.vars c.args.c
+          c.requires.placed.spot c.requires.there c.requires.c));
+    }
 
 pub returns : goal.returns
 returns c =
     let x = c.args.e.now in
-    let e : map literals_of (seen_rules (edge_lits x.first x.high x.width) c.args.c) ≡ (c.negated.result ∷ c.negated-2.result ∷ c.up.result ∷ c.down.result ∷ c.seen.result ∷ []) ∷ c.two.result ∷ c.three.result ∷ c.three-2.result ∷ c.three-3.result ∷ c.three-4.result ∷ [] = search rules in
+    let e : map literals_of (seen_rules (edge_lits x.first x.high x.width) c.args.c)
+    ≡ (c.negated.result ∷ c.negated-2.result ∷ c.up.result ∷ c.down.result ∷ c.seen.result ∷ []) ∷ c.two.result ∷ c.three.result ∷ c.three-2.result
+    ∷ c.three-3.result ∷ c.three-4.result ∷ [] = search rules in
     adds_lists c.add_all.result _ _ _ _ 5 e c.add_all.ensures

@@ -11,11 +11,17 @@ use Rattle.edge_shape.proofs.steps.add_shape_rules.Goals as goal
 pub add_all-requires : goal.add_all-requires
 add_all-requires c =
     let x = c.args.e.now in
-    let e : map literals_of (shape_rules (edge_lits x.first x.high x.width) c.args.c) ≡ c.two.result ∷ c.two-2.result ∷ c.four.result ∷ c.four-2.result ∷ [] = search rules in
-    record { within = subst (λ (l : List (List LitOrTruth)). AllWithin c.args.f.now.vars l) e (shape_within c.args.f.now.vars (edge_lits x.first x.high x.width) c.args.c (step_literals x.first x.high x.width c.args.f.now.vars c.args.c c.requires.placed.spot c.requires.there c.requires.c)) }
+    let e : map literals_of (shape_rules (edge_lits x.first x.high x.width) c.args.c) ≡ c.two.result ∷ c.two-2.result ∷ c.four.result ∷ c.four-2.result
+    ∷ [] = search rules in
+    record {
+      within = subst (λ (l : List (List LitOrTruth)). AllWithin c.args.f.now.vars l) e
+          (shape_within c.args.f.now.vars (edge_lits x.first x.high x.width) c.args.c (step_literals x.first x.high x.width c.args.f.now.vars c.args.c
+          c.requires.placed.spot c.requires.there c.requires.c));
+    }
 
 pub returns : goal.returns
 returns c =
     let x = c.args.e.now in
-    let e : map literals_of (shape_rules (edge_lits x.first x.high x.width) c.args.c) ≡ c.two.result ∷ c.two-2.result ∷ c.four.result ∷ c.four-2.result ∷ [] = search rules in
+    let e : map literals_of (shape_rules (edge_lits x.first x.high x.width) c.args.c) ≡ c.two.result ∷ c.two-2.result ∷ c.four.result ∷ c.four-2.result
+    ∷ [] = search rules in
     adds_lists c.add_all.result _ _ _ _ 5 e c.add_all.ensures

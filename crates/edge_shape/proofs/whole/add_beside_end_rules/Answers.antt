@@ -15,11 +15,16 @@ add_all-requires c =
     let l = edge_lits x.first x.high x.width in
     let p = c.requires.placed.spot in
     let there = c.requires.there in
-    let e : map literals_of (beside_end_rules (edge_lits x.first x.high x.width) c.args.west.now c.args.east.now x.high) ≡ c.two.result ∷ c.two-2.result ∷ c.two-3.result ∷ c.two-4.result ∷ [] = search rules in
-    record { within = subst (λ (ls : List (List LitOrTruth)). AllWithin c.args.f.now.vars ls) e (edge_within vars l c.args.west.now c.args.east.now x.high (whole_literals x.first x.high x.width vars p there) c.requires.west c.requires.east) }
+    let e : map literals_of (beside_end_rules (edge_lits x.first x.high x.width) c.args.west.now c.args.east.now x.high) ≡ c.two.result ∷ c.two-2.result
+    ∷ c.two-3.result ∷ c.two-4.result ∷ [] = search rules in
+    record {
+      within = subst (λ (ls : List (List LitOrTruth)). AllWithin c.args.f.now.vars ls) e
+          (edge_within vars l c.args.west.now c.args.east.now x.high (whole_literals x.first x.high x.width vars p there) c.requires.west c.requires.east);
+    }
 
 pub returns : goal.returns
 returns c =
     let x = c.args.e.now in
-    let e : map literals_of (beside_end_rules (edge_lits x.first x.high x.width) c.args.west.now c.args.east.now x.high) ≡ c.two.result ∷ c.two-2.result ∷ c.two-3.result ∷ c.two-4.result ∷ [] = search rules in
+    let e : map literals_of (beside_end_rules (edge_lits x.first x.high x.width) c.args.west.now c.args.east.now x.high) ≡ c.two.result ∷ c.two-2.result
+    ∷ c.two-3.result ∷ c.two-4.result ∷ [] = search rules in
     adds_lists c.add_all.result _ _ _ _ 5 e c.add_all.ensures

@@ -16,7 +16,10 @@ add_all-requires c =
     let p = c.requires.placed.spot in
     let there = c.requires.there in
     let e : map literals_of (end_rules (edge_lits x.first x.high x.width)) ≡ c.two.result ∷ c.two-2.result ∷ [] = search rules in
-    record { within = subst (λ (ls : List (List LitOrTruth)). AllWithin c.args.f.now.vars ls) e (end_within vars l (whole_literals x.first x.high x.width vars p there)) }
+    record {
+      within = subst (λ (ls : List (List LitOrTruth)). AllWithin c.args.f.now.vars ls) e
+          (end_within vars l (whole_literals x.first x.high x.width vars p there));
+    }
 
 pub returns : goal.returns
 returns c =

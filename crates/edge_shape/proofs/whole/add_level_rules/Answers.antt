@@ -15,11 +15,17 @@ add_all-requires c =
     let l = edge_lits x.first x.high x.width in
     let p = c.requires.placed.spot in
     let there = c.requires.there in
-    let e : map literals_of (level_rules (edge_lits x.first x.high x.width) ((edge_lits x.first x.high x.width).seen (x.width - 1))) ≡ c.three.result ∷ c.three-2.result ∷ c.three-3.result ∷ c.three-4.result ∷ c.three-5.result ∷ c.three-6.result ∷ [] = search rules in
-    record { within = subst (λ (ls : List (List LitOrTruth)). AllWithin c.args.f.now.vars ls) e (level_within vars l (l.seen (x.width - 1)) (whole_literals x.first x.high x.width vars p there) (let some = p.some_columns in column_there x.first x.high x.width vars (x.width - 1) 3 p there (omega (arith, some)) (omega arith))) }
+    let e : map literals_of (level_rules (edge_lits x.first x.high x.width) ((edge_lits x.first x.high x.width).seen (x.width - 1))) ≡ c.three.result
+    ∷ c.three-2.result ∷ c.three-3.result ∷ c.three-4.result ∷ c.three-5.result ∷ c.three-6.result ∷ [] = search rules in
+    record {
+      within = subst (λ (ls : List (List LitOrTruth)). AllWithin c.args.f.now.vars ls) e
+          (level_within vars l (l.seen (x.width - 1)) (whole_literals x.first x.high x.width vars p there)
+          (let some = p.some_columns in column_there x.first x.high x.width vars (x.width - 1) 3 p there (omega (arith, some)) (omega arith)));
+    }
 
 pub returns : goal.returns
 returns c =
     let x = c.args.e.now in
-    let e : map literals_of (level_rules (edge_lits x.first x.high x.width) ((edge_lits x.first x.high x.width).seen (x.width - 1))) ≡ c.three.result ∷ c.three-2.result ∷ c.three-3.result ∷ c.three-4.result ∷ c.three-5.result ∷ c.three-6.result ∷ [] = search rules in
+    let e : map literals_of (level_rules (edge_lits x.first x.high x.width) ((edge_lits x.first x.high x.width).seen (x.width - 1))) ≡ c.three.result
+    ∷ c.three-2.result ∷ c.three-3.result ∷ c.three-4.result ∷ c.three-5.result ∷ c.three-6.result ∷ [] = search rules in
     adds_lists c.add_all.result _ _ _ _ 5 e c.add_all.ensures

@@ -15,11 +15,17 @@ add_all-requires c =
     let l = edge_lits x.first x.high x.width in
     let p = c.requires.placed.spot in
     let there = c.requires.there in
-    let e : map literals_of (slope_rules (edge_lits x.first x.high x.width) c.args.west.now c.args.east.now c.args.c) ≡ c.four.result ∷ c.four-2.result ∷ c.four-3.result ∷ c.four-4.result ∷ c.four-5.result ∷ c.four-6.result ∷ c.four-7.result ∷ c.four-8.result ∷ [] = search rules in
-    record { within = subst (λ (ls : List (List LitOrTruth)). AllWithin c.args.f.now.vars ls) e (slope_within vars l c.args.west.now c.args.east.now c.args.c (whole_literals x.first x.high x.width vars p there) (step_literals x.first x.high x.width vars c.args.c p there c.requires.c) c.requires.west c.requires.east) }
+    let e : map literals_of (slope_rules (edge_lits x.first x.high x.width) c.args.west.now c.args.east.now c.args.c) ≡ c.four.result ∷ c.four-2.result
+    ∷ c.four-3.result ∷ c.four-4.result ∷ c.four-5.result ∷ c.four-6.result ∷ c.four-7.result ∷ c.four-8.result ∷ [] = search rules in
+    record {
+      within = subst (λ (ls : List (List LitOrTruth)). AllWithin c.args.f.now.vars ls) e
+          (slope_within vars l c.args.west.now c.args.east.now c.args.c (whole_literals x.first x.high x.width vars p there)
+          (step_literals x.first x.high x.width vars c.args.c p there c.requires.c) c.requires.west c.requires.east);
+    }
 
 pub returns : goal.returns
 returns c =
     let x = c.args.e.now in
-    let e : map literals_of (slope_rules (edge_lits x.first x.high x.width) c.args.west.now c.args.east.now c.args.c) ≡ c.four.result ∷ c.four-2.result ∷ c.four-3.result ∷ c.four-4.result ∷ c.four-5.result ∷ c.four-6.result ∷ c.four-7.result ∷ c.four-8.result ∷ [] = search rules in
+    let e : map literals_of (slope_rules (edge_lits x.first x.high x.width) c.args.west.now c.args.east.now c.args.c) ≡ c.four.result ∷ c.four-2.result
+    ∷ c.four-3.result ∷ c.four-4.result ∷ c.four-5.result ∷ c.four-6.result ∷ c.four-7.result ∷ c.four-8.result ∷ [] = search rules in
     adds_lists c.add_all.result _ _ _ _ 5 e c.add_all.ensures

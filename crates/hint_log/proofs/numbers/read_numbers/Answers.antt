@@ -4,24 +4,35 @@ use Rattle.hint_log.proofs.NumbersLemmas.{lacks_at_field, lacks_at_end, read_mor
 use Rattle.hint_log.proofs.numbers.read_numbers.Goals as goal
 
 pub returns-then-not-is_number-clause-fault : goal.returns-then-not-is_number-clause-fault
-returns-then-not-is_number-clause-fault c =
-    (refl, lacks_at_field c.args.text.now c.loop-field.rest.now c.in-Some.field.now c.in-Some.after.now c.loop-field.right c.loop-field.numbers.items c.loop-field.invariant c.in-Some.ensures (λ n. false≢true (c.if-not-is_number.ensures.1 n)))
+returns-then-not-is_number-clause-fault c = (
+  refl,
+  lacks_at_field c.args.text.now c.loop-field.rest.now c.in-Some.field.now c.in-Some.after.now c.loop-field.right c.loop-field.numbers.items
+      c.loop-field.invariant c.in-Some.ensures (λ n. false≢true (c.if-not-is_number.ensures.1 n)),
+)
 
 pub loop-field-preserved-then-not-branch : goal.loop-field-preserved-then-not-branch
 loop-field-preserved-then-not-branch c =
     let wrong = rw c.if-not-branch.true at c.in_ok-add_number.ensures in
-    read_wrong c.args.text.now c.loop-field.rest.now c.in-Some.field.now c.in-Some.after.now c.loop-field.right c.loop-field.numbers.items c.add_number.new.numbers.items c.loop-field.invariant c.in-Some.ensures (c.if-not-is_number.ensures.0 refl) wrong
+    read_wrong c.args.text.now c.loop-field.rest.now c.in-Some.field.now c.in-Some.after.now c.loop-field.right c.loop-field.numbers.items
+    c.add_number.new.numbers.items c.loop-field.invariant c.in-Some.ensures (c.if-not-is_number.ensures.0 refl) wrong
 
 pub loop-field-preserved : goal.loop-field-preserved
 loop-field-preserved c =
     let right = rw c.if-not-branch.false at c.in_ok-add_number.ensures in
-    read_more c.args.text.now c.loop-field.rest.now c.in-Some.field.now c.in-Some.after.now c.loop-field.right c.loop-field.numbers.items c.add_number.new.numbers.items c.loop-field.invariant c.in-Some.ensures (c.if-not-is_number.ensures.0 refl) right
+    read_more c.args.text.now c.loop-field.rest.now c.in-Some.field.now c.in-Some.after.now c.loop-field.right c.loop-field.numbers.items
+    c.add_number.new.numbers.items c.loop-field.invariant c.in-Some.ensures (c.if-not-is_number.ensures.0 refl) right
 
 pub returns-then-not-is_end-clause-fault : goal.returns-then-not-is_end-clause-fault
-returns-then-not-is_end-clause-fault c =
-    (refl, lacks_at_end c.args.text.now c.loop-field.rest.now c.loop-field.right c.loop-field.numbers.items c.loop-field.invariant c.in_default.ensures (λ e. false≢true (c.if-not-is_end.ensures.1 e)))
+returns-then-not-is_end-clause-fault c = (
+  refl,
+  lacks_at_end c.args.text.now c.loop-field.rest.now c.loop-field.right c.loop-field.numbers.items c.loop-field.invariant c.in_default.ensures
+      (λ e. false≢true (c.if-not-is_end.ensures.1 e)),
+)
 
 pub returns-then-is_empty-clause-fault : goal.returns-then-is_empty-clause-fault
 returns-then-is_empty-clause-fault c =
-    let none : length c.loop-field.numbers.items ≡ 0 = search rules in
-    (refl, no_numbers c.args.text.now c.loop-field.rest.now c.loop-field.right c.loop-field.numbers.items c.loop-field.invariant (c.if-not-is_end.ensures.0 refl) c.if-not-right.false none)
+    let none : length c.loop-field.numbers.items ≡ 0 = search rules in (
+      refl,
+      no_numbers c.args.text.now c.loop-field.rest.now c.loop-field.right c.loop-field.numbers.items c.loop-field.invariant
+          (c.if-not-is_end.ensures.0 refl) c.if-not-right.false none,
+    )

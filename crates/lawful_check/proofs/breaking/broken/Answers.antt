@@ -1,7 +1,8 @@
 use Rattle.std.proofs.Common.{refl, None}
 use Rattle.plan_core.specs.Lawful.{Ordered, Joined, Aligned, Over, Parted}
 use Rattle.track_order.specs.Order.{is_above}
-use Rattle.lawful_check.proofs.BreakLemmas.{Asked, begins, next, of_ordered, of_joined, of_aligned, of_over, of_parted, searched_on_grid, searched_lines, searched_nodes, searched_edge, searched_node, searched_apart, searched_edges, all_judged}
+use Rattle.lawful_check.proofs.BreakLemmas.{Asked, begins, next, of_ordered, of_joined, of_aligned, of_over, of_parted, searched_on_grid, searched_lines}
+use Rattle.lawful_check.proofs.BreakLemmas.{searched_nodes, searched_edge, searched_node, searched_apart, searched_edges, all_judged}
 use Rattle.lawful_check.proofs.breaking.broken.Goals as goal
 
 pub returns : goal.returns

@@ -5,7 +5,8 @@ use Rattle.plan_core.specs.Lawful.{IsOtherPair}
 use Rattle.track_order.specs.Order.{is_above}
 use Rattle.lawful_check.proofs.HoldingLemmas.{pair_from, pair_on, row_ends}
 use Rattle.std.proofs.lemmas.Bool.{both_ways}
-use Rattle.lawful_check.proofs.edge_laws.not_parted.Goals.{else-are_unordered-via-then-are_unordered+else-not-are_parted, else-are_unordered-via-else-are_unordered}
+use Rattle.lawful_check.proofs.edge_laws.not_parted.Goals.{else-are_unordered-via-then-are_unordered+else-not-are_parted}
+use Rattle.lawful_check.proofs.edge_laws.not_parted.Goals.{else-are_unordered-via-else-are_unordered}
 use Rattle.lawful_check.proofs.edge_laws.not_parted.Goals as goal
 
 pub loop-f-init : goal.loop-f-init

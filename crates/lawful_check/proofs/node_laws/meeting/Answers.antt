@@ -6,4 +6,6 @@ use Rattle.lawful_check.proofs.HoldingLemmas.{pairs_end}
 use Rattle.lawful_check.proofs.node_laws.meeting.Goals as goal
 
 pub returns : goal.returns
-returns c = pairs_end (IsPair (length c.args.d.now.places)) (NodesAreApart c.args.d.now) c.loop-u.u (λ a b past is. let one = is.rising in let two = is.within in omega (arith, one, two, past, c.loop-u-test.false, c.nodes-u-end.ensures.value)) c.loop-u.invariant
+returns c = pairs_end (IsPair (length c.args.d.now.places)) (NodesAreApart c.args.d.now) c.loop-u.u
+    (λ a b past is. let one = is.rising in let two = is.within in omega (arith, one, two, past, c.loop-u-test.false, c.nodes-u-end.ensures.value))
+    c.loop-u.invariant

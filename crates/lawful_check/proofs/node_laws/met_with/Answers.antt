@@ -6,10 +6,14 @@ use Rattle.lawful_check.proofs.HoldingLemmas.{pair_from, pair_on, row_ends}
 use Rattle.lawful_check.proofs.node_laws.met_with.Goals as goal
 
 pub loop-v-init : goal.loop-v-init
-loop-v-init c = pair_from (IsPair (length c.args.d.now.places)) (NodesAreApart c.args.d.now) c.args.u (c.args.u + 1) (λ b less is. let rising = is.rising in omega (arith, rising, less)) c.requires.before
+loop-v-init c = pair_from (IsPair (length c.args.d.now.places)) (NodesAreApart c.args.d.now) c.args.u (c.args.u + 1)
+    (λ b less is. let rising = is.rising in omega (arith, rising, less)) c.requires.before
 
 pub loop-v-preserved : goal.loop-v-preserved
-loop-v-preserved c = pair_on (IsPair (length c.args.d.now.places)) (NodesAreApart c.args.d.now) c.args.u c.loop-v.v c.loop-v.invariant (record { met = λ is. c.are_apart.ensures.0 c.if-not-are_apart.false })
+loop-v-preserved c = pair_on (IsPair (length c.args.d.now.places)) (NodesAreApart c.args.d.now) c.args.u c.loop-v.v c.loop-v.invariant (record {
+  met = λ is. c.are_apart.ensures.0 c.if-not-are_apart.false;
+})
 
 pub returns : goal.returns
-returns c = row_ends (IsPair (length c.args.d.now.places)) (NodesAreApart c.args.d.now) c.args.u c.loop-v.v (λ b past is. let within = is.within in omega (arith, within, past, c.loop-v-test.false, c.nodes-count.ensures.value)) c.loop-v.invariant
+returns c = row_ends (IsPair (length c.args.d.now.places)) (NodesAreApart c.args.d.now) c.args.u c.loop-v.v
+    (λ b past is. let within = is.within in omega (arith, within, past, c.loop-v-test.false, c.nodes-count.ensures.value)) c.loop-v.invariant

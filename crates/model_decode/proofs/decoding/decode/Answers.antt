@@ -21,7 +21,8 @@ decode_loose-requires-clause-vars c =
 
 pub decode_loose-requires-clause-model : goal.decode_loose-requires-clause-model
 decode_loose-requires-clause-model c =
-    lent_holds c.args.e.now (assignment c.args.m.now) c.graph-graph.result.now c.grid-grid.result.now c.graph-graph.ensures c.grid-grid.ensures c.requires.whole c.requires.model
+    lent_holds c.args.e.now (assignment c.args.m.now) c.graph-graph.result.now c.grid-grid.result.now c.graph-graph.ensures c.grid-grid.ensures c.requires.whole
+    c.requires.model
 
 pub returns-clause-stands : goal.returns-clause-stands
 returns-clause-stands c =
@@ -33,7 +34,8 @@ returns-clause-stands c =
     let size = subst (λ (d : GridSize). IsGrid d) c.grid-grid.ensures c.width.ensures.is_grid in
     IfOk-weaker c.decode_loose.result (λ (b : Drawing). (other : Drawing) → IsJoinedOnGrid g grid other → StandsFor v g (drawing_vars g grid) other → other ≡ b)
     (λ (b : Drawing). StandsFor v e.graph (encoded_vars e) b)
-    (λ b same. (decoded e v is size c.requires.whole c.requires.model b (lent_alone e v g grid b c.graph-graph.ensures c.grid-grid.ensures same)).stands) c.decode_loose.ensures.alone
+    (λ b same. (decoded e v is size c.requires.whole c.requires.model b (lent_alone e v g grid b c.graph-graph.ensures c.grid-grid.ensures same)).stands)
+    c.decode_loose.ensures.alone
 
 pub returns-clause-lawful : goal.returns-clause-lawful
 returns-clause-lawful c =
@@ -45,7 +47,8 @@ returns-clause-lawful c =
     let size = subst (λ (d : GridSize). IsGrid d) c.grid-grid.ensures c.width.ensures.is_grid in
     IfOk-weaker c.decode_loose.result (λ (b : Drawing). (other : Drawing) → IsJoinedOnGrid g grid other → StandsFor v g (drawing_vars g grid) other → other ≡ b)
     (λ (b : Drawing). Lawful e.graph (is_above e.order) e.grid b)
-    (λ b same. (decoded e v is size c.requires.whole c.requires.model b (lent_alone e v g grid b c.graph-graph.ensures c.grid-grid.ensures same)).lawful) c.decode_loose.ensures.alone
+    (λ b same. (decoded e v is size c.requires.whole c.requires.model b (lent_alone e v g grid b c.graph-graph.ensures c.grid-grid.ensures same)).lawful)
+    c.decode_loose.ensures.alone
 
 pub returns-clause-tells : goal.returns-clause-tells
 returns-clause-tells c =
@@ -57,7 +60,8 @@ returns-clause-tells c =
     let size = subst (λ (d : GridSize). IsGrid d) c.grid-grid.ensures c.width.ensures.is_grid in
     IfOk-weaker c.decode_loose.result (λ (b : Drawing). (other : Drawing) → IsJoinedOnGrid g grid other → StandsFor v g (drawing_vars g grid) other → other ≡ b)
     (λ (b : Drawing). Tells v (values_of b) e.bounds)
-    (λ b same. (decoded e v is size c.requires.whole c.requires.model b (lent_alone e v g grid b c.graph-graph.ensures c.grid-grid.ensures same)).tells) c.decode_loose.ensures.alone
+    (λ b same. (decoded e v is size c.requires.whole c.requires.model b (lent_alone e v g grid b c.graph-graph.ensures c.grid-grid.ensures same)).tells)
+    c.decode_loose.ensures.alone
 
 pub returns-clause-alone : goal.returns-clause-alone
 returns-clause-alone c =
@@ -69,4 +73,5 @@ returns-clause-alone c =
     let size = subst (λ (d : GridSize). IsGrid d) c.grid-grid.ensures c.width.ensures.is_grid in
     IfOk-weaker c.decode_loose.result (λ (b : Drawing). (other : Drawing) → IsJoinedOnGrid g grid other → StandsFor v g (drawing_vars g grid) other → other ≡ b)
     (λ (b : Drawing). (other : Drawing) → Lawful e.graph (is_above e.order) e.grid other → StandsFor v e.graph (encoded_vars e) other → other ≡ b)
-    (λ b same. (decoded e v is size c.requires.whole c.requires.model b (lent_alone e v g grid b c.graph-graph.ensures c.grid-grid.ensures same)).alone) c.decode_loose.ensures.alone
+    (λ b same. (decoded e v is size c.requires.whole c.requires.model b (lent_alone e v g grid b c.graph-graph.ensures c.grid-grid.ensures same)).alone)
+    c.decode_loose.ensures.alone

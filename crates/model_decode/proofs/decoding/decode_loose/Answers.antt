@@ -30,7 +30,8 @@ returns-clause-reads c =
     let g = c.args.g.now in
     let grid = c.args.grid.now in
     let v = assignment c.args.m.now in
-    IfOk-weaker c.read_drawing.result (λ (b : Drawing). (d : Drawing) → IsReadAs g grid v d → b ≡ d) (λ (b : Drawing). ReadsDrawing v g (drawing_vars g grid) grid.width b)
+    IfOk-weaker c.read_drawing.result (λ (b : Drawing). (d : Drawing) → IsReadAs g grid v d → b ≡ d)
+    (λ (b : Drawing). ReadsDrawing v g (drawing_vars g grid) grid.width b)
     (λ b same. (loose_decoded g grid v c.nodes.ensures.station.track_graph c.width.ensures.is_grid c.requires.model b same).reads) c.read_drawing.ensures
 
 pub returns-clause-stands : goal.returns-clause-stands
@@ -46,5 +47,6 @@ returns-clause-alone c =
     let g = c.args.g.now in
     let grid = c.args.grid.now in
     let v = assignment c.args.m.now in
-    IfOk-weaker c.read_drawing.result (λ (b : Drawing). (d : Drawing) → IsReadAs g grid v d → b ≡ d) (λ (b : Drawing). (other : Drawing) → IsJoinedOnGrid g grid other → StandsFor v g (drawing_vars g grid) other → other ≡ b)
+    IfOk-weaker c.read_drawing.result (λ (b : Drawing). (d : Drawing) → IsReadAs g grid v d → b ≡ d)
+    (λ (b : Drawing). (other : Drawing) → IsJoinedOnGrid g grid other → StandsFor v g (drawing_vars g grid) other → other ≡ b)
     (λ b same. (loose_decoded g grid v c.nodes.ensures.station.track_graph c.width.ensures.is_grid c.requires.model b same).alone) c.read_drawing.ensures

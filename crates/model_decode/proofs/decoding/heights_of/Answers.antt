@@ -34,7 +34,8 @@ push-requires c =
 
 pub loop-c-preserved : goal.loop-c-preserved
 loop-c-preserved c =
-    one_height (assignment c.args.m.now) (lits_of c.args.vars.now).height c.loop-c.heights.items c.push.new.self.items c.number_of.result c.loop-c.c c.loop-c.invariant c.push.ensures.items
+    one_height (assignment c.args.m.now) (lits_of c.args.vars.now).height c.loop-c.heights.items c.push.new.self.items c.number_of.result c.loop-c.c
+    c.loop-c.invariant c.push.ensures.items
     (subst (λ (i : IntVars). Reads (assignment c.args.m.now) i c.number_of.result) c.height.ensures.value c.number_of.ensures)
 
 pub returns : goal.returns

@@ -10,7 +10,8 @@ loop-k-preserved c = λ d is.
     let to = c.loop-k-test.true in
     let end = c.edges-end.ensures.value in
     let size = is.loose.fits.size.lines in
-    one_taken d.lines c.loop-k.lines.items c.push.new.self.items c.loop-k.k c.line_of.result [] (omega arith) (c.loop-k.invariant d is) c.in_ok-push.ensures.items (c.line_of.ensures d is)
+    one_taken d.lines c.loop-k.lines.items c.push.new.self.items c.loop-k.k c.line_of.result [] (omega arith) (c.loop-k.invariant d is)
+    c.in_ok-push.ensures.items (c.line_of.ensures d is)
 
 pub returns : goal.returns
 returns c = λ d is.

@@ -11,7 +11,8 @@ loop-n-preserved c = λ d is.
     let to = c.loop-n-test.true in
     let end = c.nodes-end.ensures.value in
     let size = is.loose.fits.size.places in
-    one_taken d.places c.loop-n.places.items c.push.new.self.items c.loop-n.n c.place_of.result origin (omega arith) (c.loop-n.invariant d is) c.in_ok-push.ensures.items (c.place_of.ensures d is)
+    one_taken d.places c.loop-n.places.items c.push.new.self.items c.loop-n.n c.place_of.result origin (omega arith) (c.loop-n.invariant d is)
+    c.in_ok-push.ensures.items (c.place_of.ensures d is)
 
 pub returns : goal.returns
 returns c = λ d is.

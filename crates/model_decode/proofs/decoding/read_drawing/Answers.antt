@@ -29,5 +29,7 @@ new-requires-clause-lines c =
 
 pub returns : goal.returns
 returns c =
-    IfOk-weaker c.new.result (λ (b : Drawing). b ≡ drawing c.deref.result.now c.deref-2.result.now) (λ (b : Drawing). (d : Drawing) → IsReadAs c.args.g.now c.args.grid.now (assignment c.args.m.now) d → b ≡ d)
-    (λ b made d is. made ∙ same_drawing c.deref.result.now c.deref-2.result.now d (c.deref.ensures.value ∙ c.in_ok-places.ensures d is) (c.deref-2.ensures.value ∙ c.in_ok-lines.ensures d is)) c.new.ensures
+    IfOk-weaker c.new.result (λ (b : Drawing). b ≡ drawing c.deref.result.now c.deref-2.result.now)
+    (λ (b : Drawing). (d : Drawing) → IsReadAs c.args.g.now c.args.grid.now (assignment c.args.m.now) d → b ≡ d)
+    (λ b made d is. made ∙ same_drawing c.deref.result.now c.deref-2.result.now d (c.deref.ensures.value ∙ c.in_ok-places.ensures d is)
+    (c.deref-2.ensures.value ∙ c.in_ok-lines.ensures d is)) c.new.ensures

@@ -5,4 +5,5 @@ use Rattle.order_int.proofs.IntLemmas.{chain-links}
 use Rattle.order_int.proofs.integer.add_chain.Goals as goal
 
 pub returns : goal.returns
-returns c = subst (λ (cs : Clauses). AddsClauses c.add_links.result c.args.f.now c.add_links.new.f cs 2) (sym (chain-links c.args.first c.args.n c.if-n-eq0.false)) c.add_links.ensures
+returns c = subst (λ (cs : Clauses). AddsClauses c.add_links.result c.args.f.now c.add_links.new.f cs 2)
+    (sym (chain-links c.args.first c.args.n c.if-n-eq0.false)) c.add_links.ensures

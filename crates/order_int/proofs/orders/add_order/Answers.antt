@@ -4,7 +4,8 @@ use Rattle.order_int.proofs.orders.add_order.Goals as goal
 
 pub returns-in_err-add_le_clause : goal.returns-in_err-add_le_clause
 returns-in_err-add_le_clause c =
-    adding_refused c.add_le_clause.result c.from_residual.result _ _ _ _ _ _ _ _ c.from_residual.ensures.0 (λ k. search (rules, k)) c.loop-k-test.true c.loop-k.invariant c.add_le_clause.ensures
+    adding_refused c.add_le_clause.result c.from_residual.result _ _ _ _ _ _ _ _ c.from_residual.ensures.0 (λ k. search (rules, k)) c.loop-k-test.true
+    c.loop-k.invariant c.add_le_clause.ensures
 
 pub loop-k-preserved : goal.loop-k-preserved
 loop-k-preserved c = adding_more _ _ _ _ _ _ _ _ _ c.loop-k-test.true c.loop-k.invariant c.in_ok-add_le_clause.ensures

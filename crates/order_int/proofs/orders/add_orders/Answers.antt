@@ -3,7 +3,8 @@ use Rattle.cnf_core.proofs.StepLemmas.{adds_refused, adds_after}
 use Rattle.order_int.proofs.orders.add_orders.Goals as goal
 
 pub returns-in_err-add_order : goal.returns-in_err-add_order
-returns-in_err-add_order c = adds_refused c.add_order.result c.from_residual.result _ _ _ _ _ c.from_residual.ensures.0 (λ k. search (rules, k)) c.add_order.ensures
+returns-in_err-add_order c = adds_refused c.add_order.result c.from_residual.result _ _ _ _ _ c.from_residual.ensures.0 (λ k. search (rules, k))
+    c.add_order.ensures
 
 pub returns : goal.returns
 returns c = adds_after _ c.add_order-2.result _ _ _ _ _ _ c.in_ok-add_order.ensures c.add_order-2.ensures

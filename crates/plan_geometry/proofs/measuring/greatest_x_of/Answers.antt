@@ -8,5 +8,6 @@ pub loop-line-preserved : goal.loop-line-preserved
 loop-line-preserved c =
     let line : List Point = c.line-item.result in
     let step = greatest_step (λ p. p.x) c.args.lines.now c.loop-line.line-index line c.loop-line-test.true in
-    let here : c.greatest_x.result ≡ maximum (map (λ p. p.x) (get_or c.args.lines.now c.loop-line.line-index line)) = c.greatest_x.ensures ∙ ap (λ (xs : List Point). maximum (map (λ p. p.x) xs)) (c.points.ensures.value ∙ c.line-item.is) in
+    let here : c.greatest_x.result ≡ maximum (map (λ p. p.x) (get_or c.args.lines.now c.loop-line.line-index line)) = c.greatest_x.ensures
+    ∙ ap (λ (xs : List Point). maximum (map (λ p. p.x) xs)) (c.points.ensures.value ∙ c.line-item.is) in
     omega (arith, step, here, c.max-most.ensures, c.loop-line.invariant)

@@ -11,7 +11,12 @@ writable c = record {
   station = c.nodes.ensures.station;
   names = c.names.ensures;
   tracks = c.tracks.ensures;
-  kept = subst IsKept c.s.view_is (record { is_grid = c.width.ensures.is_grid; is_order = c.len.ensures.is_order; are_lines = c.lines.ensures; may_end = c.s.invariant });
+  kept = subst IsKept c.s.view_is (record {
+    is_grid = c.width.ensures.is_grid;
+    is_order = c.len.ensures.is_order;
+    are_lines = c.lines.ensures;
+    may_end = c.s.invariant;
+  });
   draws_all = c.requires.draws_all;
   on_grid = c.requires.on_grid;
   settled = c.requires.settled;

@@ -11,4 +11,5 @@ returns-in_err-number c =
     (no_number c.args.text.now c.in_ok-field.field.now c.in_ok-field.rest.now c.in_ok-field.ensures c.in_err-number.ensures)
 
 pub returns : goal.returns
-returns c = number_at c.args.text.now c.in_ok-field.field.now c.in_ok-field.rest.now c.in_ok-number.number c.in_ok-field.ensures c.in_ok-number.ensures.0 c.in_ok-number.ensures.1
+returns c = number_at c.args.text.now c.in_ok-field.field.now c.in_ok-field.rest.now c.in_ok-number.number c.in_ok-field.ensures c.in_ok-number.ensures.0
+    c.in_ok-number.ensures.1

@@ -16,7 +16,9 @@ pub returns-in_err-width : goal.returns-in_err-width
 returns-in_err-width c =
     none_at c.from_residual-in_err-width.result _ _ c.from_residual-in_err-width.ensures
     (λ needs_drawing line begins. let t = tells_grid c.args.edition needs_drawing c.args.text.now line begins in
-    c.in_err-width.ensures t.grid (c.as_slice.ensures.value ∙ (numbers_once (codes "grid") c.in_ok-numbers.numbers.items (grid_numbers c.args.edition t.grid) c.in_ok-numbers.rest.now t.behind c.in_ok-numbers.ensures.0 t.form.0 (sym c.in_ok-numbers.ensures.1 ∙ t.spelled)).values))
+    c.in_err-width.ensures t.grid (c.as_slice.ensures.value ∙ (numbers_once (codes "grid") c.in_ok-numbers.numbers.items (grid_numbers c.args.edition t.grid)
+    c.in_ok-numbers.rest.now t.behind c.in_ok-numbers.ensures.0 t.form.0 (sym c.in_ok-numbers.ensures.1 ∙ t.spelled)).values))
 
 pub returns : goal.returns
-returns c = grid_read c.args.edition c.args.text.now c.in_ok-numbers.rest.now c.in_ok-numbers.numbers.items c.as_slice.result.now _ c.in_ok-numbers.ensures.0 c.in_ok-numbers.ensures.1 c.as_slice.ensures.value c.in_ok-width.ensures.0 c.in_ok-width.ensures.1
+returns c = grid_read c.args.edition c.args.text.now c.in_ok-numbers.rest.now c.in_ok-numbers.numbers.items c.as_slice.result.now _ c.in_ok-numbers.ensures.0
+    c.in_ok-numbers.ensures.1 c.as_slice.ensures.value c.in_ok-width.ensures.0 c.in_ok-width.ensures.1

@@ -3,10 +3,12 @@ use Rattle.plan_text.proofs.FormLemmas.{option_both, no_two_numbers, two_numbers
 use Rattle.plan_text.proofs.sheet_lines.grid_of.Goals as goal
 
 pub returns-in_err-width-in-First : goal.returns-in_err-width-in-First
-returns-in_err-width-in-First c = none_at c.from_residual.result _ _ c.from_residual.ensures (no_two_numbers c.args.edition c.in-First.is c.args.numbers.now c.in_err-width-in-First.ensures)
+returns-in_err-width-in-First c = none_at c.from_residual.result _ _ c.from_residual.ensures
+    (no_two_numbers c.args.edition c.in-First.is c.args.numbers.now c.in_err-width-in-First.ensures)
 
 pub returns-in_ok-width-in-First : goal.returns-in_ok-width-in-First
-returns-in_ok-width-in-First c = two_numbers c.args.edition c.in-First.is c.args.numbers.now c.in_ok-width-in-First.width c.in_ok-width-in-First.height c.in_ok-width-in-First.ensures
+returns-in_ok-width-in-First c = two_numbers c.args.edition c.in-First.is c.args.numbers.now c.in_ok-width-in-First.width c.in_ok-width-in-First.height
+    c.in_ok-width-in-First.ensures
 
 pub returns-in-Second : goal.returns-in-Second
 returns-in-Second c =

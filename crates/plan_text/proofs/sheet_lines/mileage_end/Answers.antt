@@ -7,7 +7,8 @@ returns-in_err-mileage c = none_at c.from_residual.result _ _ c.from_residual.en
 
 pub returns-then-not-is_mileage : goal.returns-then-not-is_mileage
 returns-then-not-is_mileage c =
-    no_mileage c.args.text.now c.in_ok-mileage.mileage.now c.in_ok-mileage.rest.now c.in_ok-mileage.ensures (mileage_false c.in_ok-mileage.mileage.now c.is_mileage.result c.is_mileage.ensures c.if-not-is_mileage.true)
+    no_mileage c.args.text.now c.in_ok-mileage.mileage.now c.in_ok-mileage.rest.now c.in_ok-mileage.ensures
+    (mileage_false c.in_ok-mileage.mileage.now c.is_mileage.result c.is_mileage.ensures c.if-not-is_mileage.true)
 
 pub returns-in_err-rest : goal.returns-in_err-rest
 returns-in_err-rest c =
@@ -15,4 +16,8 @@ returns-in_err-rest c =
     (no_feed_behind c.args.text.now c.in_ok-mileage.mileage.now c.in_ok-mileage.rest.now c.in_ok-mileage.ensures c.in_err-rest.ensures)
 
 pub returns : goal.returns
-returns c = (c.is_mileage.ensures.0 c.if-not-is_mileage.false, mileage_at c.args.text.now c.in_ok-mileage.mileage.now c.in_ok-mileage.rest.now c.in_ok-rest.rest.now c.in_ok-mileage.ensures c.in_ok-rest.ensures)
+returns c = (
+  c.is_mileage.ensures.0 c.if-not-is_mileage.false,
+  mileage_at c.args.text.now c.in_ok-mileage.mileage.now c.in_ok-mileage.rest.now
+      c.in_ok-rest.rest.now c.in_ok-mileage.ensures c.in_ok-rest.ensures,
+)

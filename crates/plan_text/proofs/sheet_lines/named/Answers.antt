@@ -13,7 +13,9 @@ returns-in_err-number c =
 pub returns-in_err-name : goal.returns-in_err-name
 returns-in_err-name c =
     none_at c.from_residual-in_err-name.result _ _ c.from_residual-in_err-name.ensures
-    (no_name_named c.args.text.now c.args.word.now c.in_ok-rest.rest.now c.in_ok-number.rest.now c.in_ok-number.number c.in_ok-rest.ensures c.in_ok-number.ensures c.in_err-name.ensures)
+    (no_name_named c.args.text.now c.args.word.now c.in_ok-rest.rest.now c.in_ok-number.rest.now c.in_ok-number.number c.in_ok-rest.ensures
+    c.in_ok-number.ensures c.in_err-name.ensures)
 
 pub returns : goal.returns
-returns c = is_named c.args.text.now c.args.word.now c.in_ok-rest.rest.now c.in_ok-number.rest.now c.in_ok-number.number c.in_ok-name.name.now c.in_ok-name.rest.now c.in_ok-rest.ensures c.in_ok-number.ensures c.in_ok-name.ensures
+returns c = is_named c.args.text.now c.args.word.now c.in_ok-rest.rest.now c.in_ok-number.rest.now c.in_ok-number.number c.in_ok-name.name.now
+    c.in_ok-name.rest.now c.in_ok-rest.ensures c.in_ok-number.ensures c.in_ok-name.ensures

@@ -11,4 +11,5 @@ returns-in_err-numbers c =
 pub returns-in_err-n : goal.returns-in_err-n
 returns-in_err-n c =
     none_at c.from_residual-in_err-n.result _ _ c.from_residual-in_err-n.ensures
-    (λ n rest small e. c.in_err-n.ensures n (c.as_slice.ensures.value ∙ (numbers_once c.args.front.now c.in_ok-numbers.numbers.items (n ∷ []) c.in_ok-numbers.rest.now rest c.in_ok-numbers.ensures.0 (small, tt) (sym c.in_ok-numbers.ensures.1 ∙ e)).values))
+    (λ n rest small e. c.in_err-n.ensures n (c.as_slice.ensures.value ∙ (numbers_once c.args.front.now c.in_ok-numbers.numbers.items (n ∷ [])
+    c.in_ok-numbers.rest.now rest c.in_ok-numbers.ensures.0 (small, tt) (sym c.in_ok-numbers.ensures.1 ∙ e)).values))

@@ -16,4 +16,6 @@ returns-in_err-height c =
     none_at c.from_residual-in_err-height.result _ _ c.from_residual-in_err-height.ensures
     (λ line begins. let t = tells_values c.args.text.now line begins in
     let v = t.values in
-    c.in_err-height.ensures v.height v.bends v.diagonal v.width (c.as_slice.ensures.value ∙ (numbers_once (codes "values") c.in_ok-numbers.numbers.items (v.height ∷ v.bends ∷ v.diagonal ∷ v.width ∷ []) c.in_ok-numbers.rest.now t.behind c.in_ok-numbers.ensures.0 t.form (sym c.in_ok-numbers.ensures.1 ∙ t.spelled)).values))
+    c.in_err-height.ensures v.height v.bends v.diagonal v.width (c.as_slice.ensures.value
+    ∙ (numbers_once (codes "values") c.in_ok-numbers.numbers.items (v.height ∷ v.bends ∷ v.diagonal ∷ v.width ∷ []) c.in_ok-numbers.rest.now t.behind
+    c.in_ok-numbers.ensures.0 t.form (sym c.in_ok-numbers.ensures.1 ∙ t.spelled)).values))

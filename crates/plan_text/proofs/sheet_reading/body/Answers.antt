@@ -9,11 +9,13 @@ returns-in_err-d c =
 pub returns-in_err-ending : goal.returns-in_err-ending
 returns-in_err-ending c =
     fails c.from_residual-in_err-ending.result _ _ c.in_err-ending.field-0.0 c.from_residual-in_err-ending.ensures.1
-    (end_fault_later c.args.edition c.args.g.now c.args.text.now c.in_ok-d.rest.now c.args.order.now c.in_ok-d.d c.in_err-ending.field-0.0 c.in_ok-d.ensures.0 c.in_ok-d.ensures.1 c.in_err-ending.ensures)
+    (end_fault_later c.args.edition c.args.g.now c.args.text.now c.in_ok-d.rest.now c.args.order.now c.in_ok-d.d c.in_err-ending.field-0.0 c.in_ok-d.ensures.0
+    c.in_ok-d.ensures.1 c.in_err-ending.ensures)
 
 pub returns : goal.returns
 returns c = (
   c.in_ok-d.ensures.0,
   c.in_ok-ending.ensures.0,
-  read_body c.args.edition c.args.g.now c.args.text.now c.in_ok-d.rest.now c.args.order.now c.in_ok-d.d c.in_ok-ending.ending c.in_ok-d.ensures.0 c.in_ok-d.ensures.1 c.in_ok-ending.ensures.1,
+  read_body c.args.edition c.args.g.now c.args.text.now c.in_ok-d.rest.now c.args.order.now c.in_ok-d.d c.in_ok-ending.ending c.in_ok-d.ensures.0
+      c.in_ok-d.ensures.1 c.in_ok-ending.ensures.1,
 )

@@ -5,4 +5,5 @@ use Rattle.plan_text.specs.SheetReading.{drawn_lines, AreReadTo}
 use Rattle.plan_text.proofs.sheet_reading.lines.Given as goal
 
 abbrev pub invariant-loop-e : goal.invariant-loop-e
-invariant-loop-e l = (length l.lines.items ≡ l.e) × ((before : List SheetLine) → AreReadTo l.g before (edge_due l.edition l.g 0) l.text (drawn_lines l.edition l.g 0 l.lines.items) l.rest)
+invariant-loop-e l = (length l.lines.items ≡ l.e) × ((before : List SheetLine) → AreReadTo l.g before (edge_due l.edition l.g 0) l.text
+    (drawn_lines l.edition l.g 0 l.lines.items) l.rest)

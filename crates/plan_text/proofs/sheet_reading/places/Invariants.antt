@@ -5,4 +5,5 @@ use Rattle.plan_text.specs.SheetReading.{placed_lines, AreReadTo}
 use Rattle.plan_text.proofs.sheet_reading.places.Given as goal
 
 abbrev pub invariant-loop-n : goal.invariant-loop-n
-invariant-loop-n l = (length l.places.items ≡ l.n) × ((before : List SheetLine) → AreReadTo l.g before (node_due l.edition l.g 0) l.text (placed_lines l.edition l.g 0 l.places.items) l.rest)
+invariant-loop-n l = (length l.places.items ≡ l.n) × ((before : List SheetLine) → AreReadTo l.g before (node_due l.edition l.g 0) l.text
+    (placed_lines l.edition l.g 0 l.places.items) l.rest)

@@ -16,7 +16,8 @@ returns-in_err-d c =
     let h = c.in_ok-edition in
     drawing_exactly c.args.g.now c.args.bytes.now c.from_residual-in_err-d.result
     (fails c.from_residual-in_err-d.result _ _ c.in_err-d.field-0.0 c.from_residual-in_err-d.ensures.1
-    (body_fault h.edition c.args.g.now true c.args.bytes.now h.rest.now h.grid h.order c.in_err-d.field-0.0 (h.ensures.1 c.args.g.now true) (c.in_err-d.ensures (head_lines h.edition h.grid h.order) (head_order h.edition h.grid h.order) refl)))
+    (body_fault h.edition c.args.g.now true c.args.bytes.now h.rest.now h.grid h.order c.in_err-d.field-0.0 (h.ensures.1 c.args.g.now true)
+    (c.in_err-d.ensures (head_lines h.edition h.grid h.order) (head_order h.edition h.grid h.order) refl)))
 
 pub returns : goal.returns
 returns c =
@@ -26,5 +27,6 @@ returns c =
       sheet = record { grid = h.grid; order = h.order; found = Some d.d; ending = d.field-0-1 };
       on_grid = refl;
       found = refl;
-      told = text_drawn h.edition c.args.g.now true c.args.bytes.now h.rest.now h.grid h.order d.d d.field-0-1 (h.ensures.1 c.args.g.now true) d.ensures.0 (d.ensures.2 (head_lines h.edition h.grid h.order) (head_order h.edition h.grid h.order) refl);
+      told = text_drawn h.edition c.args.g.now true c.args.bytes.now h.rest.now h.grid h.order d.d d.field-0-1 (h.ensures.1 c.args.g.now true) d.ensures.0
+          (d.ensures.2 (head_lines h.edition h.grid h.order) (head_order h.edition h.grid h.order) refl);
     })

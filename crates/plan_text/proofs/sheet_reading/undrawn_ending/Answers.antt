@@ -10,8 +10,10 @@ pub returns-in_err-nothing-in-Ok : goal.returns-in_err-nothing-in-Ok
 returns-in_err-nothing-in-Ok c =
     let told = c.in-Some.ensures in
     fails c.from_residual.result _ _ c.in_err-nothing-in-Ok.field-0.0 c.from_residual.ensures.1
-    (λ g edition before some. later_here g before (BodyDue edition false) c.args.text.now c.in-Some.rest.now (EndLine c.in-Ok.ending ∷ []) 4 5 c.in_err-nothing-in-Ok.field-0.0
-    (read_undrawn edition g before c.args.text.now c.in-Some.rest.now c.in-Ok.ending _ c.in-Ok.ensures.0 told.0 told.1 told.2 (c.in-Ok.ensures.1 (order_told before) some)) refl
+    (λ g edition before some. later_here g before (BodyDue edition false) c.args.text.now c.in-Some.rest.now (EndLine c.in-Ok.ending ∷ []) 4 5
+    c.in_err-nothing-in-Ok.field-0.0
+    (read_undrawn edition g before c.args.text.now c.in-Some.rest.now c.in-Ok.ending _ c.in-Ok.ensures.0 told.0 told.1 told.2
+    (c.in-Ok.ensures.1 (order_told before) some)) refl
     (c.in_err-nothing-in-Ok.ensures g (before ++ EndLine c.in-Ok.ending ∷ [])))
 
 pub returns-in-Err : goal.returns-in-Err

@@ -24,7 +24,8 @@ returns-clause-parts c =
     let P : List ℕ → Type 0 = λ text. IsPairText text c.in-Some.first c.in-Some.second in
     record {
       pair = c.name_at.result.now;
-      names = two_names (argument_names c.args.arguments.now) c.in_ok-name_copy.field-0 c.name_at.result.now (names_most Front c.args.arguments.now c.requires.sound) c.in_ok-name_copy.ensures c.name_at.ensures;
+      names = two_names (argument_names c.args.arguments.now) c.in_ok-name_copy.field-0 c.name_at.result.now
+          (names_most Front c.args.arguments.now c.requires.sound) c.in_ok-name_copy.ensures c.name_at.ensures;
       criteria = subst P c.as_str.ensures c.in-Some.ensures;
       width = c.grid_given.ensures.width;
       height = c.grid_given.ensures.height;

@@ -6,7 +6,8 @@ use Rattle.plan_words.specs.declared.option_values.OptionWord.TheVariants.{Width
 use Rattle.plan_words.proofs.building.grid_given.Goals as goal
 
 -- a limit that was computed is the limit
-at_limit : (least greatest computed : ℕ) (value : Option (List ℕ)) → computed ≡ greatest → MatchOption value ⊤ (λ text. (n : ℕ) × IsNumberIn least greatest text n) → MatchOption value ⊤ (λ text. (n : ℕ) × IsNumberIn least computed text n)
+at_limit : (least greatest computed : ℕ) (value : Option (List ℕ)) → computed ≡ greatest →
+    MatchOption value ⊤ (λ text. (n : ℕ) × IsNumberIn least greatest text n) → MatchOption value ⊤ (λ text. (n : ℕ) × IsNumberIn least computed text n)
 at_limit least greatest computed value same h =
     let P : ℕ → Type 0 = λ limit. MatchOption value ⊤ (λ text. (n : ℕ) × IsNumberIn least limit text n) in subst P (sym same) h
 

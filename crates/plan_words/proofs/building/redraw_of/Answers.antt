@@ -13,7 +13,8 @@ number_given-requires c = given_is_taken Redraw c.args.arguments.now Conflicts c
 
 pub returns-clause-parts : goal.returns-clause-parts
 returns-clause-parts c = record {
-  names = three_names (argument_names c.args.arguments.now) c.in_ok-name_copy.field-0 c.in_ok-name_copy-2.field-0 c.in_ok-name_copy-3.field-0 (names_most Redraw c.args.arguments.now c.requires.sound) c.in_ok-name_copy.ensures c.in_ok-name_copy-2.ensures
+  names = three_names (argument_names c.args.arguments.now) c.in_ok-name_copy.field-0 c.in_ok-name_copy-2.field-0 c.in_ok-name_copy-3.field-0
+      (names_most Redraw c.args.arguments.now c.requires.sound) c.in_ok-name_copy.ensures c.in_ok-name_copy-2.ensures
       c.in_ok-name_copy-3.ensures;
   width = c.grid_given.ensures.width;
   height = c.grid_given.ensures.height;

@@ -13,5 +13,9 @@ unreachable-requires c =
 
 pub returns : goal.returns
 returns c =
-    let P : List ℕ → Type 0 = λ text. IsSeed text c.in-Some.number in
-    (c.name_at.result.now, one_name (argument_names c.args.arguments.now) c.name_at.result.now (seed_most c.args.arguments.now c.requires.sound) c.name_at.ensures, subst P c.as_str.ensures c.in-Some.ensures)
+    let P : List ℕ → Type 0 = λ text. IsSeed text c.in-Some.number in (
+      c.name_at.result.now,
+      one_name (argument_names c.args.arguments.now) c.name_at.result.now (seed_most c.args.arguments.now c.requires.sound)
+          c.name_at.ensures,
+      subst P c.as_str.ensures c.in-Some.ensures,
+    )

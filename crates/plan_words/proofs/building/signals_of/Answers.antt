@@ -16,7 +16,8 @@ number_given-requires c = given_is_taken Signals c.args.arguments.now Conflicts 
 
 pub returns-clause-parts : goal.returns-clause-parts
 returns-clause-parts c = record {
-  names = one_name (argument_names c.args.arguments.now) c.in_ok-name_copy.field-0 (names_most Signals c.args.arguments.now c.requires.sound) c.in_ok-name_copy.ensures;
+  names = one_name (argument_names c.args.arguments.now) c.in_ok-name_copy.field-0 (names_most Signals c.args.arguments.now c.requires.sound)
+      c.in_ok-name_copy.ensures;
   width = c.grid_given.ensures.width;
   height = c.grid_given.ensures.height;
   least = c.grid_given.ensures.least;

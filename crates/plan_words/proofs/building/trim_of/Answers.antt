@@ -6,5 +6,6 @@ use Rattle.plan_words.proofs.building.trim_of.Goals as goal
 
 pub returns-clause-parts : goal.returns-clause-parts
 returns-clause-parts c =
-    four_names (argument_names c.args.arguments.now) c.in_ok-name_copy.field-0 c.in_ok-name_copy-2.field-0 c.in_ok-name_copy-3.field-0 c.in_ok-name_copy-4.field-0 (names_most Trim c.args.arguments.now c.requires.sound) c.in_ok-name_copy.ensures c.in_ok-name_copy-2.ensures
+    four_names (argument_names c.args.arguments.now) c.in_ok-name_copy.field-0 c.in_ok-name_copy-2.field-0 c.in_ok-name_copy-3.field-0
+    c.in_ok-name_copy-4.field-0 (names_most Trim c.args.arguments.now c.requires.sound) c.in_ok-name_copy.ensures c.in_ok-name_copy-2.ensures
     c.in_ok-name_copy-3.ensures c.in_ok-name_copy-4.ensures

@@ -9,7 +9,8 @@ use Rattle.plan_words.proofs.PlaceLemmas.{arguments_stand}
 use Rattle.plan_words.proofs.reading.read_arguments.Goals as goal
 
 pub fault_that_counts-requires-clause-stand : goal.fault_that_counts-requires-clause-stand
-fault_that_counts-requires-clause-stand c = subst (StandFrom 2) (sym (c.deref.ensures.value ∙ c.in_ok-arguments.ensures)) (arguments_stand 2 (texts_of c.args.words.now))
+fault_that_counts-requires-clause-stand c = subst (StandFrom 2) (sym (c.deref.ensures.value ∙ c.in_ok-arguments.ensures)) (arguments_stand 2
+    (texts_of c.args.words.now))
 
 pub fault_that_counts-requires-clause-near : goal.fault_that_counts-requires-clause-near
 fault_that_counts-requires-clause-near c =

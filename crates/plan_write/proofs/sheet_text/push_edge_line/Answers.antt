@@ -19,6 +19,7 @@ returns-clause-ok c =
     line_with_head (codes "edge") (decimal n ∷ e.track ∷ decimal e.west ∷ decimal e.east ∷ []) (map decimal (flat_map coordinates (line c.args.d.now n)))
     c.args.into.now.items c.push_edge_head.new.into.items c.push_points.new.into.items c.push_text.new.into.items
     c.in_ok-push_edge_head.ensures.ok
-    (c.in_ok-push_points.ensures.ok ∙ ap (λ (ps : List Point). c.push_edge_head.new.into.items ++ spaced (map decimal (flat_map coordinates ps))) (c.points.ensures.value ∙ c.line.ensures))
+    (c.in_ok-push_points.ensures.ok ∙ ap (λ (ps : List Point). c.push_edge_head.new.into.items ++ spaced (map decimal (flat_map coordinates ps)))
+    (c.points.ensures.value ∙ c.line.ensures))
     last)
     c.push_text.ensures.ok

@@ -14,5 +14,6 @@ returns-clause-ok c =
     let one = c.push_places.new.into.items in
     let two = c.push_lines.new.into.items in
     on_ok_weaker c.push_lines.result
-    (λ (last : two ≡ one ++ flat_map text_of_line edges). both_appended (NodesLine (length g.nodes) ∷ node_lines Second g d) edges c.args.into.now.items one two c.in_ok-push_places.ensures.ok last)
+    (λ (last : two ≡ one ++ flat_map text_of_line edges). both_appended (NodesLine (length g.nodes) ∷ node_lines Second g d) edges c.args.into.now.items one two
+    c.in_ok-push_places.ensures.ok last)
     c.push_lines.ensures.ok

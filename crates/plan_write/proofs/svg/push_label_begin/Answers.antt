@@ -3,4 +3,13 @@ use Rattle.std.proofs.lemmas.Result.{IfOk-equal}
 use Rattle.plan_write.proofs.svg.push_label_begin.Goals as goal
 
 pub returns-clause-ok : goal.returns-clause-ok
-returns-clause-ok c = IfOk-equal c.push_text-3.result _ _ _ c.push_text-3.ensures.ok (simp (c.in_ok-push_number-2.ensures.ok, c.pixels_down.ensures, c.in_ok-push_text-2.ensures.ok, c.in_ok-push_number.ensures.ok, c.pixels_across.ensures, c.in_ok-push_text.ensures.ok, append_assoc))
+returns-clause-ok c = IfOk-equal c.push_text-3.result _ _ _ c.push_text-3.ensures.ok
+    (simp (
+      c.in_ok-push_number-2.ensures.ok,
+      c.pixels_down.ensures,
+      c.in_ok-push_text-2.ensures.ok,
+      c.in_ok-push_number.ensures.ok,
+      c.pixels_across.ensures,
+      c.in_ok-push_text.ensures.ok,
+      append_assoc,
+    ))

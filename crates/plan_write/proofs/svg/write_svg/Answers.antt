@@ -22,6 +22,7 @@ returns-clause-ok c =
     (c.in_ok-push_picture_begin.ensures.ok ∙ ap (λ (v : Values). c.args.into.now.items ++ picture_begin v.width v.height) c.values-measured.ensures)
     (c.in_ok-push_polylines.ensures.ok
     ∙ ap (λ (v : Values). c.push_picture_begin.new.into.items ++ flat_map (polyline v.height) c.lines.result.now) c.values-measured.ensures
-    ∙ ap (λ (lines : List (List Point)). c.push_picture_begin.new.into.items ++ flat_map (polyline (values_of c.args.d.now).height) lines) c.lines.ensures.value)
+    ∙ ap (λ (lines : List (List Point)). c.push_picture_begin.new.into.items ++ flat_map (polyline (values_of c.args.d.now).height) lines)
+    c.lines.ensures.value)
     c.in_ok-push_labels.ensures.ok last)
     c.push_text.ensures.ok

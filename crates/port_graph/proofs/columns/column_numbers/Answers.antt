@@ -17,5 +17,6 @@ column_number-requires-clause-there c =
 pub loop-node-preserved : goal.loop-node-preserved
 loop-node-preserved c =
     let fits : SFits w64 c.node-item.result.mileage.0 = search rules in
-    placed_over c.args.columns.now c.args.nodes.now c.loop-node.node-index c.node-item.result c.loop-node.numbers.items _ c.column_number.result c.loop-node-test.true c.node-item.is c.loop-node.invariant c.in_ok-push.ensures.items
+    placed_over c.args.columns.now c.args.nodes.now c.loop-node.node-index c.node-item.result c.loop-node.numbers.items _ c.column_number.result
+    c.loop-node-test.true c.node-item.is c.loop-node.invariant c.in_ok-push.ensures.items
     (simp (to_z-of_z w64 c.node-item.result.mileage.0 fits) at c.column_number.ensures)

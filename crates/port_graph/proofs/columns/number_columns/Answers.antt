@@ -8,5 +8,6 @@ column_numbers-requires-clause-few c =
 
 pub overflow_cast-result : goal.overflow_cast-result
 overflow_cast-result c =
-    let few : length c.in_ok-columns.columns.items ≤ length c.args.nodes.now = few_rising c.args.nodes.now c.in_ok-columns.columns.items c.in_ok-columns.ensures in
+    let few : length c.in_ok-columns.columns.items ≤ length c.args.nodes.now = few_rising c.args.nodes.now c.in_ok-columns.columns.items
+    c.in_ok-columns.ensures in
     search rules

@@ -12,4 +12,5 @@ push_track_sites-requires-clause-there c =
     ∙ slice_get_read c.as_slice-track-items.result.now _ _ c.track-item.result refl c.loop-number-test.true c.track-item.is
 
 pub loop-number-preserved : goal.loop-number-preserved
-loop-number-preserved c = all_counted_over (λ (kt : ℕ × Track). track_sites c.args.t.now kt.0 kt.1) _ _ _ c.as_slice-track-items.result.now c.loop-number.number c.track-item.result c.loop-number-test.true c.track-item.is c.loop-number.invariant c.in_ok-push_track_sites.ensures
+loop-number-preserved c = all_counted_over (λ (kt : ℕ × Track). track_sites c.args.t.now kt.0 kt.1) _ _ _ c.as_slice-track-items.result.now c.loop-number.number
+    c.track-item.result c.loop-number-test.true c.track-item.is c.loop-number.invariant c.in_ok-push_track_sites.ensures

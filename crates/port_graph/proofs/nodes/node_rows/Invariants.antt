@@ -10,6 +10,7 @@ use Rattle.port_graph.proofs.nodes.node_rows.Given as goal
 
 abbrev pub invariant-loop-number : goal.invariant-loop-number
 invariant-loop-number l = record {
-  all : map Some (map plain_node l.rows.items) ++ map (node_among (map plain_edge l.edges)) (enumerate_from l.number (drop l.number l.sites)) ≡ nodes_among (map plain_edge l.edges) l.sites;
+  all : map Some (map plain_node l.rows.items) ++ map (node_among (map plain_edge l.edges)) (enumerate_from l.number (drop l.number l.sites)) ≡ nodes_among
+      (map plain_edge l.edges) l.sites;
   before : (m : ℕ) (r : Site) → m < l.number → slice_get l.sites m ≡ Some r → IsSome (ports_of (side_at (map plain_edge l.edges) m) r.meets);
 }

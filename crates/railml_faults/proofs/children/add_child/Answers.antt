@@ -6,4 +6,5 @@ pub returns-clause-added : goal.returns-clause-added
 returns-clause-added c =
     let table = c.args.table.now in
     let list = c.index_mut.result.now in
-    adds_child table.items c.args.parent c.args.child list c.push.new.self (slice_get_read table.items table.len c.args.parent list table.ok.0 c.requires c.index_mut.ensures.value) c.in_ok-push.ensures.items
+    adds_child table.items c.args.parent c.args.child list c.push.new.self (slice_get_read table.items table.len c.args.parent list table.ok.0 c.requires
+    c.index_mut.ensures.value) c.in_ok-push.ensures.items

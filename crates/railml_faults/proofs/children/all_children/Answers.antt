@@ -24,9 +24,12 @@ loop-i-preserved c =
       | in-Some+in_ok-add_child w ↦
           let added = w.add_child.new.table in
           let same : length added.items ≡ length old.items = omega (arith, w.in_ok-add_child.ensures.len, added.ok.0, old.ok.0) in
-          subst (λ (v : Vec (Vec ℕ Global) Global). Listed rows (c.loop-i.i + 1) v.items) (sym w.table-is) (listed_child rows c.loop-i.i row w.in-Some.parent old.items added.items c.loop-i.invariant c.loop-i-test.true c.index-rows-i.is w.in-Some.is w.in_ok-add_child.ensures.added same)
+          subst (λ (v : Vec (Vec ℕ Global) Global). Listed rows (c.loop-i.i + 1) v.items) (sym w.table-is)
+          (listed_child rows c.loop-i.i row w.in-Some.parent old.items added.items c.loop-i.invariant c.loop-i-test.true c.index-rows-i.is w.in-Some.is
+          w.in_ok-add_child.ensures.added same)
       | in_default w ↦
-          subst (λ (v : Vec (Vec ℕ Global) Global). Listed rows (c.loop-i.i + 1) v.items) (sym w.table-is) (listed_none rows c.loop-i.i row old.items c.loop-i.invariant c.loop-i-test.true c.index-rows-i.is w.in_default.is)
+          subst (λ (v : Vec (Vec ℕ Global) Global). Listed rows (c.loop-i.i + 1) v.items) (sym w.table-is)
+          (listed_none rows c.loop-i.i row old.items c.loop-i.invariant c.loop-i-test.true c.index-rows-i.is w.in_default.is)
     ]
 
 pub returns : goal.returns

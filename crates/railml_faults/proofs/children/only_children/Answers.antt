@@ -9,7 +9,8 @@ loop-list-init c = none_first _ c.new-table.result.items c.new-table.ensures.ite
 pub loop-list-preserved : goal.loop-list-preserved
 loop-list-preserved c =
     let only = c.only_of_kind in
-    one_first c.loop-list.invariant c.in_ok-push.ensures.items (only_entry c.args.rows.now c.args.children.now c.loop-list.list-index c.list-item.result c.args.kind c.deref.result.now only.result c.requires c.loop-list-test.true c.list-item.is c.deref.ensures.value only.ensures)
+    one_first c.loop-list.invariant c.in_ok-push.ensures.items (only_entry c.args.rows.now c.args.children.now c.loop-list.list-index c.list-item.result
+    c.args.kind c.deref.result.now only.result c.requires c.loop-list-test.true c.list-item.is c.deref.ensures.value only.ensures)
 
 pub returns : goal.returns
 returns c =

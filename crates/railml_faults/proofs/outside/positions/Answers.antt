@@ -11,4 +11,5 @@ loop-row-preserved c =
     let row = c.row-item.result in
     let i = c.loop-row.row-index in
     let position = c.read_position.result in
-    one_first c.loop-row.invariant c.in_ok-push.ensures.items (λ other there. subst (λ (e : Elem). IsPositionOf e position) (one_row rows i row other (row_at rows i row c.loop-row-test.true c.row-item.is) there) c.read_position.ensures)
+    one_first c.loop-row.invariant c.in_ok-push.ensures.items (λ other there. subst (λ (e : Elem). IsPositionOf e position)
+    (one_row rows i row other (row_at rows i row c.loop-row-test.true c.row-item.is) there) c.read_position.ensures)

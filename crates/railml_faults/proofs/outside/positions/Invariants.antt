@@ -6,4 +6,5 @@ use Rattle.railml_faults.proofs.TableLemmas.{HasFirst}
 use Rattle.railml_faults.proofs.outside.positions.Given as goal
 
 abbrev pub invariant-loop-row : goal.invariant-loop-row
-invariant-loop-row l = HasFirst (λ i (position : Option Micro). (row : Elem) → slice_get l.rows i ≡ Some row → IsPositionOf row position) l.row-index l.table.items
+invariant-loop-row l = HasFirst (λ i (position : Option Micro). (row : Elem) → slice_get l.rows i ≡ Some row → IsPositionOf row position) l.row-index
+    l.table.items

@@ -10,17 +10,23 @@ returns-in-Track c =
     let t = c.args.tables.now in
     let i = c.args.i in
     let whole = c.is_whole_track in
-    tells_at rows i whole.result c.args.kind Track c.in-Track.is (λ h. whole_track rows t i c.requires.tables c.requires.within (whole.ensures.0 h), λ w. whole.ensures.1 (whole_track_by rows t i c.requires.tables c.requires.within w))
+    tells_at rows i whole.result c.args.kind Track c.in-Track.is (
+      λ h. whole_track rows t i c.requires.tables c.requires.within (whole.ensures.0 h),
+      λ
+          w. whole.ensures.1 (whole_track_by rows t i c.requires.tables c.requires.within w),
+    )
 
 pub returns-in-Begin : goal.returns-in-Begin
 returns-in-Begin c =
     let rows = c.args.rows.now in
     let i = c.args.i in
     let list = c.children_of.result.now in
-    tells_at_either rows i (length list == 1) c.args.kind c.in-Begin.is (one_part rows i list (list_is rows c.args.tables.now.children.items i list c.requires.tables.children c.children_of.ensures))
+    tells_at_either rows i (length list == 1) c.args.kind c.in-Begin.is (one_part rows i list
+    (list_is rows c.args.tables.now.children.items i list c.requires.tables.children c.children_of.ensures))
 
 pub returns-in-Switch : goal.returns-in-Switch
 returns-in-Switch c =
     let rows = c.args.rows.now in
     let i = c.args.i in
-    tells_at rows i c.is_some.result c.args.kind Switch c.in-Switch.is (one_connection_part rows c.args.tables.now i c.is_some.result c.requires.tables c.requires.within (c.is_some.ensures ∙ ap is_some (c.entry.ensures ∙ ap (λ l. entry_in l i) c.deref.ensures.value)))
+    tells_at rows i c.is_some.result c.args.kind Switch c.in-Switch.is (one_connection_part rows c.args.tables.now i c.is_some.result c.requires.tables
+    c.requires.within (c.is_some.ensures ∙ ap is_some (c.entry.ensures ∙ ap (λ l. entry_in l i) c.deref.ensures.value)))

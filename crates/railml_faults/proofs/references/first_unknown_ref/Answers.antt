@@ -9,7 +9,8 @@ returns-then-is_unknown c =
     let row = c.index-rows-i.result in
     let i = c.loop-i.i in
     let target = target_at rows c.args.targets.now i row c.requires c.loop-i-test.true c.index-rows-i.is in
-    found_first c.loop-i.invariant c.loop-i-test.true c.index-rows-i.is (unknown rows row (get_or c.args.targets.now i None) target (sym c.is_unknown.ensures ∙ c.if-is_unknown.true))
+    found_first c.loop-i.invariant c.loop-i-test.true c.index-rows-i.is (unknown rows row (get_or c.args.targets.now i None) target
+    (sym c.is_unknown.ensures ∙ c.if-is_unknown.true))
 
 pub loop-i-preserved : goal.loop-i-preserved
 loop-i-preserved c =
@@ -17,4 +18,5 @@ loop-i-preserved c =
     let row = c.index-rows-i.result in
     let i = c.loop-i.i in
     let target = target_at rows c.args.targets.now i row c.requires c.loop-i-test.true c.index-rows-i.is in
-    none_more c.loop-i.invariant c.loop-i-test.true c.index-rows-i.is (known rows row (get_or c.args.targets.now i None) target (sym c.is_unknown.ensures ∙ c.if-is_unknown.false))
+    none_more c.loop-i.invariant c.loop-i-test.true c.index-rows-i.is (known rows row (get_or c.args.targets.now i None) target
+    (sym c.is_unknown.ensures ∙ c.if-is_unknown.false))

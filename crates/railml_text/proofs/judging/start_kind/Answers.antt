@@ -12,4 +12,5 @@ returns-then-repeated-clause-fault c =
 pub returns-in_ok-name-in-Ok-clause-kind : goal.returns-in_ok-name-in-Ok-clause-kind
 returns-in_ok-name-in-Ok-clause-kind c =
     let attrs = map written_of c.args.attrs.now in
-    rw c.in_ok-name-in-Ok.ensures (start_sound c.args.name.now attrs c.args.empty c.in-Ok.texts c.in-Ok.ensures.texts (c.in_ok-repeated.ensures.no c.if-repeated.false))
+    rw c.in_ok-name-in-Ok.ensures (start_sound c.args.name.now attrs c.args.empty c.in-Ok.texts c.in-Ok.ensures.texts
+    (c.in_ok-repeated.ensures.no c.if-repeated.false))

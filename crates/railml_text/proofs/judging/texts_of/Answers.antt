@@ -17,4 +17,7 @@ returns-in-Err-clause-fault c = value_fault c.args.attrs.now c.loop-attr.attr-in
 
 pub loop-attr-preserved : goal.loop-attr-preserved
 loop-attr-preserved c =
-    rw c.in_ok-push-in-Ok.ensures.ok (texts_more c.args.attrs.now c.loop-attr.attr-index no_attr c.loop-attr.texts (record { name = c.in_ok-name-in-Ok.name; value = c.in-Ok.value }) c.loop-attr-test.true c.loop-attr.invariant c.in_ok-name-in-Ok.ensures c.in-Ok.ensures.text)
+    rw c.in_ok-push-in-Ok.ensures.ok (texts_more c.args.attrs.now c.loop-attr.attr-index no_attr c.loop-attr.texts (record {
+      name = c.in_ok-name-in-Ok.name;
+      value = c.in-Ok.value;
+    }) c.loop-attr-test.true c.loop-attr.invariant c.in_ok-name-in-Ok.ensures c.in-Ok.ensures.text)

@@ -9,4 +9,5 @@ returns-in_ok-insert-in-Ok c =
     let tail = c.in_ok-attrs-in-Ok in
     let first = written_of c.in-Ok.first in
     let all : map written_of c.insert.new.self.items ≡ first ∷ map written_of tail.attrs.items = rw c.in_ok-insert-in-Ok.ensures.items refl in
-    rw all (declaration_read c.args.bytes.now c.in-Ok.rest.now first (map written_of tail.attrs.items) tail.field-0-1 tail.rest.now (rw c.past_blanks.ensures at c.in-Ok.ensures) tail.ensures)
+    rw all (declaration_read c.args.bytes.now c.in-Ok.rest.now first (map written_of tail.attrs.items) tail.field-0-1 tail.rest.now
+    (rw c.past_blanks.ensures at c.in-Ok.ensures) tail.ensures)

@@ -14,5 +14,7 @@ pub loop-attr-preserved : goal.loop-attr-preserved
 loop-attr-preserved c =
     let step = c.in-Ok-Attribute-default in
     let before = map written_of c.loop-attr.attrs.items in
-    let pushed : map written_of c.push.new.self.items ≡ before ++ written_of step.attr ∷ [] = rw c.in_ok-push-in-Ok-Attribute-default.ensures.items (map_push _ c.loop-attr.attrs.items step.attr) in
-    rw pushed (Attrs-push c.args.closing before (written_of step.attr) c.args.bytes.now c.loop-attr.rest.now step.after.now c.loop-attr.invariant (rw step.field-0-0-is at step.ensures))
+    let pushed : map written_of c.push.new.self.items ≡ before ++ written_of step.attr ∷ [] = rw c.in_ok-push-in-Ok-Attribute-default.ensures.items
+    (map_push _ c.loop-attr.attrs.items step.attr) in
+    rw pushed (Attrs-push c.args.closing before (written_of step.attr) c.args.bytes.now c.loop-attr.rest.now step.after.now c.loop-attr.invariant
+    (rw step.field-0-0-is at step.ensures))

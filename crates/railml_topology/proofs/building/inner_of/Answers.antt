@@ -2,7 +2,8 @@ use Rattle.railml_topology.proofs.BuildLemmas.{inner_numbers, inner_id}
 use Rattle.railml_topology.proofs.building.inner_of.Goals as goal
 
 pub mileage_of-mile-requires-clause-numbers : goal.mileage_of-mile-requires-clause-numbers
-mileage_of-mile-requires-clause-numbers c = inner_numbers c.args.site.now.rows.now c.requires.ready.sound c.args.number c.row_at-row.result.now c.requires.an_inner c.row_at-row.ensures
+mileage_of-mile-requires-clause-numbers c = inner_numbers c.args.site.now.rows.now c.requires.ready.sound c.args.number c.row_at-row.result.now
+    c.requires.an_inner c.row_at-row.ensures
 
 pub copied-requires : goal.copied-requires
 copied-requires c = inner_id c.args.site.now.rows.now c.requires.ready.sound c.args.number c.row_at-row.result.now c.requires.an_inner c.row_at-row.ensures

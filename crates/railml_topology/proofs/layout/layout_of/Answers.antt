@@ -11,21 +11,27 @@ sure_entry-topology-requires c = record {
 
 pub sure_entry-begin-requires : goal.sure_entry-begin-requires
 sure_entry-begin-requires c =
-    let topology : entry_in c.args.tables.now.topologies.items c.args.track ≡ Some c.sure_entry-topology.result = subst (λ (v : List (Option ℕ)). entry_in v c.args.track ≡ Some c.sure_entry-topology.result) c.deref.ensures.value c.sure_entry-topology.ensures in
+    let topology : entry_in c.args.tables.now.topologies.items c.args.track ≡ Some c.sure_entry-topology.result = subst
+    (λ (v : List (Option ℕ)). entry_in v c.args.track ≡ Some c.sure_entry-topology.result) c.deref.ensures.value c.sure_entry-topology.ensures in
     record {
       there = subst (λ (v : List (Option ℕ)). (k : ℕ) × (entry_in v c.sure_entry-topology.result ≡ Some k)) (sym c.deref-2.ensures.value)
-          (begin_entry c.args.rows.now c.requires.sound c.args.tables.now c.requires.tables c.args.track c.sure_entry-topology.result c.requires.a_track topology);
+          (begin_entry c.args.rows.now c.requires.sound c.args.tables.now c.requires.tables c.args.track c.sure_entry-topology.result c.requires.a_track
+          topology);
     }
 
 pub sure_entry-end-requires : goal.sure_entry-end-requires
 sure_entry-end-requires c =
-    let topology : entry_in c.args.tables.now.topologies.items c.args.track ≡ Some c.sure_entry-topology.result = subst (λ (v : List (Option ℕ)). entry_in v c.args.track ≡ Some c.sure_entry-topology.result) c.deref.ensures.value c.sure_entry-topology.ensures in
+    let topology : entry_in c.args.tables.now.topologies.items c.args.track ≡ Some c.sure_entry-topology.result = subst
+    (λ (v : List (Option ℕ)). entry_in v c.args.track ≡ Some c.sure_entry-topology.result) c.deref.ensures.value c.sure_entry-topology.ensures in
     record {
       there = subst (λ (v : List (Option ℕ)). (k : ℕ) × (entry_in v c.sure_entry-topology.result ≡ Some k)) (sym c.deref-3.ensures.value)
-          (end_entry c.args.rows.now c.requires.sound c.args.tables.now c.requires.tables c.args.track c.sure_entry-topology.result c.requires.a_track topology);
+          (end_entry c.args.rows.now c.requires.sound c.args.tables.now c.requires.tables c.args.track c.sure_entry-topology.result c.requires.a_track
+          topology);
     }
 
 pub inner_rows-requires-clause-within : goal.inner_rows-requires-clause-within
 inner_rows-requires-clause-within c =
-    let topology : entry_in c.args.tables.now.topologies.items c.args.track ≡ Some c.sure_entry-topology.result = subst (λ (v : List (Option ℕ)). entry_in v c.args.track ≡ Some c.sure_entry-topology.result) c.deref.ensures.value c.sure_entry-topology.ensures in
-    (topology_found c.args.rows.now c.requires.sound c.args.tables.now c.requires.tables c.args.track c.sure_entry-topology.result c.requires.a_track topology).within
+    let topology : entry_in c.args.tables.now.topologies.items c.args.track ≡ Some c.sure_entry-topology.result = subst
+    (λ (v : List (Option ℕ)). entry_in v c.args.track ≡ Some c.sure_entry-topology.result) c.deref.ensures.value c.sure_entry-topology.ensures in
+    (topology_found c.args.rows.now c.requires.sound c.args.tables.now c.requires.tables c.args.track c.sure_entry-topology.result c.requires.a_track
+    topology).within

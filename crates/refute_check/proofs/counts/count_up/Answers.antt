@@ -10,5 +10,6 @@ overflow_add-counts c =
 
 pub loop-n-preserved : goal.loop-n-preserved
 loop-n-preserved c =
-    let there : get_or c.args.places.now c.loop-n.n-index 0 < length c.loop-n.counts = omega (arith, c.requires.there c.loop-n.n-index 0 c.loop-n-test.true, c.loop-n.auto.counts) in
+    let there : get_or c.args.places.now c.loop-n.n-index 0 < length c.loop-n.counts = omega
+    (arith, c.requires.there c.loop-n.n-index 0 c.loop-n-test.true, c.loop-n.auto.counts) in
     counted_more c.args.places.now c.args.counts.now c.loop-n.counts c.loop-n.n-index c.loop-n-test.true there c.loop-n.invariant

@@ -18,13 +18,17 @@ loop-bound-preserved c =
     elim c.if-is_unreached.branch [
       | then-is_unreached+in_ok-push w ↦
           subst (λ v. AreUnreached greatest (take (i + 1) bounds) c.args.earlier.now c.args.c c.args.v.now v.items) (sym w.literals-is)
-          (subst (λ (ls : List Literal). AreUnreached greatest (take (i + 1) bounds) c.args.earlier.now c.args.c c.args.v.now ls) (sym w.in_ok-push.ensures.items)
-          (subst (λ (bs : List ToldBound). AreUnreached greatest bs c.args.earlier.now c.args.c c.args.v.now (c.loop-bound.literals.items ++ b.literal ∷ [])) (sym more)
-          (unreached_more greatest (take i bounds) b c.args.earlier.now c.args.c c.args.v.now c.loop-bound.literals.items (c.is_unreached.ensures.0 w.if-is_unreached.true) c.loop-bound.invariant)))
+          (subst (λ (ls : List Literal). AreUnreached greatest (take (i + 1) bounds) c.args.earlier.now c.args.c c.args.v.now ls)
+          (sym w.in_ok-push.ensures.items)
+          (subst (λ (bs : List ToldBound). AreUnreached greatest bs c.args.earlier.now c.args.c c.args.v.now (c.loop-bound.literals.items ++ b.literal ∷ []))
+          (sym more)
+          (unreached_more greatest (take i bounds) b c.args.earlier.now c.args.c c.args.v.now c.loop-bound.literals.items
+          (c.is_unreached.ensures.0 w.if-is_unreached.true) c.loop-bound.invariant)))
       | else-is_unreached w ↦
           subst (λ v. AreUnreached greatest (take (i + 1) bounds) c.args.earlier.now c.args.c c.args.v.now v.items) (sym w.literals-is)
           (subst (λ (bs : List ToldBound). AreUnreached greatest bs c.args.earlier.now c.args.c c.args.v.now c.loop-bound.literals.items) (sym more)
-          (unreached_same greatest (take i bounds) b c.args.earlier.now c.args.c c.args.v.now c.loop-bound.literals.items (λ u. false≢true (sym w.if-is_unreached.false ∙ c.is_unreached.ensures.1 u)) c.loop-bound.invariant))
+          (unreached_same greatest (take i bounds) b c.args.earlier.now c.args.c c.args.v.now c.loop-bound.literals.items
+          (λ u. false≢true (sym w.if-is_unreached.false ∙ c.is_unreached.ensures.1 u)) c.loop-bound.invariant))
     ]
 
 pub returns : goal.returns

@@ -6,4 +6,5 @@ use Rattle.refute_check.specs.Lacking.{IsUnreached}
 use Rattle.refute_check.proofs.lacking.unreached.Given as goal
 
 abbrev pub invariant-loop-bound : goal.invariant-loop-bound
-invariant-loop-bound l = (k : Literal) → Contains l.literals.items k ↔ Any (λ b. IsUnreached (value_of l.greatest) l.earlier l.c l.v b × (b.literal ≡ k)) (take l.bound-index l.bounds)
+invariant-loop-bound l = (k : Literal) → Contains l.literals.items k ↔ Any (λ b. IsUnreached (value_of l.greatest) l.earlier l.c l.v b × (b.literal ≡ k))
+    (take l.bound-index l.bounds)

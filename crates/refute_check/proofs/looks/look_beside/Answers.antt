@@ -16,17 +16,21 @@ there : (c : After-vars-vars) → All (IsThere c.args.formula.now.vars) (both c.
 there c = short_there c.args.formula.now.vars c.args.formula.now.clauses c.args.l c.args.rest c.vars-vars.ensures.formula.there c.requires.short
 
 pub scan_rest-requires-clause-first : goal.scan_rest-requires-clause-first
-scan_rest-requires-clause-first c = let h : IsThere c.args.formula.now.vars c.args.rest.first = there c 0 c.args.rest.first (omega arith) in omega (arith, h.1, c.vars-vars.ensures.value)
+scan_rest-requires-clause-first c = let h : IsThere c.args.formula.now.vars c.args.rest.first = there c 0 c.args.rest.first (omega arith) in omega
+    (arith, h.1, c.vars-vars.ensures.value)
 
 pub scan_rest-requires-clause-last : goal.scan_rest-requires-clause-last
-scan_rest-requires-clause-last c = let h : IsThere c.args.formula.now.vars c.args.rest.last = there c 1 c.args.rest.last (omega arith) in omega (arith, h.1, c.vars-vars.ensures.value)
+scan_rest-requires-clause-last c = let h : IsThere c.args.formula.now.vars c.args.rest.last = there c 1 c.args.rest.last (omega arith) in omega
+    (arith, h.1, c.vars-vars.ensures.value)
 
 pub scan_rest-requires-clause-consistent : goal.scan_rest-requires-clause-consistent
 scan_rest-requires-clause-consistent c = trail_consistent _ c.args.truth.now c.args.trail.now.items c.requires.trail
 
 pub mark-requires-clause-there : goal.mark-requires-clause-there
 mark-requires-clause-there c =
-    let h : IsThere c.args.formula.now.vars c.in-Unit.u = All-contains (IsThere c.args.formula.now.vars) (both c.args.rest) c.in-Unit.u (short_there c.args.formula.now.vars c.args.formula.now.clauses c.args.l c.args.rest c.vars-vars.ensures.formula.there c.requires.short) c.in-Unit.ensures.unit.among in
+    let h : IsThere c.args.formula.now.vars c.in-Unit.u = All-contains (IsThere c.args.formula.now.vars) (both c.args.rest) c.in-Unit.u
+    (short_there c.args.formula.now.vars c.args.formula.now.clauses c.args.l c.args.rest c.vars-vars.ensures.formula.there c.requires.short)
+    c.in-Unit.ensures.unit.among in
     subst (λ n. IsThere n c.in-Unit.u) (sym c.vars-vars.ensures.value) h
 
 pub returns-in-Falsified-clause-falsified : goal.returns-in-Falsified-clause-falsified
@@ -44,11 +48,13 @@ returns-in_ok-mark-in-Unit-clause-grows c =
     rw c.in_ok-mark-in-Unit.ensures.more (grows_unit c.args.formula.now.clauses c.args.trail.now.items s.clause c.in-Unit.u s.among one.unit)
 
 pub returns-in_ok-mark-in-Unit-clause-quiet : goal.returns-in_ok-mark-in-Unit-clause-quiet
-returns-in_ok-mark-in-Unit-clause-quiet c = λ _. rw c.in_ok-mark-in-Unit.ensures.more (marked_beside c.args.trail.now.items c.args.l c.args.rest c.in-Unit.u c.requires.false_now (unset c))
+returns-in_ok-mark-in-Unit-clause-quiet c = λ _. rw c.in_ok-mark-in-Unit.ensures.more
+    (marked_beside c.args.trail.now.items c.args.l c.args.rest c.in-Unit.u c.requires.false_now (unset c))
 
 pub returns-in-Quiet-clause-quiet : goal.returns-in-Quiet-clause-quiet
 returns-in-Quiet-clause-quiet c = λ _.
-    quiet_beside c.args.trail.now.items c.args.l c.args.rest c.requires.false_now (quiet_by_marks c.args.formula.now.vars c.args.truth.now c.args.trail.now.items (both c.args.rest) c.requires.trail c.in-Quiet.ensures)
+    quiet_beside c.args.trail.now.items c.args.l c.args.rest c.requires.false_now
+    (quiet_by_marks c.args.formula.now.vars c.args.truth.now c.args.trail.now.items (both c.args.rest) c.requires.trail c.in-Quiet.ensures)
 
 pub mark-requires-clause-trail : goal.mark-requires-clause-trail
 mark-requires-clause-trail c = subst (λ n. IsTrail n c.args.truth.now c.args.trail.now.items) (sym c.vars-vars.ensures.value) c.requires.trail
@@ -69,7 +75,8 @@ pub returns-in-Falsified-clause-quiet : goal.returns-in-Falsified-clause-quiet
 returns-in-Falsified-clause-quiet c = λ e. absurd (true≢false e)
 
 pub returns-in_ok-mark-in-Unit-clause-trail : goal.returns-in_ok-mark-in-Unit-clause-trail
-returns-in_ok-mark-in-Unit-clause-trail c = subst (λ n. IsTrail n c.mark.new.truth c.mark.new.trail.items) c.vars-vars.ensures.value c.in_ok-mark-in-Unit.ensures.trail
+returns-in_ok-mark-in-Unit-clause-trail c = subst (λ n. IsTrail n c.mark.new.truth c.mark.new.trail.items) c.vars-vars.ensures.value
+    c.in_ok-mark-in-Unit.ensures.trail
 
 pub returns-in_ok-mark-in-Unit-clause-falsified : goal.returns-in_ok-mark-in-Unit-clause-falsified
 returns-in_ok-mark-in-Unit-clause-falsified c = λ e. absurd (false≢true e)

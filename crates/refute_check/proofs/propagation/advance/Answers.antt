@@ -16,7 +16,8 @@ use Rattle.refute_check.proofs.propagation.advance.Goals as goal
 use Rattle.refute_check.proofs.propagation.advance.Goals.{After-word}
 
 negated : (c : After-word) → IsThere c.args.formula.now.vars (negate c.index.result.now)
-negated c = negated_there c.args.formula.now.vars c.args.trail.now.items c.args.front c.index.result.now c.requires.counted.table.there c.requires.there (sym c.index.ensures)
+negated c = negated_there c.args.formula.now.vars c.args.trail.now.items c.args.front c.index.result.now c.requires.counted.table.there c.requires.there
+    (sym c.index.ensures)
 
 pub bounds-occurrences-word : goal.bounds-occurrences-word
 bounds-occurrences-word c =
@@ -26,37 +27,53 @@ bounds-occurrences-word c =
 pub look_beside_each-requires-clause-shorts : goal.look_beside_each-requires-clause-shorts
 look_beside_each-requires-clause-shorts c =
     let clauses = c.args.formula.now.clauses in
-    let is = c.shorts.ensures ∙ ap (λ (e : Entries). e.shorts) (advance_places c.args.formula.now.vars c.args.formula.now.clauses c.args.occurrences.now c.args.trail.now.items c.args.front c.index.result.now c.negated-l.result c.word.result c.index-occurrences-word.result c.requires.occurrences c.requires.counted.table.there c.requires.there c.index.ensures c.negated-l.ensures c.word.ensures.value c.index-occurrences-word.is) in
+    let is = c.shorts.ensures ∙ ap (λ (e : Entries). e.shorts) (advance_places c.args.formula.now.vars c.args.formula.now.clauses c.args.occurrences.now
+    c.args.trail.now.items c.args.front c.index.result.now c.negated-l.result c.word.result c.index-occurrences-word.result c.requires.occurrences
+    c.requires.counted.table.there c.requires.there c.index.ensures c.negated-l.ensures c.word.ensures.value c.index-occurrences-word.is) in
     subst (λ (k : Literal). All (IsShort clauses k) c.shorts.result.now) (sym c.negated-l.ensures)
     (subst (λ (rs : List Rest). All (IsShort clauses (negate c.index.result.now)) rs) (sym is) (shorts_are clauses (negate c.index.result.now)))
 
 pub look_beside_each-requires-clause-false_now : goal.look_beside_each-requires-clause-false_now
-look_beside_each-requires-clause-false_now c = false_at c.args.trail.now.items c.args.front c.index.result.now c.negated-l.result c.requires.there c.index.ensures c.negated-l.ensures
+look_beside_each-requires-clause-false_now c = false_at c.args.trail.now.items c.args.front c.index.result.now c.negated-l.result c.requires.there
+    c.index.ensures c.negated-l.ensures
 
 pub count_each-requires-clause-there : goal.count_each-requires-clause-there
 count_each-requires-clause-there c =
-    let is = c.longer.ensures ∙ ap (λ (e : Entries). e.longer) (advance_places c.args.formula.now.vars c.args.formula.now.clauses c.args.occurrences.now c.args.trail.now.items c.args.front c.index.result.now c.negated-l.result c.word.result c.index-occurrences-word.result c.requires.occurrences c.requires.counted.table.there c.requires.there c.index.ensures c.negated-l.ensures c.word.ensures.value c.index-occurrences-word.is) in
+    let is = c.longer.ensures ∙ ap (λ (e : Entries). e.longer) (advance_places c.args.formula.now.vars c.args.formula.now.clauses c.args.occurrences.now
+    c.args.trail.now.items c.args.front c.index.result.now c.negated-l.result c.word.result c.index-occurrences-word.result c.requires.occurrences
+    c.requires.counted.table.there c.requires.there c.index.ensures c.negated-l.ensures c.word.ensures.value c.index-occurrences-word.is) in
     subst (λ (ns : List ℕ). All (λ n. n < length c.args.formula.now.clauses) ns) (sym is) (places_there c.args.formula.now.clauses (negate c.index.result.now))
 
 pub count_each-requires-clause-enough : goal.count_each-requires-clause-enough
 count_each-requires-clause-enough c =
-    let is = c.longer.ensures ∙ ap (λ (e : Entries). e.longer) (advance_places c.args.formula.now.vars c.args.formula.now.clauses c.args.occurrences.now c.args.trail.now.items c.args.front c.index.result.now c.negated-l.result c.word.result c.index-occurrences-word.result c.requires.occurrences c.requires.counted.table.there c.requires.there c.index.ensures c.negated-l.ensures c.word.ensures.value c.index-occurrences-word.is) in
+    let is = c.longer.ensures ∙ ap (λ (e : Entries). e.longer) (advance_places c.args.formula.now.vars c.args.formula.now.clauses c.args.occurrences.now
+    c.args.trail.now.items c.args.front c.index.result.now c.negated-l.result c.word.result c.index-occurrences-word.result c.requires.occurrences
+    c.requires.counted.table.there c.requires.there c.index.ensures c.negated-l.ensures c.word.ensures.value c.index-occurrences-word.is) in
     subst (λ (ns : List ℕ). All (λ n. times ns n ≤ get_or c.args.counts.now n 0) ns) (sym is)
-    (down_enough c.args.formula.now.clauses (take c.args.front c.args.trail.now.items) c.index.result.now c.args.counts.now c.vars-formula.ensures.formula.distinct
-    (front_lacks c.args.trail.now.items c.args.front c.index.result.now c.requires.counted.table.distinct c.requires.there (sym c.index.ensures)) c.requires.counted.right)
+    (down_enough c.args.formula.now.clauses (take c.args.front c.args.trail.now.items) c.index.result.now c.args.counts.now
+    c.vars-formula.ensures.formula.distinct
+    (front_lacks c.args.trail.now.items c.args.front c.index.result.now c.requires.counted.table.distinct c.requires.there (sym c.index.ensures))
+    c.requires.counted.right)
 
 pub returns-then-branch-clause-counted : goal.returns-then-branch-clause-counted
 returns-then-branch-clause-counted c =
-    counted_still c.args.formula.now.vars c.args.formula.now.clauses c.args.truth.now c.look_beside_each.new.truth c.args.trail.now.items c.look_beside_each.new.trail.items c.args.counts.now c.args.front c.requires.counted c.in_ok-look_beside_each.ensures.grows c.in_ok-look_beside_each.ensures.trail
+    counted_still c.args.formula.now.vars c.args.formula.now.clauses c.args.truth.now c.look_beside_each.new.truth c.args.trail.now.items
+    c.look_beside_each.new.trail.items c.args.counts.now c.args.front c.requires.counted c.in_ok-look_beside_each.ensures.grows
+    c.in_ok-look_beside_each.ensures.trail
 
 pub returns-clause-grows : goal.returns-clause-grows
-returns-clause-grows c = grows_more c.args.formula.now.clauses c.args.trail.now.items c.look_beside_each.new.trail.items c.count_each.new.trail.items c.in_ok-look_beside_each.ensures.grows c.in_ok-found.ensures.grows
+returns-clause-grows c = grows_more c.args.formula.now.clauses c.args.trail.now.items c.look_beside_each.new.trail.items c.count_each.new.trail.items
+    c.in_ok-look_beside_each.ensures.grows c.in_ok-found.ensures.grows
 
 pub returns-clause-counted : goal.returns-clause-counted
 returns-clause-counted c =
-    let is = c.longer.ensures ∙ ap (λ (e : Entries). e.longer) (advance_places c.args.formula.now.vars c.args.formula.now.clauses c.args.occurrences.now c.args.trail.now.items c.args.front c.index.result.now c.negated-l.result c.word.result c.index-occurrences-word.result c.requires.occurrences c.requires.counted.table.there c.requires.there c.index.ensures c.negated-l.ensures c.word.ensures.value c.index-occurrences-word.is) in
-    counted_next c.args.formula.now.vars c.args.formula.now.clauses c.args.truth.now c.count_each.new.truth c.args.trail.now.items c.count_each.new.trail.items c.args.counts.now c.count_each.new.counts c.args.front c.index.result.now
-    c.requires.there (sym c.index.ensures) c.vars-formula.ensures.formula.distinct c.requires.counted (returns-clause-grows c) c.in_ok-found.ensures.trail c.count_each.auto.counts
+    let is = c.longer.ensures ∙ ap (λ (e : Entries). e.longer) (advance_places c.args.formula.now.vars c.args.formula.now.clauses c.args.occurrences.now
+    c.args.trail.now.items c.args.front c.index.result.now c.negated-l.result c.word.result c.index-occurrences-word.result c.requires.occurrences
+    c.requires.counted.table.there c.requires.there c.index.ensures c.negated-l.ensures c.word.ensures.value c.index-occurrences-word.is) in
+    counted_next c.args.formula.now.vars c.args.formula.now.clauses c.args.truth.now c.count_each.new.truth c.args.trail.now.items c.count_each.new.trail.items
+    c.args.counts.now c.count_each.new.counts c.args.front c.index.result.now
+    c.requires.there (sym c.index.ensures) c.vars-formula.ensures.formula.distinct c.requires.counted (returns-clause-grows c) c.in_ok-found.ensures.trail
+    c.count_each.auto.counts
     (subst (λ (ns : List ℕ). CountedUp ns c.count_each.new.counts c.args.counts.now) is c.in_ok-found.ensures.counted)
 
 pub returns-clause-quiet : goal.returns-clause-quiet
@@ -65,9 +82,14 @@ returns-clause-quiet c = λ none.
     let old = c.args.trail.now.items in
     let mid = c.look_beside_each.new.trail.items in
     let new = c.count_each.new.trail.items in
-    let shorts = c.shorts.ensures ∙ ap (λ (e : Entries). e.shorts) (advance_places c.args.formula.now.vars c.args.formula.now.clauses c.args.occurrences.now c.args.trail.now.items c.args.front c.index.result.now c.negated-l.result c.word.result c.index-occurrences-word.result c.requires.occurrences c.requires.counted.table.there c.requires.there c.index.ensures c.negated-l.ensures c.word.ensures.value c.index-occurrences-word.is) in
-    let longer = c.longer.ensures ∙ ap (λ (e : Entries). e.longer) (advance_places c.args.formula.now.vars c.args.formula.now.clauses c.args.occurrences.now c.args.trail.now.items c.args.front c.index.result.now c.negated-l.result c.word.result c.index-occurrences-word.result c.requires.occurrences c.requires.counted.table.there c.requires.there c.index.ensures c.negated-l.ensures c.word.ensures.value c.index-occurrences-word.is) in
-    quiet_next clauses old mid new c.args.counts.now c.args.front c.index.result.now c.requires.there (sym c.index.ensures) c.vars-formula.ensures.formula.distinct c.requires.counted.table.distinct
+    let shorts = c.shorts.ensures ∙ ap (λ (e : Entries). e.shorts) (advance_places c.args.formula.now.vars c.args.formula.now.clauses c.args.occurrences.now
+    c.args.trail.now.items c.args.front c.index.result.now c.negated-l.result c.word.result c.index-occurrences-word.result c.requires.occurrences
+    c.requires.counted.table.there c.requires.there c.index.ensures c.negated-l.ensures c.word.ensures.value c.index-occurrences-word.is) in
+    let longer = c.longer.ensures ∙ ap (λ (e : Entries). e.longer) (advance_places c.args.formula.now.vars c.args.formula.now.clauses c.args.occurrences.now
+    c.args.trail.now.items c.args.front c.index.result.now c.negated-l.result c.word.result c.index-occurrences-word.result c.requires.occurrences
+    c.requires.counted.table.there c.requires.there c.index.ensures c.negated-l.ensures c.word.ensures.value c.index-occurrences-word.is) in
+    quiet_next clauses old mid new c.args.counts.now c.args.front c.index.result.now c.requires.there (sym c.index.ensures)
+    c.vars-formula.ensures.formula.distinct c.requires.counted.table.distinct
     c.in_ok-look_beside_each.ensures.grows c.in_ok-found.ensures.grows c.requires.quiet c.requires.counted.right
     (subst (λ (k : Literal). All (IsRestQuiet k old mid) (shorts_from clauses (negate c.index.result.now))) c.negated-l.ensures
     (subst (λ (rs : List Rest). All (IsRestQuiet c.negated-l.result old mid) rs) shorts (c.in_ok-look_beside_each.ensures.quiet c.if-branch.false)))

@@ -6,12 +6,14 @@ use Rattle.refute_check.proofs.AdvanceLemmas.{propagated_none, propagated_more}
 use Rattle.refute_check.proofs.propagation.propagate.Goals as goal
 
 pub loop-front-init : goal.loop-front-init
-loop-front-init c = propagated_none c.args.formula.now.vars c.args.formula.now.clauses c.args.trail.now.items c.args.truth.now c.args.counts.now c.args.from c.requires.counted c.requires.quiet
+loop-front-init c = propagated_none c.args.formula.now.vars c.args.formula.now.clauses c.args.trail.now.items c.args.truth.now c.args.counts.now c.args.from
+    c.requires.counted c.requires.quiet
 
 pub loop-front-preserved : goal.loop-front-preserved
 loop-front-preserved c =
     let next = c.in_ok-found.ensures.next c.if-found.false in
-    rw next (propagated_more c.args.formula.now.vars c.args.formula.now.clauses c.args.trail.now.items c.loop-front.trail.items c.advance.new.trail.items c.loop-front.truth c.advance.new.truth c.loop-front.counts c.advance.new.counts c.args.from c.loop-front.front
+    rw next (propagated_more c.args.formula.now.vars c.args.formula.now.clauses c.args.trail.now.items c.loop-front.trail.items c.advance.new.trail.items
+    c.loop-front.truth c.advance.new.truth c.loop-front.counts c.advance.new.counts c.args.from c.loop-front.front
     c.loop-front.invariant (rw next at c.in_ok-found.ensures.counted) (c.in_ok-found.ensures.quiet c.if-found.false) c.in_ok-found.ensures.grows)
 
 pub loop-front-smaller : goal.loop-front-smaller
@@ -23,7 +25,8 @@ loop-front-smaller c =
 
 pub returns-then-found-clause-grows : goal.returns-then-found-clause-grows
 returns-then-found-clause-grows c =
-    grows_more c.args.formula.now.clauses c.args.trail.now.items c.loop-front.trail.items c.advance.new.trail.items c.loop-front.invariant.grows c.in_ok-found.ensures.grows
+    grows_more c.args.formula.now.clauses c.args.trail.now.items c.loop-front.trail.items c.advance.new.trail.items c.loop-front.invariant.grows
+    c.in_ok-found.ensures.grows
 
 pub advance-requires-clause-counted : goal.advance-requires-clause-counted
 advance-requires-clause-counted c = c.loop-front.invariant.counted

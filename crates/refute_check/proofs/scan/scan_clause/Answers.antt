@@ -19,11 +19,13 @@ loop-l-preserved c =
     let i = c.loop-l.l-index in
     let d = c.l-item.result in
     elim c.match-truth_of.branch [
-      | in-False w ↦ rw w.candidate-is (seen_false set clause i d c.loop-l.candidate c.loop-l-test.true c.loop-l.invariant (subst (λ (k : Literal). IsIn set (negate k)) c.l-item.is w.in-False.ensures))
+      | in-False w ↦ rw w.candidate-is (seen_false set clause i d c.loop-l.candidate c.loop-l-test.true c.loop-l.invariant
+          (subst (λ (k : Literal). IsIn set (negate k)) c.l-item.is w.in-False.ensures))
       | in-Unset+in-None w ↦
           let none : Seen set (take i clause) None = rw w.in-None.is at c.loop-l.invariant in
           let here = subst (λ (k : Literal). (set k ≡ false) × (set (negate k) ≡ false)) c.l-item.is w.in-Unset.ensures in
-          rw w.candidate-is (subst (λ (k : Literal). SeenOne set (take (i + 1) clause) k) (sym c.l-item.is) (seen_unset set clause i d c.loop-l-test.true none here.0 here.1))
+          rw w.candidate-is (subst (λ (k : Literal). SeenOne set (take (i + 1) clause) k) (sym c.l-item.is)
+          (seen_unset set clause i d c.loop-l-test.true none here.0 here.1))
     ]
 
 pub returns-in-Some : goal.returns-in-Some
@@ -36,4 +38,5 @@ returns-in-Some c =
     quiet_two set clause i c.in-Some.field-0 c.l-item.result c.requires.distinct c.loop-l-test.true one here.1
 
 pub returns-in-None-candidate : goal.returns-in-None-candidate
-returns-in-None-candidate c = seen_all (marked c.args.truth.now) c.args.clause.now c.loop-l.l-index c.loop-l-test.false (rw c.in-None-candidate.is at c.loop-l.invariant)
+returns-in-None-candidate c = seen_all (marked c.args.truth.now) c.args.clause.now c.loop-l.l-index c.loop-l-test.false
+    (rw c.in-None-candidate.is at c.loop-l.invariant)

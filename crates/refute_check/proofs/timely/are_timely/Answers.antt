@@ -8,4 +8,5 @@ loop-i-preserved c =
     c.loop-i.invariant c.get-line.ensures.value c.if-not-is_timely.ensures c.greatest_with-vars.ensures c.in_ok-query.ensures
 
 pub returns : goal.returns
-returns c = timely_all c.args.lines.now c.loop-i.i c.loop-i.vars c.loop-i.query c.loop-i.invariant (let low = c.loop-i-test.false in let size = c.len-i-end.ensures.value in omega arith)
+returns c = timely_all c.args.lines.now c.loop-i.i c.loop-i.vars c.loop-i.query c.loop-i.invariant
+    (let low = c.loop-i-test.false in let size = c.len-i-end.ensures.value in omega arith)

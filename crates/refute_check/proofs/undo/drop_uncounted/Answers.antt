@@ -9,7 +9,9 @@ loop-truth-init c = dropped_none c.args.vars c.args.trail.now.items c.args.truth
 pub loop-truth-preserved : goal.loop-truth-preserved
 loop-truth-preserved c =
     let within : c.args.front < length c.loop-truth.trail.items = omega (arith, c.len.ensures, c.loop-truth-test.true) in
-    dropped_one c.args.vars c.args.trail.now.items c.loop-truth.trail.items c.unmark_last.new.trail.items c.loop-truth.truth c.unmark_last.new.truth c.args.front (option_to_list c.unmark_last.result) c.loop-truth.invariant within c.unmark_last.ensures.trail c.unmark_last.ensures.last c.unmark_last.ensures.less
+    dropped_one c.args.vars c.args.trail.now.items c.loop-truth.trail.items c.unmark_last.new.trail.items c.loop-truth.truth c.unmark_last.new.truth
+    c.args.front (option_to_list c.unmark_last.result) c.loop-truth.invariant within c.unmark_last.ensures.trail c.unmark_last.ensures.last
+    c.unmark_last.ensures.less
 
 pub loop-truth-smaller : goal.loop-truth-smaller
 loop-truth-smaller c =

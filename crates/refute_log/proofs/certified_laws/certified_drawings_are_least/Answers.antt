@@ -8,7 +8,8 @@ use Rattle.refute_log.proofs.certified_laws.certified_drawings_are_least.Goals a
 
 pub returns : goal.returns
 returns c = record {
-  least = λ g above grid greatest lines order covers derives v s certified d lawful b. none_better greatest lines order v (values_of d) s (covers d lawful) derives certified b;
+  least = λ g above grid greatest lines order covers derives v s certified d lawful b. none_better greatest lines order v (values_of d) s (covers d lawful)
+      derives certified b;
   none = λ g above grid lines covers derives none d lawful. none_meets lines (values_of d) (covers d lawful) derives none;
   best = λ g above grid greatest lines order covers derives d lawful certified. record {
     lawful = lawful;

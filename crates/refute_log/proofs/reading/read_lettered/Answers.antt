@@ -19,12 +19,15 @@ returns-in_err-read_clause-in-114-clause-fault c =
 
 pub returns-in_ok-read_clause-in-102-clause-line : goal.returns-in_ok-read_clause-in-102-clause-line
 returns-in_ok-read_clause-in-102-clause-line c =
-    rw c.in-102.is (formula_is c.args.text.now c.in_ok-read_clause-in-102.field-0 c.in_ok-read_clause-in-102.ensures.literals c.in_ok-read_clause-in-102.ensures.distinct)
+    rw c.in-102.is (formula_is c.args.text.now c.in_ok-read_clause-in-102.field-0 c.in_ok-read_clause-in-102.ensures.literals
+    c.in_ok-read_clause-in-102.ensures.distinct)
 
 pub returns-in_ok-read_clause-in-113-clause-line : goal.returns-in_ok-read_clause-in-113-clause-line
 returns-in_ok-read_clause-in-113-clause-line c =
-    rw c.in-113.is (query_is c.args.text.now c.in_ok-read_clause-in-113.field-0 c.in_ok-read_clause-in-113.ensures.literals c.in_ok-read_clause-in-113.ensures.distinct)
+    rw c.in-113.is (query_is c.args.text.now c.in_ok-read_clause-in-113.field-0 c.in_ok-read_clause-in-113.ensures.literals
+    c.in_ok-read_clause-in-113.ensures.distinct)
 
 pub returns-in_ok-read_clause-in-114-clause-line : goal.returns-in_ok-read_clause-in-114-clause-line
 returns-in_ok-read_clause-in-114-clause-line c =
-    rw c.in-114.is (refuted_is c.args.text.now c.in_ok-read_clause-in-114.field-0 c.in_ok-read_clause-in-114.ensures.literals c.in_ok-read_clause-in-114.ensures.distinct)
+    rw c.in-114.is (refuted_is c.args.text.now c.in_ok-read_clause-in-114.field-0 c.in_ok-read_clause-in-114.ensures.literals
+    c.in_ok-read_clause-in-114.ensures.distinct)

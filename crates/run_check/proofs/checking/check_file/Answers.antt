@@ -19,10 +19,13 @@ returns-in-Ok-clause-answer g c =
     let log = log_input 3 c.args.log.now in
     let read : IsRead old mid = record { same = c.in-Ok.ensures.same; later = c.in-Ok.ensures.later; one = c.in-Ok.ensures.reads } in
     IfOk-weaker c.check_sheet.result _ _ (λ r answer.
-    read_on (text_input 2 c.args.sheet.now) 0 (between old new) (λ said. IsAnswerOn log 1 (between old new) (IsAnswerAfter 2 (between old new) (IsChecked file said))) sheet r.status r.text.items c.in-Ok.ensures.bytes
-    (answer_before log 0 old mid new (IsAnswerAfter 1 (between mid new) (IsChecked file sheet)) (IsAnswerAfter 2 (between old new) (IsChecked file sheet)) r.status r.text.items read
+    read_on (text_input 2 c.args.sheet.now) 0 (between old new) (λ said. IsAnswerOn log 1 (between old new)
+    (IsAnswerAfter 2 (between old new) (IsChecked file said))) sheet r.status r.text.items c.in-Ok.ensures.bytes
+    (answer_before log 0 old mid new (IsAnswerAfter 1 (between mid new) (IsChecked file sheet)) (IsAnswerAfter 2 (between old new) (IsChecked file sheet))
+    r.status r.text.items read
     (λ told. after_before 1 old mid new (IsChecked file sheet) told r.status r.text.items read)
-    (subst (λ (xs : List ℕ). IsAnswerOn log 0 (between mid new) (IsAnswerAfter 1 (between mid new) (IsChecked file xs)) r.status r.text.items) c.deref.ensures.value answer)))
+    (subst (λ (xs : List ℕ). IsAnswerOn log 0 (between mid new) (IsAnswerAfter 1 (between mid new) (IsChecked file xs)) r.status r.text.items)
+    c.deref.ensures.value answer)))
     c.check_sheet.ensures.answer
 
 pub returns-in-Ok-clause-reads : goal.returns-in-Ok-clause-reads
@@ -31,7 +34,8 @@ returns-in-Ok-clause-reads g c =
     reads_more 1 _ (at c.args.files.now) (at c.bytes_of.new.files) (at c.check_sheet.new.files) c.in-Ok.ensures.reads c.check_sheet.ensures.reads
 
 pub returns-in-Err-Fault-clause-reads : goal.returns-in-Err-Fault-clause-reads
-returns-in-Err-Fault-clause-reads g c = reads_some 1 2 _ _ (omega arith) (refused_reply c.fault_reply.result c.fault_reply.ensures.refused) c.in-Err-Fault.ensures.reads_err
+returns-in-Err-Fault-clause-reads g c = reads_some 1 2 _ _ (omega arith) (refused_reply c.fault_reply.result c.fault_reply.ensures.refused)
+    c.in-Err-Fault.ensures.reads_err
 
 pub returns-in-Err-Memory-clause-reads : goal.returns-in-Err-Memory-clause-reads
 returns-in-Err-Memory-clause-reads g c = reads_some 1 2 _ _ (omega arith) (λ h. h) c.in-Err-Memory.ensures.reads_err

@@ -10,14 +10,17 @@ returns-in-Ok-clause-answer g c =
     let at = g.F.Files.at in
     let texts = c.in-Ok.texts in
     IfOk-weaker c.recheck_bytes.result _ _ (λ r answer.
-    read_files c.args.input.now c.args.sheet.now c.args.hints.now (between (at c.args.files.now) (at c.read_all.new.files)) IsRechecked texts.bytes.items texts.said.items texts.lines.items r.status r.text.items c.in-Ok.ensures.inputs c.in-Ok.ensures.reads
-    (rechecked_of texts.bytes.items texts.said.items texts.lines.items c.deref.result.now c.deref-in-Ok.result.now c.deref-in-Ok-2.result.now r.status r.text.items c.deref.ensures.value c.deref-in-Ok.ensures.value c.deref-in-Ok-2.ensures.value answer))
+    read_files c.args.input.now c.args.sheet.now c.args.hints.now (between (at c.args.files.now) (at c.read_all.new.files)) IsRechecked texts.bytes.items
+    texts.said.items texts.lines.items r.status r.text.items c.in-Ok.ensures.inputs c.in-Ok.ensures.reads
+    (rechecked_of texts.bytes.items texts.said.items texts.lines.items c.deref.result.now c.deref-in-Ok.result.now c.deref-in-Ok-2.result.now r.status
+    r.text.items c.deref.ensures.value c.deref-in-Ok.ensures.value c.deref-in-Ok-2.ensures.value answer))
     c.recheck_bytes.ensures
 
 pub returns-in-Err-Fault-clause-answer : goal.returns-in-Err-Fault-clause-answer
 returns-in-Err-Fault-clause-answer g c =
     let at = g.F.Files.at in
     IfOk-weaker c.fault_reply.result _ _ (λ r told.
-    unread_answer c.args.input.now c.args.sheet.now c.args.hints.now (between (at c.args.files.now) (at c.read_all.new.files)) IsRechecked c.in-Err-Fault.field-0 c.in-Err-Fault.fault r.status r.text.items c.in-Err-Fault.field-0-is
+    unread_answer c.args.input.now c.args.sheet.now c.args.hints.now (between (at c.args.files.now) (at c.read_all.new.files)) IsRechecked
+    c.in-Err-Fault.field-0 c.in-Err-Fault.fault r.status r.text.items c.in-Err-Fault.field-0-is
     c.in-Err-Fault.ensures.refusal told)
     c.fault_reply.ensures.told

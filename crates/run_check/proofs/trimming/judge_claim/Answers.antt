@@ -11,7 +11,8 @@ returns-in-Ok-Some c =
     let o = c.args.station.now.order in
     let said = c.args.sheet.now in
     let lawful : IfSome said.found (Lawful g (is_above o) said.grid) = where_none _ _ c.in_ok-reply.field-0 c.in_ok-reply.ensures c.in_default.not-Some in
-    let left = rw c.in-Ok-Some.field-0-is at (trimmed_for g o said _ c.claim_of-claim.result c.args.log.now c.in-Ok-Some.field-0 c.sheet.view_is c.claim_of-claim.ensures c.in-Ok-Some.ensures) in
+    let left = rw c.in-Ok-Some.field-0-is at (trimmed_for g o said _ c.claim_of-claim.result c.args.log.now c.in-Ok-Some.field-0 c.sheet.view_is
+    c.claim_of-claim.ensures c.in-Ok-Some.ensures) in
     (certifies_of g o said c.args.log.now lawful left.0, left.1)
 
 pub returns-in_ok-reply-in-Ok-None : goal.returns-in_ok-reply-in-Ok-None
@@ -20,5 +21,6 @@ returns-in_ok-reply-in-Ok-None c =
     let o = c.args.station.now.order in
     let said = c.args.sheet.now in
     let reply = c.in_ok-reply-in-Ok-None.reply in
-    let lacks = rw c.in-Ok-None.field-0-is at (trimmed_for g o said _ c.claim_of-claim.result c.args.log.now c.in-Ok-None.field-0 c.sheet.view_is c.claim_of-claim.ensures c.in-Ok-None.ensures) in
+    let lacks = rw c.in-Ok-None.field-0-is at (trimmed_for g o said _ c.claim_of-claim.result c.args.log.now c.in-Ok-None.field-0 c.sheet.view_is
+    c.claim_of-claim.ensures c.in-Ok-None.ensures) in
     (c.in_ok-reply-in-Ok-None.ensures, lacking_not_done g o said c.args.log.now reply.status reply.text.items lacks c.in_ok-reply-in-Ok-None.ensures)

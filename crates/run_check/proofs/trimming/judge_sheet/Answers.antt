@@ -9,4 +9,5 @@ judge_claim-requires-clause-claim c = sheet_claims c.args.station.now.graph fals
 
 pub returns-in-Ok : goal.returns-in-Ok
 returns-in-Ok c =
-    IfOk-weaker c.judge_claim.result _ _ (λ f h. sheet_finding c.args.station.now.graph c.args.station.now.order c.args.sheet.now c.args.log.now c.in-Ok.sheet f c.in-Ok.ensures.value h) c.judge_claim.ensures
+    IfOk-weaker c.judge_claim.result _ _ (λ f h. sheet_finding c.args.station.now.graph c.args.station.now.order c.args.sheet.now c.args.log.now c.in-Ok.sheet f
+    c.in-Ok.ensures.value h) c.judge_claim.ensures

@@ -17,9 +17,11 @@ returns-in-Answered-clause-answer g c =
     let at = g.F.Files.at in
     let texts = c.in-Ok.texts in
     let found : IsFinding texts.bytes.items texts.said.items texts.lines.items (Answered c.in-Answered.reply) =
-    finding_of texts.bytes.items texts.said.items texts.lines.items c.deref.result.now c.deref-in-Ok.result.now c.deref-in-Ok-2.result.now c.in_ok-reply-in-Ok.field-0 (Answered c.in-Answered.reply) c.deref.ensures.value c.deref-in-Ok.ensures.value
+    finding_of texts.bytes.items texts.said.items texts.lines.items c.deref.result.now c.deref-in-Ok.result.now c.deref-in-Ok-2.result.now
+    c.in_ok-reply-in-Ok.field-0 (Answered c.in-Answered.reply) c.deref.ensures.value c.deref-in-Ok.ensures.value
     c.deref-in-Ok-2.ensures.value c.in-Answered.is c.in_ok-reply-in-Ok.ensures in
-    answered_trim c.args.input.now c.args.sheet.now c.args.log.now c.args.hints.now texts.bytes.items texts.said.items texts.lines.items (between (at c.args.files.now) (at c.read_all.new.files)) c.in-Answered.reply c.in-Ok.ensures.inputs c.in-Ok.ensures.reads
+    answered_trim c.args.input.now c.args.sheet.now c.args.log.now c.args.hints.now texts.bytes.items texts.said.items texts.lines.items
+    (between (at c.args.files.now) (at c.read_all.new.files)) c.in-Answered.reply c.in-Ok.ensures.inputs c.in-Ok.ensures.reads
     found
 
 pub returns-in-Ok-clause-answer : goal.returns-in-Ok-clause-answer
@@ -27,10 +29,12 @@ returns-in-Ok-clause-answer g c =
     let at = g.F.Files.at in
     let texts = c.in-Ok.texts in
     let leaves : LeavesLines texts.bytes.items texts.said.items texts.lines.items c.in-Left.left =
-    finding_of texts.bytes.items texts.said.items texts.lines.items c.deref.result.now c.deref-in-Ok.result.now c.deref-in-Ok-2.result.now c.in_ok-reply-in-Ok.field-0 (Left c.in-Left.left) c.deref.ensures.value c.deref-in-Ok.ensures.value
+    finding_of texts.bytes.items texts.said.items texts.lines.items c.deref.result.now c.deref-in-Ok.result.now c.deref-in-Ok-2.result.now
+    c.in_ok-reply-in-Ok.field-0 (Left c.in-Left.left) c.deref.ensures.value c.deref-in-Ok.ensures.value
     c.deref-in-Ok-2.ensures.value c.in-Left.is c.in_ok-reply-in-Ok.ensures in
     IfOk-weaker c.write_left.result _ _ (λ r told.
-    left_trim c.args.input.now c.args.sheet.now c.args.log.now c.args.hints.now texts.bytes.items texts.said.items texts.lines.items (at c.args.files.now) (at c.read_all.new.files) (at c.write_left.new.files) c.in-Left.left r.status r.text.items
+    left_trim c.args.input.now c.args.sheet.now c.args.log.now c.args.hints.now texts.bytes.items texts.said.items texts.lines.items (at c.args.files.now)
+    (at c.read_all.new.files) (at c.write_left.new.files) c.in-Left.left r.status r.text.items
     c.in-Ok.ensures.inputs (c.write_left.ensures.reads ∙ c.in-Ok.ensures.reads) c.in-Ok.ensures.same leaves told)
     c.write_left.ensures.answer
 
@@ -51,7 +55,8 @@ returns-in-Ok-clause-unwritten g c =
       lines = texts.lines.items;
       files = c.in-Ok.ensures.inputs;
       leaves =
-          finding_of texts.bytes.items texts.said.items texts.lines.items c.deref.result.now c.deref-in-Ok.result.now c.deref-in-Ok-2.result.now c.in_ok-reply-in-Ok.field-0 (Left c.in-Left.left) c.deref.ensures.value c.deref-in-Ok.ensures.value
+          finding_of texts.bytes.items texts.said.items texts.lines.items c.deref.result.now c.deref-in-Ok.result.now c.deref-in-Ok-2.result.now
+          c.in_ok-reply-in-Ok.field-0 (Left c.in-Left.left) c.deref.ensures.value c.deref-in-Ok.ensures.value
           c.deref-in-Ok-2.ensures.value c.in-Left.is c.in_ok-reply-in-Ok.ensures;
     } in
     never_unwritten c.args.input.now c.args.sheet.now c.args.log.now c.in-Left.left old new Other found
@@ -72,14 +77,17 @@ returns-in-Ok-clause-leaves g c =
       lines = texts.lines.items;
       files = c.in-Ok.ensures.inputs;
       leaves =
-          finding_of texts.bytes.items texts.said.items texts.lines.items c.deref.result.now c.deref-in-Ok.result.now c.deref-in-Ok-2.result.now c.in_ok-reply-in-Ok.field-0 (Left c.in-Left.left) c.deref.ensures.value c.deref-in-Ok.ensures.value
+          finding_of texts.bytes.items texts.said.items texts.lines.items c.deref.result.now c.deref-in-Ok.result.now c.deref-in-Ok-2.result.now
+          c.in_ok-reply-in-Ok.field-0 (Left c.in-Left.left) c.deref.ensures.value c.deref-in-Ok.ensures.value
           c.deref-in-Ok-2.ensures.value c.in-Left.is c.in_ok-reply-in-Ok.ensures;
     } in
-    trim_leaves c.args.input.now c.args.sheet.now c.args.log.now c.args.hints.now c.in-Left.left old mid new Refused found c.in-Ok.ensures.same c.write_left.ensures.unrefused c.write_left.ensures.leaves
+    trim_leaves c.args.input.now c.args.sheet.now c.args.log.now c.args.hints.now c.in-Left.left old mid new Refused found c.in-Ok.ensures.same
+    c.write_left.ensures.unrefused c.write_left.ensures.leaves
 
 pub returns-in-Err-Fault-clause-answer : goal.returns-in-Err-Fault-clause-answer
 returns-in-Err-Fault-clause-answer g c =
     let met = between (g.F.Files.at c.args.files.now) (g.F.Files.at c.read_all.new.files) in
     let reply = c.in_ok-fault_reply-in-Err-Fault.field-0 in
-    unread_answer c.args.input.now c.args.sheet.now c.args.log.now met (AreTrimmed c.args.hints.now met) c.in-Err-Fault.field-0 c.in-Err-Fault.fault reply.status reply.text.items c.in-Err-Fault.field-0-is c.in-Err-Fault.ensures.refusal
+    unread_answer c.args.input.now c.args.sheet.now c.args.log.now met (AreTrimmed c.args.hints.now met) c.in-Err-Fault.field-0 c.in-Err-Fault.fault
+    reply.status reply.text.items c.in-Err-Fault.field-0-is c.in-Err-Fault.ensures.refusal
     c.in_ok-fault_reply-in-Err-Fault.ensures.told

@@ -14,7 +14,8 @@ returns-then-is_long-clause-refusal g c =
     let long : IsLong c.args.limit bytes = subst (IsLong c.args.limit) c.deref.ensures.value c.if-is_long.ensures in
     inl (
       subst (λ (name : List ℕ). IsOfFile (IsLong c.args.limit) name contents) c.as_str.ensures
-          (long_of_front (input_file c.args.number c.as_str.result.now c.args.limit) contents c.new-bytes.result.items bytes (c.args.limit + 1) c.new-bytes.ensures.items c.in-Ok.ensures.ok long),
+          (long_of_front (input_file c.args.number c.as_str.result.now c.args.limit) contents c.new-bytes.result.items bytes (c.args.limit + 1)
+          c.new-bytes.ensures.items c.in-Ok.ensures.ok long),
       c.in-Ok.ensures.reads_ok,
       refl,
     )
@@ -25,7 +26,8 @@ returns-in-Ok-clause-bytes g c =
     let bytes = c.read_front.new.into.items in
     let short : IsShort c.args.limit bytes = subst (IsShort c.args.limit) c.deref.ensures.value c.if-is_long.ensures in
     subst (λ (name : List ℕ). IsInput (input_file c.args.number name c.args.limit) contents bytes) c.as_str.ensures
-    (input_of_front (input_file c.args.number c.as_str.result.now c.args.limit) contents c.new-bytes.result.items bytes (c.args.limit + 1) (omega arith) c.new-bytes.ensures.items c.in-Ok.ensures.ok short)
+    (input_of_front (input_file c.args.number c.as_str.result.now c.args.limit) contents c.new-bytes.result.items bytes (c.args.limit + 1) (omega arith)
+    c.new-bytes.ensures.items c.in-Ok.ensures.ok short)
 
 pub returns-then-is_long-clause-reads_err : goal.returns-then-is_long-clause-reads_err
 returns-then-is_long-clause-reads_err g c = reads_one _ _ c.in-Ok.ensures.reads_ok

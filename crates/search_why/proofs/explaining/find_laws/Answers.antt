@@ -18,7 +18,8 @@ use Rattle.outside_io.proofs.Results.{on_err_anyway}
 
 pub returns-in_err-all-clause-leaves : goal.returns-in_err-all-clause-leaves
 returns-in_err-all-clause-leaves g c = let o = g.O.LawOracle in
-    on_err_anyway _ _ (leaves_same (o.knows c.args.oracle.now) (o.log c.args.oracle.now) (g.met.O.LawOracle.derives c.args.oracle.now) (g.met.O.LawOracle.one_reading c.args.oracle.now))
+    on_err_anyway _ _ (leaves_same (o.knows c.args.oracle.now) (o.log c.args.oracle.now) (g.met.O.LawOracle.derives c.args.oracle.now)
+    (g.met.O.LawOracle.one_reading c.args.oracle.now))
 
 pub ask-requires-clause-places : goal.ask-requires-clause-places
 ask-requires-clause-places g c = let o = g.O.LawOracle in
@@ -31,12 +32,14 @@ returns-in_err-d-clause-leaves g c = on_err_anyway _ _ c.in_err-d.ensures.leaves
 pub returns-in-Found-clause-right : goal.returns-in-Found-clause-right
 returns-in-Found-clause-right g c = let o = g.O.LawOracle in
     let p = o.task c.args.oracle.now in
-    found_all p c.deref.result.now c.in-Found.d c.in_ok-d.field-0 (c.deref.ensures.value ∙ c.in_ok-all.ensures ∙ ap countdown c.laws.ensures) c.in-Found.is c.in_ok-d.ensures.right c.requires.laws
+    found_all p c.deref.result.now c.in-Found.d c.in_ok-d.field-0 (c.deref.ensures.value ∙ c.in_ok-all.ensures ∙ ap countdown c.laws.ensures) c.in-Found.is
+    c.in_ok-d.ensures.right c.requires.laws
 
 pub returns-in-Found-clause-lines : goal.returns-in-Found-clause-lines
 returns-in-Found-clause-lines g c = let o = g.O.LawOracle in
     let p = o.task c.args.oracle.now in
-    becomes o.knows o.log o.learnt c.args.oracle.now c.ask.new.self (λ lines more. TellsReply p c.in_ok-d.field-0 (lines ++ more)) AnyLines c.in_ok-d.ensures.lines (λ lines xs ka kb q. tt)
+    becomes o.knows o.log o.learnt c.args.oracle.now c.ask.new.self (λ lines more. TellsReply p c.in_ok-d.field-0 (lines ++ more)) AnyLines
+    c.in_ok-d.ensures.lines (λ lines xs ka kb q. tt)
 
 pub narrow-requires-clause-ready : goal.narrow-requires-clause-ready
 narrow-requires-clause-ready g c = c.in_ok-d.ensures.ready
@@ -48,17 +51,21 @@ narrow-requires-clause-laws g c = let o = g.O.LawOracle in
 pub narrow-requires-clause-places : goal.narrow-requires-clause-places
 narrow-requires-clause-places g c = let o = g.O.LawOracle in
     let p = o.task c.args.oracle.now in
-    let start : AreLawPlaces p c.in_ok-all.all.items = subst (λ (w : List ℕ). AreLawPlaces p w) (sym (c.in_ok-all.ensures ∙ ap countdown c.laws.ensures)) (all_places_are p) in
+    let start : AreLawPlaces p c.in_ok-all.all.items = subst (λ (w : List ℕ). AreLawPlaces p w) (sym (c.in_ok-all.ensures ∙ ap countdown c.laws.ensures))
+    (all_places_are p) in
     let right = subst (λ (w : List ℕ). IsRightReply p w c.in_ok-d.field-0) c.deref.ensures.value c.in_ok-d.ensures.right in
-    let both = first_refuted p c.in_ok-all.all.items c.in-Refuted.core c.as_slice.result.now c.keep_only.new.places.items c.in_ok-d.field-0 start c.in-Refuted.is right c.as_slice.ensures c.keep_only.ensures in
+    let both = first_refuted p c.in_ok-all.all.items c.in-Refuted.core c.as_slice.result.now c.keep_only.new.places.items c.in_ok-d.field-0 start
+    c.in-Refuted.is right c.as_slice.ensures c.keep_only.ensures in
     subst (λ (x : Task). AreLawPlaces x c.keep_only.new.places.items) (sym c.in_ok-d.ensures.task) both.0
 
 pub narrow-requires-clause-none : goal.narrow-requires-clause-none
 narrow-requires-clause-none g c = let o = g.O.LawOracle in
     let p = o.task c.args.oracle.now in
-    let start : AreLawPlaces p c.in_ok-all.all.items = subst (λ (w : List ℕ). AreLawPlaces p w) (sym (c.in_ok-all.ensures ∙ ap countdown c.laws.ensures)) (all_places_are p) in
+    let start : AreLawPlaces p c.in_ok-all.all.items = subst (λ (w : List ℕ). AreLawPlaces p w) (sym (c.in_ok-all.ensures ∙ ap countdown c.laws.ensures))
+    (all_places_are p) in
     let right = subst (λ (w : List ℕ). IsRightReply p w c.in_ok-d.field-0) c.deref.ensures.value c.in_ok-d.ensures.right in
-    let both = first_refuted p c.in_ok-all.all.items c.in-Refuted.core c.as_slice.result.now c.keep_only.new.places.items c.in_ok-d.field-0 start c.in-Refuted.is right c.as_slice.ensures c.keep_only.ensures in
+    let both = first_refuted p c.in_ok-all.all.items c.in-Refuted.core c.as_slice.result.now c.keep_only.new.places.items c.in_ok-d.field-0 start
+    c.in-Refuted.is right c.as_slice.ensures c.keep_only.ensures in
     subst (λ (x : Task). NoneMeetsLaws x c.keep_only.new.places.items) (sym c.in_ok-d.ensures.task) both.1
 
 pub returns-in-Refuted-clause-right : goal.returns-in-Refuted-clause-right
@@ -72,9 +79,11 @@ returns-in-Refuted-clause-lines g c = let o = g.O.LawOracle in
     IfOk-weaker c.narrow.result
     (λ x. Continues o.knows o.log o.learnt b e (λ lines more. TellsOutcome (o.task b) x (lines ++ more)))
     (λ x. Continues o.knows o.log o.learnt a e (λ lines more. TellsOutcome (o.task a) x (lines ++ more)))
-    (λ x run. goes_on o.knows o.log o.learnt a b e (λ lines more. TellsReply (o.task a) c.in_ok-d.field-0 (lines ++ more)) (λ lines more. TellsOutcome (o.task b) x (lines ++ more)) (λ lines more. TellsOutcome (o.task a) x (lines ++ more))
+    (λ x run. goes_on o.knows o.log o.learnt a b e (λ lines more. TellsReply (o.task a) c.in_ok-d.field-0 (lines ++ more))
+    (λ lines more. TellsOutcome (o.task b) x (lines ++ more)) (λ lines more. TellsOutcome (o.task a) x (lines ++ more))
     c.in_ok-d.ensures.lines run
-    (λ lines xs ys ka kb ke r s. subst (λ (t : Task). TellsOutcome t x (lines ++ (xs ++ ys))) c.in_ok-d.ensures.task (subst (λ (ls : Lines). TellsOutcome (o.task b) x ls) (append_assoc lines xs ys) s)))
+    (λ lines xs ys ka kb ke r s. subst (λ (t : Task). TellsOutcome t x (lines ++ (xs ++ ys))) c.in_ok-d.ensures.task
+    (subst (λ (ls : Lines). TellsOutcome (o.task b) x ls) (append_assoc lines xs ys) s)))
     c.narrow.ensures.lines
 
 pub returns-in-Refuted-clause-leaves : goal.returns-in-Refuted-clause-leaves
@@ -83,10 +92,12 @@ returns-in-Refuted-clause-leaves g c = let o = g.O.LawOracle in
     let b = c.ask.new.self in
     let e = c.narrow.new.oracle in
     on_err_weaker c.narrow.result (Leaves [] (o.knows b) (o.log b) (o.log e)) (Leaves [] (o.knows a) (o.log a) (o.log e))
-    (left_later o.knows o.log o.learnt o.task a b e (λ lines more. TellsReply (o.task a) c.in_ok-d.field-0 (lines ++ more)) c.in_ok-d.ensures.lines g.met.O.LawOracle.gives c.in_ok-d.ensures.task) c.narrow.ensures.leaves
+    (left_later o.knows o.log o.learnt o.task a b e (λ lines more. TellsReply (o.task a) c.in_ok-d.field-0 (lines ++ more)) c.in_ok-d.ensures.lines
+    g.met.O.LawOracle.gives c.in_ok-d.ensures.task) c.narrow.ensures.leaves
 
 pub returns-in-Stopped-clause-lines : goal.returns-in-Stopped-clause-lines
 returns-in-Stopped-clause-lines g c = let o = g.O.LawOracle in
     let p = o.task c.args.oracle.now in
-    becomes o.knows o.log o.learnt c.args.oracle.now c.ask.new.self (λ lines more. TellsReply p c.in_ok-d.field-0 (lines ++ more)) (λ lines more. IsCause p.budget p.room c.in-Stopped.stop (lines ++ more)) c.in_ok-d.ensures.lines
+    becomes o.knows o.log o.learnt c.args.oracle.now c.ask.new.self (λ lines more. TellsReply p c.in_ok-d.field-0 (lines ++ more))
+    (λ lines more. IsCause p.budget p.room c.in-Stopped.stop (lines ++ more)) c.in_ok-d.ensures.lines
     (λ lines xs ka kb q. subst (λ (r : Reply). TellsReply p r (lines ++ xs)) c.in-Stopped.is q)

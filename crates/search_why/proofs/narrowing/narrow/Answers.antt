@@ -25,7 +25,8 @@ loop-law-init g c = let o = g.O.LawOracle in
       ready = c.requires.ready;
       narrowed = subst (λ (k : List ℕ). IsNarrowed p k b.result.left.items b.result.without.items) (sym b.ensures.kept)
           (subst (λ (l : List ℕ). IsNarrowed p [] l b.result.without.items) (sym b.ensures.left)
-          (subst (λ (w : List Drawing). IsNarrowed p [] c.args.left.items w) (sym b.ensures.without) (narrow_none p c.args.left.items c.requires.places c.requires.none)));
+          (subst (λ (w : List Drawing). IsNarrowed p [] c.args.left.items w) (sym b.ensures.without)
+          (narrow_none p c.args.left.items c.requires.places c.requires.none)));
       later = g.met.O.LawOracle.later_same c.args.oracle.now;
       faults = omega arith;
       lines = stays o.knows o.log o.learnt c.args.oracle.now AnyLines (λ lines k. tt);
@@ -57,19 +58,22 @@ loop-law-preserved g c = let o = g.O.LawOracle in
       narrowed = subst (λ (x : Task). IsNarrowed x q.kept.items q.left.items q.without.items) c.loop-law.invariant.task (e.narrowed c.in_default-2.is);
       later = g.met.O.LawOracle.later_more c.args.oracle.now c.loop-law.oracle c.take_away.new.oracle c.loop-law.invariant.later e.later;
       faults = (let a = c.loop-law.invariant.faults in let b = e.faults in omega arith);
-      lines = goes_on o.knows o.log o.learnt c.args.oracle.now c.loop-law.oracle c.take_away.new.oracle AnyLines (λ lines more. TellsStop (o.task c.loop-law.oracle) c.in_ok-stop.field-0 (lines ++ more)) AnyLines
+      lines = goes_on o.knows o.log o.learnt c.args.oracle.now c.loop-law.oracle c.take_away.new.oracle AnyLines
+          (λ lines more. TellsStop (o.task c.loop-law.oracle) c.in_ok-stop.field-0 (lines ++ more)) AnyLines
           c.loop-law.invariant.lines e.lines (λ lines xs ys ka kb ke r s. tt);
     }
 
 pub returns-in_err-stop-clause-leaves : goal.returns-in_err-stop-clause-leaves
 returns-in_err-stop-clause-leaves g c = let o = g.O.LawOracle in
-    on_err_anyway _ _ (left_later o.knows o.log o.learnt o.task c.args.oracle.now c.loop-law.oracle c.take_away.new.oracle AnyLines c.loop-law.invariant.lines g.met.O.LawOracle.gives c.loop-law.invariant.task c.in_err-stop.ensures.leaves)
+    on_err_anyway _ _ (left_later o.knows o.log o.learnt o.task c.args.oracle.now c.loop-law.oracle c.take_away.new.oracle AnyLines c.loop-law.invariant.lines
+    g.met.O.LawOracle.gives c.loop-law.invariant.task c.in_err-stop.ensures.leaves)
 
 pub returns-in-Some-2-clause-lines : goal.returns-in-Some-2-clause-lines
 returns-in-Some-2-clause-lines g c = let o = g.O.LawOracle in
     let p = o.task c.args.oracle.now in
     let stop = c.in-Some-2.stop in
-    goes_on o.knows o.log o.learnt c.args.oracle.now c.loop-law.oracle c.take_away.new.oracle AnyLines (λ lines more. TellsStop (o.task c.loop-law.oracle) c.in_ok-stop.field-0 (lines ++ more)) (λ lines more. IsCause p.budget p.room stop (lines ++ more))
+    goes_on o.knows o.log o.learnt c.args.oracle.now c.loop-law.oracle c.take_away.new.oracle AnyLines
+    (λ lines more. TellsStop (o.task c.loop-law.oracle) c.in_ok-stop.field-0 (lines ++ more)) (λ lines more. IsCause p.budget p.room stop (lines ++ more))
     c.loop-law.invariant.lines c.in_ok-stop.ensures.lines
     (λ lines xs ys ka kb ke r s.
     subst (λ (x : Task). IsCause x.budget x.room stop (lines ++ (xs ++ ys))) c.loop-law.invariant.task
@@ -80,12 +84,19 @@ pub returns-clause-right : goal.returns-clause-right
 returns-clause-right g c = let o = g.O.LawOracle in
     let p = o.task c.args.oracle.now in
     let q = c.loop-law.progress in
-    let none : q.left.items ≡ [] = nothing_left q.left.items c.pop.new.self.items _ c.in_default.ensures.items c.in_default.ensures.rest c.in_default.ensures.cases.0 in
-    let n : IsNarrowed p q.kept.items [] q.without.items = subst (λ (l : List ℕ). IsNarrowed p q.kept.items l q.without.items) none c.loop-law.invariant.narrowed in
-    subst (λ (x : Outcome). IsRightOutcome p x) (sym c.finish.ensures) (narrowed_explains p q.kept.items q.without.items c.requires.laws n, narrowed_without p q.kept.items q.without.items n)
+    let none : q.left.items ≡ [] = nothing_left q.left.items c.pop.new.self.items _ c.in_default.ensures.items c.in_default.ensures.rest
+    c.in_default.ensures.cases.0 in
+    let n : IsNarrowed p q.kept.items [] q.without.items = subst (λ (l : List ℕ). IsNarrowed p q.kept.items l q.without.items) none
+    c.loop-law.invariant.narrowed in
+    subst (λ (x : Outcome). IsRightOutcome p x) (sym c.finish.ensures) (
+      narrowed_explains p q.kept.items q.without.items c.requires.laws n,
+      narrowed_without p
+          q.kept.items q.without.items n,
+    )
 
 pub returns-clause-lines : goal.returns-clause-lines
 returns-clause-lines g c = let o = g.O.LawOracle in
     let p = o.task c.args.oracle.now in
-    becomes o.knows o.log o.learnt c.args.oracle.now c.loop-law.oracle AnyLines (λ lines more. TellsOutcome p c.finish.result (lines ++ more)) c.loop-law.invariant.lines
+    becomes o.knows o.log o.learnt c.args.oracle.now c.loop-law.oracle AnyLines (λ lines more. TellsOutcome p c.finish.result (lines ++ more))
+    c.loop-law.invariant.lines
     (λ lines xs ka kb q. subst (λ (x : Outcome). TellsOutcome p x (lines ++ xs)) (sym c.finish.ensures) tt)

@@ -4,7 +4,8 @@ use Rattle.search_why.proofs.PlaceLemmas.{countdown_next}
 use Rattle.search_why.proofs.places.all_places.Goals as goal
 
 pub loop-i-init : goal.loop-i-init
-loop-i-init c = let z : c.args.count - 0 ≡ c.args.count = omega arith in ap (λ (xs : List ℕ). xs ++ countdown (c.args.count - 0)) c.new-places.ensures.items ∙ ap countdown z
+loop-i-init c = let z : c.args.count - 0 ≡ c.args.count = omega arith in ap (λ (xs : List ℕ). xs ++ countdown (c.args.count - 0)) c.new-places.ensures.items
+    ∙ ap countdown z
 
 pub loop-i-preserved : goal.loop-i-preserved
 loop-i-preserved c =

@@ -5,4 +5,10 @@ use Rattle.station_make.proofs.loop_track.push_loop_track.Goals as goal
 
 pub returns : goal.returns
 unfolding loop_track
-returns c = IfOk-equal c.push_text-2.result _ _ _ c.push_text-2.ensures.ok (simp (c.in_ok-push_loop_end.ensures, c.in_ok-push_loop_begin.ensures, c.in_ok-push_text.ensures.ok, c.in_ok-push_numbered.ensures, append_assoc))
+returns c = IfOk-equal c.push_text-2.result _ _ _ c.push_text-2.ensures.ok (simp (
+  c.in_ok-push_loop_end.ensures,
+  c.in_ok-push_loop_begin.ensures,
+  c.in_ok-push_text.ensures.ok,
+  c.in_ok-push_numbered.ensures,
+  append_assoc,
+))

@@ -5,4 +5,14 @@ use Rattle.station_make.proofs.main_track.push_returning_switch.Goals as goal
 
 pub returns : goal.returns
 unfolding returning_switch
-returns c = IfOk-equal c.push_text-3.result _ _ _ c.push_text-3.ensures.ok (simp (c.in_ok-push_text-2.ensures.ok, c.westward_hand.ensures, c.in_ok-push_text.ensures.ok, c.in_ok-push_numbered-4.ensures, c.in_ok-push_numbered-3.ensures, c.in_ok-push_numbered-2.ensures, c.returning.ensures, c.in_ok-push_numbered.ensures, append_assoc))
+returns c = IfOk-equal c.push_text-3.result _ _ _ c.push_text-3.ensures.ok (simp (
+  c.in_ok-push_text-2.ensures.ok,
+  c.westward_hand.ensures,
+  c.in_ok-push_text.ensures.ok,
+  c.in_ok-push_numbered-4.ensures,
+  c.in_ok-push_numbered-3.ensures,
+  c.in_ok-push_numbered-2.ensures,
+  c.returning.ensures,
+  c.in_ok-push_numbered.ensures,
+  append_assoc,
+))

@@ -10,4 +10,5 @@ same_length n bytes short e = subst (λ (b : List ℕ). length b ≤ MAX_FILE_BY
 
 pub returns-clause-length : goal.returns-clause-length
 returns-clause-length c =
-    IfOk-weaker c.file_of.result (λ file. file.items ≡ station_text c.args.n) (λ file. length file.items ≤ MAX_FILE_BYTES) (λ file e. same_length c.args.n file.items (station_short c.args.n c.ranges.n.fits) e) c.file_of.ensures
+    IfOk-weaker c.file_of.result (λ file. file.items ≡ station_text c.args.n) (λ file. length file.items ≤ MAX_FILE_BYTES)
+    (λ file e. same_length c.args.n file.items (station_short c.args.n c.ranges.n.fits) e) c.file_of.ensures

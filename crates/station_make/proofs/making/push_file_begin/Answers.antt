@@ -5,4 +5,11 @@ use Rattle.station_make.proofs.making.push_file_begin.Goals as goal
 
 pub returns : goal.returns
 unfolding file_begin
-returns c = IfOk-equal c.push_text-5.result _ _ _ c.push_text-5.ensures.ok (simp (c.in_ok-push_text-4.ensures.ok, c.in_ok-push_text-3.ensures.ok, c.in_ok-push_text-2.ensures.ok, c.in_ok-push_numbered.ensures, c.in_ok-push_text.ensures.ok, append_assoc))
+returns c = IfOk-equal c.push_text-5.result _ _ _ c.push_text-5.ensures.ok (simp (
+  c.in_ok-push_text-4.ensures.ok,
+  c.in_ok-push_text-3.ensures.ok,
+  c.in_ok-push_text-2.ensures.ok,
+  c.in_ok-push_numbered.ensures,
+  c.in_ok-push_text.ensures.ok,
+  append_assoc,
+))

@@ -8,4 +8,5 @@ use Rattle.track_order.proofs.tables.overlap_table.Goals as goal
 pub loop-e-preserved : goal.loop-e-preserved
 loop-e-preserved c =
     subst (λ (rows : List (List Bool)). IsTableOf (c.loop-e.e + 1) (length c.args.g.now.edges) (Overlap c.args.g.now) rows) (sym c.in_ok-push.ensures.ok)
-    (table_on c.loop-e.e (length c.args.g.now.edges) (Overlap c.args.g.now) c.loop-e.rows c.in_ok-overlap_row.field-0 c.loop-e.invariant c.in_ok-overlap_row.ensures)
+    (table_on c.loop-e.e (length c.args.g.now.edges) (Overlap c.args.g.now) c.loop-e.rows c.in_ok-overlap_row.field-0 c.loop-e.invariant
+    c.in_ok-overlap_row.ensures)

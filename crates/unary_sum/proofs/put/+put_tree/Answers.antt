@@ -17,8 +17,25 @@ put_tree-left-requires t c =
     let deep = c.requires.depth in
     let measure = c.decreases in
     let n = length-take half ls in
-    let count = ap (tree_count c.args.cap) (tree_of-node c.args.depth ls ne two) in
-    (omega arith, (omega arith, (there_take c.args.vars half ls c.requires.inputs, (omega arith, (c.requires.cap, (there_take (length c.args.m.now) half ls c.requires.inputs_set, (λ some. let all = c.requires.there (omega arith) in omega arith, omega arith)))))))
+    let count = ap (tree_count c.args.cap) (tree_of-node c.args.depth ls ne two) in (
+      omega arith,
+      (
+        omega arith,
+        (
+          there_take c.args.vars half ls c.requires.inputs,
+          (
+            omega arith,
+            (
+              c.requires.cap,
+              (
+                there_take (length c.args.m.now) half ls c.requires.inputs_set,
+                (λ some. let all = c.requires.there (omega arith) in omega arith, omega arith),
+              ),
+            ),
+          ),
+        ),
+      ),
+    )
 
 pub put_tree-right-requires : goal.put_tree-right-requires
 put_tree-right-requires t c =
@@ -44,7 +61,8 @@ put_tree-right-requires t c =
             (
               c.requires.cap,
               (
-                there_more (length c.args.m.now) (length c.put_tree-left.new.m) (take (length ls - half) (drop half ls)) (omega arith) (there_take (length c.args.m.now) (length ls - half) (drop half ls) (there_drop (length c.args.m.now) half ls c.requires.inputs_set)),
+                there_more (length c.args.m.now) (length c.put_tree-left.new.m) (take (length ls - half) (drop half ls)) (omega arith)
+                    (there_take (length c.args.m.now) (length ls - half) (drop half ls) (there_drop (length c.args.m.now) half ls c.requires.inputs_set)),
                 (λ some. let all = c.requires.there (omega arith) in omega arith, omega arith),
               ),
             ),
@@ -86,10 +104,13 @@ is_put t c =
     let new = assignment c.put_outputs.new.m in
     let is = tree_of-node c.args.depth ls c.if-depth-eq0.false c.if-inputs-le1.false in
     let there : TreeIsThere vars (Node a b) = subst (TreeIsThere vars) is (tree_there vars c.args.depth ls c.requires.inputs) in
-    let size : c.min-size.result ≡ min (tree_size most a + tree_size most b) most = let l = c.put_tree-left.ensures.size in let r = c.put_tree-right.ensures.size in omega (arith, c.min-size.ensures) in
-    let n : c.count_of-n.result ≡ tree_true right (Node a b) = c.count_of-n.ensures ∙ sym (tree_true-of right c.args.depth ls c.requires.depth) ∙ ap (tree_true right) is in
+    let size : c.min-size.result ≡ min (tree_size most a + tree_size most b) most = let l = c.put_tree-left.ensures.size in let
+    r = c.put_tree-right.ensures.size in omega (arith, c.min-size.ensures) in
+    let n : c.count_of-n.result ≡ tree_true right (Node a b) = c.count_of-n.ensures ∙ sym (tree_true-of right c.args.depth ls c.requires.depth)
+    ∙ ap (tree_true right) is in
     subst (λ (u : InputTree). SameOutside (vars + 1) (tree_count most u) old new × SatisfiesAll new (tree_clauses most vars u)) (sym is)
-    (node_put old left right new most vars c.put_tree-left.result.end c.put_tree-right.result.end a b there c.put_tree-left.ensures.end c.put_tree-right.ensures.end
+    (node_put old left right new most vars c.put_tree-left.result.end c.put_tree-right.result.end a b there c.put_tree-left.ensures.end
+    c.put_tree-right.ensures.end
     c.put_tree-left.ensures.same c.put_tree-left.ensures.model c.put_tree-right.ensures.same c.put_tree-right.ensures.model
     (subst (λ k. SameOutside (c.put_tree-right.result.end + 1) k right new) size c.put_outputs.ensures.same)
     (λ k lt. c.put_outputs.ensures.set k (omega arith) ∙ ap (λ x. nat_lt k x) n))

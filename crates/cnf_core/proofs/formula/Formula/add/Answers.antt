@@ -16,7 +16,8 @@ append-requires c =
 pub invariant_of-self-2 : goal.invariant_of-self-2
 invariant_of-self-2 c =
     let words = stored_words _ _ _ _ _ c.self.invariant c.self.view_is in
-    stored_more _ _ _ c.args.lits.now _ _ _ (omega arith) c.requires.distinct (subst (λ (f : Cnf). AreThere f.vars c.args.lits.now) (sym c.self.view_is) c.requires.there) c.self.invariant c.in_ok-append.ensures.lits c.in_ok-append.ensures.ends
+    stored_more _ _ _ c.args.lits.now _ _ _ (omega arith) c.requires.distinct (subst (λ (f : Cnf). AreThere f.vars c.args.lits.now) (sym c.self.view_is)
+    c.requires.there) c.self.invariant c.in_ok-append.ensures.lits c.in_ok-append.ensures.ends
 
 pub returns-clause-number : goal.returns-clause-number
 returns-clause-number c = omega (arith, stored_count _ _ _ _ _ c.self.view_is)

@@ -17,7 +17,8 @@ pub add-requires-clause-distinct : goal.add-requires-clause-distinct
 add-requires-clause-distinct c = clause_distinct c.args.unless.now c.args.ts.now c.deref.result.now (is_clause c)
 
 pub add-requires-clause-there : goal.add-requires-clause-there
-add-requires-clause-there c = gathered_there_one c.args.self.now.vars c.args.unless.now c.args.ts.now c.deref.result.now (is_clause c) c.requires.there c.requires.within
+add-requires-clause-there c = gathered_there_one c.args.self.now.vars c.args.unless.now c.args.ts.now c.deref.result.now (is_clause c) c.requires.there
+    c.requires.within
 
 pub returns-in_err-add-in-Some-clause-adds : goal.returns-in_err-add-in-Some-clause-adds
 returns-in_err-add-in-Some-clause-adds c =
@@ -27,8 +28,10 @@ returns-in_err-add-in-Some-clause-adds c =
     let now = c.deref.result.now in
     let r = c.from_residual-in_err-add-in-Some.result in
     let most = length c.args.unless.now + length c.args.ts.now in
-    let one = adds_longer c.add.result old new (now ∷ []) (length now) most (gathered_length c.args.unless.now c.args.ts.now now is) (added_one c.add.result old new now c.add.ensures.ok c.add.ensures.room.0 c.add.ensures.err) in
-    subst (λ (cs : Clauses). AddsClauses r old new cs most) (sym is) (adds_fault c.add.result r old new (now ∷ []) most c.from_residual-in_err-add-in-Some.ensures.0 (λ k. let room : IsErrOf c.add.result Room = search (rules, k) in room) one)
+    let one = adds_longer c.add.result old new (now ∷ []) (length now) most (gathered_length c.args.unless.now c.args.ts.now now is)
+    (added_one c.add.result old new now c.add.ensures.ok c.add.ensures.room.0 c.add.ensures.err) in
+    subst (λ (cs : Clauses). AddsClauses r old new cs most) (sym is) (adds_fault c.add.result r old new (now ∷ []) most
+    c.from_residual-in_err-add-in-Some.ensures.0 (λ k. let room : IsErrOf c.add.result Room = search (rules, k) in room) one)
 
 pub returns-in_ok-add-in-Some-clause-adds : goal.returns-in_ok-add-in-Some-clause-adds
 returns-in_ok-add-in-Some-clause-adds c =
@@ -37,5 +40,7 @@ returns-in_ok-add-in-Some-clause-adds c =
     let new = c.add.new.self in
     let now = c.deref.result.now in
     let most = length c.args.unless.now + length c.args.ts.now in
-    let one = adds_longer c.add.result old new (now ∷ []) (length now) most (gathered_length c.args.unless.now c.args.ts.now now is) (added_one c.add.result old new now c.add.ensures.ok c.add.ensures.room.0 c.add.ensures.err) in
-    subst (λ (cs : Clauses). AddsClauses (Ok tt) old new cs most) (sym is) (adds_same c.add.result tt old new (now ∷ []) most c.in_ok-add-in-Some.field-0 c.in_ok-add-in-Some.was one)
+    let one = adds_longer c.add.result old new (now ∷ []) (length now) most (gathered_length c.args.unless.now c.args.ts.now now is)
+    (added_one c.add.result old new now c.add.ensures.ok c.add.ensures.room.0 c.add.ensures.err) in
+    subst (λ (cs : Clauses). AddsClauses (Ok tt) old new cs most) (sym is) (adds_same c.add.result tt old new (now ∷ []) most c.in_ok-add-in-Some.field-0
+    c.in_ok-add-in-Some.was one)

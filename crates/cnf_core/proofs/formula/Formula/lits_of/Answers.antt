@@ -13,7 +13,8 @@ cut_out-requires-clause-there c = omega (arith, stored_count _ _ _ _ _ c.self.vi
 pub cut_out-requires-clause-rise : goal.cut_out-requires-clause-rise
 cut_out-requires-clause-rise c =
     let n = ap length c.deref.ensures.value in
-    subst (λ (ns : List ℕ). AreEnds 0 ns (length c.deref.result.now)) (sym c.deref-2.ensures.value) (subst (λ m. AreEnds 0 c.self.inside.ends.items m) (sym n) c.self.invariant.ends_rise)
+    subst (λ (ns : List ℕ). AreEnds 0 ns (length c.deref.result.now)) (sym c.deref-2.ensures.value)
+    (subst (λ m. AreEnds 0 c.self.inside.ends.items m) (sym n) c.self.invariant.ends_rise)
 
 pub returns-clause-value : goal.returns-clause-value
 returns-clause-value c =
@@ -31,7 +32,8 @@ returns-clause-distinct c =
 pub returns-clause-there : goal.returns-clause-there
 returns-clause-there c =
     let f = formula_stored _ _ _ _ _ c.self.invariant c.self.view_is in
-    subst (λ (ls : List Literal). AreThere c.args.self.now.vars ls) (sym (returns-clause-value c)) (there_at c.args.self.now.vars c.args.self.now.clauses c.args.c.0 f.there)
+    subst (λ (ls : List Literal). AreThere c.args.self.now.vars ls) (sym (returns-clause-value c))
+    (there_at c.args.self.now.vars c.args.self.now.clauses c.args.c.0 f.there)
 
 pub returns-clause-small : goal.returns-clause-small
 returns-clause-small c =

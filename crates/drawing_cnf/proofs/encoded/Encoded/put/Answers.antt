@@ -24,7 +24,8 @@ put_all-requires-clause-behind c =
     let g = c.self.inside.graph.now in
     let t = c.self.inside.order.now in
     let grid = c.self.inside.grid.now in
-    subst (λ (ks : List KeptBound). AreBehind g (drawing_vars g grid) grid (formula_size g (is_above t) (is_overlap t) grid) (map bound_of ks)) (sym c.deref.ensures.value)
+    subst (λ (ks : List KeptBound). AreBehind g (drawing_vars g grid) grid (formula_size g (is_above t) (is_overlap t) grid) (map bound_of ks))
+    (sym c.deref.ensures.value)
     (subst (λ (e : Encoding). IsWhole e) (sym c.self.view_is) c.requires.whole).behind
 
 pub put_all-requires-clause-there : goal.put_all-requires-clause-there
@@ -32,7 +33,8 @@ put_all-requires-clause-there c =
     let g = c.self.inside.graph.now in
     let t = c.self.inside.order.now in
     let grid = c.self.inside.grid.now in
-    let same = ap (λ (ks : List KeptBound). bounds_last g (drawing_vars g grid) grid (formula_size g (is_above t) (is_overlap t) grid) (map bound_of ks)) c.deref.ensures.value in
+    let same = ap (λ (ks : List KeptBound). bounds_last g (drawing_vars g grid) grid (formula_size g (is_above t) (is_overlap t) grid) (map bound_of ks))
+    c.deref.ensures.value in
     let last = (subst (λ (e : Encoding). IsWhole e) (sym c.self.view_is) c.requires.whole).vars in
     let to = subst (λ (e : Encoding). e.formula.vars ≤ length c.args.m.now) (sym c.self.view_is) c.requires.vars in
     omega arith
@@ -42,7 +44,8 @@ put_all-requires-clause-small c =
     let g = c.self.inside.graph.now in
     let t = c.self.inside.order.now in
     let grid = c.self.inside.grid.now in
-    let same = ap (λ (ks : List KeptBound). bounds_last g (drawing_vars g grid) grid (formula_size g (is_above t) (is_overlap t) grid) (map bound_of ks)) c.deref.ensures.value in
+    let same = ap (λ (ks : List KeptBound). bounds_last g (drawing_vars g grid) grid (formula_size g (is_above t) (is_overlap t) grid) (map bound_of ks))
+    c.deref.ensures.value in
     let last = (subst (λ (e : Encoding). IsWhole e) (sym c.self.view_is) c.requires.whole).vars in
     let most = c.vars.ensures.formula.vars_limit in
     omega arith
@@ -55,17 +58,20 @@ returns-clause-model c =
     let new = assignment c.put_all.new.m in
     subst (λ (e : Encoding). SatisfiesAll new e.formula.clauses) c.self.view_is
     (subst (λ (cs : Clauses). SatisfiesAll new cs) (sym (subst (λ (e : Encoding). IsWhole e) (sym c.self.view_is) c.requires.whole).clauses)
-    (subst (λ (ks : List KeptBound). SatisfiesAll new (formula_clauses g (is_above t) (is_overlap t) grid ++ bounds_clauses g (drawing_vars g grid) grid (map bound_of ks))) c.deref.ensures.value c.put_all.ensures.model))
+    (subst (λ (ks : List KeptBound). SatisfiesAll new (formula_clauses g (is_above t) (is_overlap t) grid ++ bounds_clauses g (drawing_vars g grid) grid
+    (map bound_of ks))) c.deref.ensures.value c.put_all.ensures.model))
 
 pub returns-clause-stands : goal.returns-clause-stands
-returns-clause-stands c = subst (λ (e : Encoding). StandsFor (assignment c.put_all.new.m) e.graph (encoded_vars e) c.args.d.now) c.self.view_is c.put_all.ensures.stands
+returns-clause-stands c = subst (λ (e : Encoding). StandsFor (assignment c.put_all.new.m) e.graph (encoded_vars e) c.args.d.now) c.self.view_is
+    c.put_all.ensures.stands
 
 pub returns-clause-later : goal.returns-clause-later
 returns-clause-later c = λ y high.
     let g = c.self.inside.graph.now in
     let t = c.self.inside.order.now in
     let grid = c.self.inside.grid.now in
-    let same = ap (λ (ks : List KeptBound). bounds_last g (drawing_vars g grid) grid (formula_size g (is_above t) (is_overlap t) grid) (map bound_of ks)) c.deref.ensures.value in
+    let same = ap (λ (ks : List KeptBound). bounds_last g (drawing_vars g grid) grid (formula_size g (is_above t) (is_overlap t) grid) (map bound_of ks))
+    c.deref.ensures.value in
     let last = (subst (λ (e : Encoding). IsWhole e) (sym c.self.view_is) c.requires.whole).vars in
     let past = subst (λ (e : Encoding). e.formula.vars < y) (sym c.self.view_is) high in
     c.put_all.ensures.later y (omega arith)

@@ -16,16 +16,19 @@ returns-clause-reads c =
     let line = c.args.line.now in
     let old = assignment c.args.m.now in
     let e = c.args.self.now in
-    let set = subst (λ (s : EdgeSpot). assignment c.put_line.new.m ≡ set_edge (line_bits line) s.first s.high s.width old) c.self.view_is c.put_line.ensures.set in
+    let set = subst (λ (s : EdgeSpot). assignment c.put_line.new.m ≡ set_edge (line_bits line) s.first s.high s.width old) c.self.view_is
+    c.put_line.ensures.set in
     let spot = subst (λ (s : EdgeSpot). IsSpot s.first s.high s.width) c.self.view_is c.self.invariant.spot in
-    subst (λ (w : Assignment). ReadsLine w (lits_of e) e.width line) (sym set) (set_reads e.first e.high e.width old line spot.some_columns (λ x. on_grid_heights (grid_size e.width e.high) line x c.points-points.ensures.is_line c.requires.on_grid))
+    subst (λ (w : Assignment). ReadsLine w (lits_of e) e.width line) (sym set) (set_reads e.first e.high e.width old line spot.some_columns
+    (λ x. on_grid_heights (grid_size e.width e.high) line x c.points-points.ensures.is_line c.requires.on_grid))
 
 pub returns-clause-same : goal.returns-clause-same
 returns-clause-same c =
     let line = c.args.line.now in
     let old = assignment c.args.m.now in
     let e = c.args.self.now in
-    let set = subst (λ (s : EdgeSpot). assignment c.put_line.new.m ≡ set_edge (line_bits line) s.first s.high s.width old) c.self.view_is c.put_line.ensures.set in
+    let set = subst (λ (s : EdgeSpot). assignment c.put_line.new.m ≡ set_edge (line_bits line) s.first s.high s.width old) c.self.view_is
+    c.put_line.ensures.set in
     subst (λ (w : Assignment). SameOutside e.first (edge_size e.high e.width) old w) (sym set) (set_same (line_bits line) e.first e.high e.width old)
 
 pub returns-clause-satisfies : goal.returns-clause-satisfies
@@ -33,5 +36,7 @@ returns-clause-satisfies c = λ west east least p q bw be rx ra rz rb j.
     let line = c.args.line.now in
     let old = assignment c.args.m.now in
     let e = c.args.self.now in
-    let set = subst (λ (s : EdgeSpot). assignment c.put_line.new.m ≡ set_edge (line_bits line) s.first s.high s.width old) c.self.view_is c.put_line.ensures.set in
-    subst (λ (w : Assignment). SatisfiesAll w (edge_clauses (lits_of e) west east least e.high e.width)) (sym set) (set_satisfies old e.first e.high e.width least west east p q line bw be rx ra rz rb j)
+    let set = subst (λ (s : EdgeSpot). assignment c.put_line.new.m ≡ set_edge (line_bits line) s.first s.high s.width old) c.self.view_is
+    c.put_line.ensures.set in
+    subst (λ (w : Assignment). SatisfiesAll w (edge_clauses (lits_of e) west east least e.high e.width)) (sym set)
+    (set_satisfies old e.first e.high e.width least west east p q line bw be rx ra rz rb j)

@@ -10,4 +10,5 @@ pub returns-clause-model : goal.returns-clause-model
 returns-clause-model c =
     let ends = c.loop-k-test.false in
     subst (λ (i : IntVars). SatisfiesAll (assignment c.loop-k.m) (int_clauses i)) c.self.view_is
-    (steps_hold (assignment c.loop-k.m) c.self.inside.first.0 (c.self.inside.high - c.self.inside.low) (c.args.value - c.self.inside.low) (λ k within. c.loop-k.invariant.steps k (omega arith)))
+    (steps_hold (assignment c.loop-k.m) c.self.inside.first.0 (c.self.inside.high - c.self.inside.low) (c.args.value - c.self.inside.low)
+    (λ k within. c.loop-k.invariant.steps k (omega arith)))

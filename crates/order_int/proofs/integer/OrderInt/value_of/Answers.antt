@@ -12,4 +12,5 @@ returns-then-not-holds c =
     let v = assignment c.args.m.now in
     let e : v (i.first.0 + c.loop-k.k) ≡ false = sym (ap (truth v) c.new.ensures) ∙ sym c.holds.ensures ∙ c.if-not-holds.true in
     subst (λ (j : IntVars). Reads v j (i.low + c.loop-k.k)) c.self.view_is
-    (value_read v (int_vars i.low i.high i.first.0) c.loop-k.k c.self.invariant (subst (λ (j : IntVars). SatisfiesAll v (int_clauses j)) (sym c.self.view_is) c.requires.model) c.loop-k-test.true c.loop-k.invariant e)
+    (value_read v (int_vars i.low i.high i.first.0) c.loop-k.k c.self.invariant (subst (λ (j : IntVars). SatisfiesAll v (int_clauses j)) (sym c.self.view_is)
+    c.requires.model) c.loop-k-test.true c.loop-k.invariant e)

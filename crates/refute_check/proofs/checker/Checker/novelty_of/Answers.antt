@@ -9,5 +9,7 @@ weigh-requires-clause-distinct c = subst AreDistinct (split_first c.args.lits.no
 
 pub returns-clause-novelty : goal.returns-clause-novelty
 returns-clause-novelty c =
-    whole_novelty c.args.self.now.facts.clauses c.args.lits.now c.index-lits-0.result (take (length c.args.lits.now - 1) (drop 1 c.args.lits.now)) c.args.self.now.facts.greatest c.in_ok-novelty.novelty
-    (split_first c.args.lits.now c.index-lits-0.result c.requires.some c.index-lits-0.is) c.in_ok-novelty.ensures.greatest c.requires.there c.in_ok-novelty.ensures.novelty
+    whole_novelty c.args.self.now.facts.clauses c.args.lits.now c.index-lits-0.result (take (length c.args.lits.now - 1) (drop 1 c.args.lits.now))
+    c.args.self.now.facts.greatest c.in_ok-novelty.novelty
+    (split_first c.args.lits.now c.index-lits-0.result c.requires.some c.index-lits-0.is) c.in_ok-novelty.ensures.greatest c.requires.there
+    c.in_ok-novelty.ensures.novelty

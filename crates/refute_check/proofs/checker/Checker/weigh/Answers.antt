@@ -10,11 +10,14 @@ use Rattle.refute_check.proofs.checker.Checker.weigh.Goals as goal
 
 pub returns-in-Contradiction-clause-novelty : goal.returns-in-Contradiction-clause-novelty
 returns-in-Contradiction-clause-novelty c =
-    known_by_clash c.args.self.now.facts.clauses c.args.first c.args.others.now (contradicted_any c.self.inside.room c.self.inside.formula c.self.inside.query c.self.inside.refuted.items (is_lost c.self.inside.standing) c.args.self.now (negations c.args.others.now) (rw c.in-Contradiction.is at c.self.invariant) c.self.view_is)
+    known_by_clash c.args.self.now.facts.clauses c.args.first c.args.others.now (contradicted_any c.self.inside.room c.self.inside.formula c.self.inside.query
+    c.self.inside.refuted.items (is_lost c.self.inside.standing) c.args.self.now (negations c.args.others.now) (rw c.in-Contradiction.is at c.self.invariant)
+    c.self.view_is)
 
 pub returns-in_ok-novelty-in-Open-clause-novelty : goal.returns-in_ok-novelty-in-Open-clause-novelty
 returns-in_ok-novelty-in-Open-clause-novelty c =
-    subst (λ (cs : Clauses). IsNovelty cs c.args.first c.args.others.now c.in_ok-novelty-in-Open.novelty) (ap (λ (k : CheckedFacts). k.facts.clauses) c.self.view_is) c.in_ok-novelty-in-Open.ensures.novelty
+    subst (λ (cs : Clauses). IsNovelty cs c.args.first c.args.others.now c.in_ok-novelty-in-Open.novelty)
+    (ap (λ (k : CheckedFacts). k.facts.clauses) c.self.view_is) c.in_ok-novelty-in-Open.ensures.novelty
 
 pub returns-in_ok-novelty-in-Open-clause-greatest : goal.returns-in_ok-novelty-in-Open-clause-greatest
 returns-in_ok-novelty-in-Open-clause-greatest c = λ _.

@@ -16,13 +16,16 @@ pub mark_and_propagate-requires-clause-not_true : goal.mark_and_propagate-requir
 mark_and_propagate-requires-clause-not_true c = ap (marked c.args.self.now.truth.items) c.negated.ensures ∙ c.requires.not_false
 
 pub mark_and_propagate-requires-clause-not_false : goal.mark_and_propagate-requires-clause-not_false
-mark_and_propagate-requires-clause-not_false c = ap (λ (k : Literal). marked c.args.self.now.truth.items (negate k)) c.negated.ensures ∙ ap (marked c.args.self.now.truth.items) (negate-negate c.args.first) ∙ c.requires.not_true
+mark_and_propagate-requires-clause-not_false c = ap (λ (k : Literal). marked c.args.self.now.truth.items (negate k)) c.negated.ensures
+    ∙ ap (marked c.args.self.now.truth.items) (negate-negate c.args.first) ∙ c.requires.not_true
 
 pub returns-then-falsified-clause-front : goal.returns-then-falsified-clause-front
-returns-then-falsified-clause-front c = denied_front c.args.formula.now.clauses c.args.self.now.trail.items c.mark_and_propagate.new.self.trail.items c.negated.result c.in_ok-falsified.ensures.grows
+returns-then-falsified-clause-front c = denied_front c.args.formula.now.clauses c.args.self.now.trail.items c.mark_and_propagate.new.self.trail.items
+    c.negated.result c.in_ok-falsified.ensures.grows
 
 pub returns-else-falsified-clause-front : goal.returns-else-falsified-clause-front
-returns-else-falsified-clause-front c = denied_front c.args.formula.now.clauses c.args.self.now.trail.items c.mark_and_propagate.new.self.trail.items c.negated.result c.in_ok-falsified.ensures.grows
+returns-else-falsified-clause-front c = denied_front c.args.formula.now.clauses c.args.self.now.trail.items c.mark_and_propagate.new.self.trail.items
+    c.negated.result c.in_ok-falsified.ensures.grows
 
 pub returns-then-falsified-clause-novelty : goal.returns-then-falsified-clause-novelty
 returns-then-falsified-clause-novelty c =
@@ -31,7 +34,8 @@ returns-then-falsified-clause-novelty c =
     let clauses = c.args.formula.now.clauses in
     let table = c.requires.counted.table in
     denied_new clauses c.args.first c.args.others.now old new c.requires.closure (sym (table.marks c.args.first) ∙ c.requires.not_true)
-    (subst (λ (k : Literal). Grows clauses (old ++ k ∷ []) new) c.negated.ensures c.in_ok-falsified.ensures.grows) (c.in_ok-falsified.ensures.falsified c.if-falsified.true)
+    (subst (λ (k : Literal). Grows clauses (old ++ k ∷ []) new) c.negated.ensures c.in_ok-falsified.ensures.grows)
+    (c.in_ok-falsified.ensures.falsified c.if-falsified.true)
 
 pub returns-else-falsified-clause-novelty : goal.returns-else-falsified-clause-novelty
 returns-else-falsified-clause-novelty c =
@@ -39,4 +43,5 @@ returns-else-falsified-clause-novelty c =
     let new = c.mark_and_propagate.new.self.trail.items in
     let clauses = c.args.formula.now.clauses in
     denied_unproved clauses c.args.first c.args.others.now old new c.requires.closure
-    (subst (λ (k : Literal). Grows clauses (old ++ k ∷ []) new) c.negated.ensures c.in_ok-falsified.ensures.grows) (c.in_ok-falsified.ensures.quiet c.if-falsified.false)
+    (subst (λ (k : Literal). Grows clauses (old ++ k ∷ []) new) c.negated.ensures c.in_ok-falsified.ensures.grows)
+    (c.in_ok-falsified.ensures.quiet c.if-falsified.false)

@@ -14,7 +14,8 @@ propagate-requires-clause-counted c =
     let t2 = subst (λ (ls : List Literal). IsTrail vars c.mark.new.truth ls) c.in_ok-mark.ensures.more t in
     let counted = unit_counted vars clauses c.args.self.now.truth.items c.mark.new.truth old c.args.self.now.counts.items c.args.l c.requires.counted t2 in
     let size : length c.mark.new.truth ≡ c.args.self.now.truth.len = c.mark.auto.truth ∙ c.deref_mut.ensures.len in
-    let truth_is : c.deref_mut-3.result.now ≡ c.mark.new.truth = c.deref_mut-3.ensures.value ∙ written_back c.args.self.now.truth.len c.mark.new.truth (drop (length c.mark.new.truth) c.args.self.now.truth.items) size in
+    let truth_is : c.deref_mut-3.result.now ≡ c.mark.new.truth = c.deref_mut-3.ensures.value
+    ∙ written_back c.args.self.now.truth.len c.mark.new.truth (drop (length c.mark.new.truth) c.args.self.now.truth.items) size in
     let level : c.len-level.result ≡ length old = omega (arith, c.len-level.ensures) in
     rw (truth_is, c.deref_mut-2.ensures.value, level, c.in_ok-mark.ensures.more) counted
 
@@ -24,7 +25,8 @@ propagate-requires-clause-quiet c =
     rw (level, c.in_ok-mark.ensures.more) c.requires.quiet
 
 pub returns-clause-grows : goal.returns-clause-grows
-returns-clause-grows c = subst (λ (ls : List Literal). Grows c.args.formula.now.clauses ls c.propagate.new.trail.items) c.in_ok-mark.ensures.more c.in_ok-reached.ensures.grows
+returns-clause-grows c = subst (λ (ls : List Literal). Grows c.args.formula.now.clauses ls c.propagate.new.trail.items) c.in_ok-mark.ensures.more
+    c.in_ok-reached.ensures.grows
 
 pub propagate-requires-clause-occurrences : goal.propagate-requires-clause-occurrences
 propagate-requires-clause-occurrences c = rw c.deref.ensures.value c.requires.occurrences

@@ -9,7 +9,8 @@ use Rattle.refute_check.proofs.AddLemmas.{settled_quiet, settled_falsified}
 use Rattle.refute_check.proofs.tables.Tables.settle.Goals as goal
 
 pub scan_clause-requires-clause-consistent : goal.scan_clause-requires-clause-consistent
-scan_clause-requires-clause-consistent c = rw c.deref.ensures.value (trail_consistent c.args.formula.now.vars c.args.self.now.truth.items c.args.self.now.trail.items c.requires.listed.counted.table)
+scan_clause-requires-clause-consistent c = rw c.deref.ensures.value (trail_consistent c.args.formula.now.vars c.args.self.now.truth.items
+    c.args.self.now.trail.items c.requires.listed.counted.table)
 
 pub returns-in-Quiet-clause-settled : goal.returns-in-Quiet-clause-settled
 returns-in-Quiet-clause-settled c = λ _.

@@ -7,7 +7,8 @@ use Rattle.refute_check.proofs.NoveltyLemmas.{known_by_clash, known_by_closure, 
 use Rattle.refute_check.proofs.tables.Tables.weigh.Goals as goal
 
 pub returns-then-falsified-clause-novelty : goal.returns-then-falsified-clause-novelty
-returns-then-falsified-clause-novelty c = known_by_clash c.args.formula.now.clauses c.args.first c.args.others.now (c.in_ok-falsified.ensures.falsified c.if-falsified.true)
+returns-then-falsified-clause-novelty c = known_by_clash c.args.formula.now.clauses c.args.first c.args.others.now
+    (c.in_ok-falsified.ensures.falsified c.if-falsified.true)
 
 pub returns-in-True-clause-novelty : goal.returns-in-True-clause-novelty
 returns-in-True-clause-novelty c =
@@ -30,7 +31,8 @@ pub suppose-requires-clause-distinct : goal.suppose-requires-clause-distinct
 suppose-requires-clause-distinct c = c.requires.distinct.1
 
 pub deny_first-requires-clause-occurrences : goal.deny_first-requires-clause-occurrences
-deny_first-requires-clause-occurrences c = subst (AreOccurrences c.args.formula.now.vars c.args.formula.now.clauses) (sym c.in_ok-falsified.ensures.same) c.requires.settled.occurrences
+deny_first-requires-clause-occurrences c = subst (AreOccurrences c.args.formula.now.vars c.args.formula.now.clauses) (sym c.in_ok-falsified.ensures.same)
+    c.requires.settled.occurrences
 
 pub deny_first-requires-clause-quiet : goal.deny_first-requires-clause-quiet
 deny_first-requires-clause-quiet c = c.in_ok-falsified.ensures.quiet c.if-falsified.false
@@ -43,7 +45,8 @@ returns-in_ok-weighed-in-Unset-clause-front c =
     let old = c.args.self.now.trail.items in
     let mid = c.suppose.new.self.trail.items in
     let longer : length old ≤ length mid = omega (arith, c.in_ok-falsified.ensures.on, c.in_ok-falsified.ensures.all c.if-falsified.false) in
-    sym (take-take (length old) (length mid) c.deny_first.new.self.trail.items longer) ∙ ap (take (length old)) c.in_ok-weighed-in-Unset.ensures.front ∙ c.in_ok-falsified.ensures.front
+    sym (take-take (length old) (length mid) c.deny_first.new.self.trail.items longer) ∙ ap (take (length old)) c.in_ok-weighed-in-Unset.ensures.front
+    ∙ c.in_ok-falsified.ensures.front
 
 pub returns-in_ok-weighed-in-Unset-clause-same : goal.returns-in_ok-weighed-in-Unset-clause-same
 returns-in_ok-weighed-in-Unset-clause-same c = c.in_ok-weighed-in-Unset.ensures.same ∙ c.in_ok-falsified.ensures.same

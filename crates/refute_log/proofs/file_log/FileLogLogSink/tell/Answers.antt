@@ -12,11 +12,21 @@ use Rattle.refute_log.proofs.file_log.FileLogLogSink.tell.Goals.{then-len-ge-PIE
 
 pub returns-clause-ok : goal.returns-clause-ok
 returns-clause-ok g c = λ lines h.
-    let gathered = text_gathered (g.F.Files.at c.args.self.now.files.now).contents c.args.self.now.kept.name.bytes.items c.args.self.now.kept.bytes.items c.write_line.new.into.items lines c.args.line.now (search rules) h.0.1 in
+    let gathered = text_gathered (g.F.Files.at c.args.self.now.files.now).contents c.args.self.now.kept.name.bytes.items c.args.self.now.kept.bytes.items
+    c.write_line.new.into.items lines c.args.line.now (search rules) h.0.1 in
     let told = each_pushed MayBeTold lines c.args.line.now h.0.2 c.requires in
-    let count : learnt_after c.args.line.now c.args.self.now.kept.learnt ≡ learnt_count (lines ++ c.args.line.now ∷ []) = ap (learnt_after c.args.line.now) h.1 ∙ sym (learnt_count_more lines c.args.line.now) in
+    let count : learnt_after c.args.line.now c.args.self.now.kept.learnt ≡ learnt_count (lines ++ c.args.line.now ∷ []) = ap (learnt_after c.args.line.now) h.1
+    ∙ sym (learnt_count_more lines c.args.line.now) in
     elim c.if-len-ge-PIECE.branch [
-      | then-len-ge-PIECE+in-Ok w ↦ rw w.self-is ((h.0.0, text_appended _ _ c.args.self.now.kept.name.bytes.items c.write_line.new.into.items _ _ w.clear.ensures.items (rw (w.as_str.ensures.value, w.deref.ensures.value) at w.in-Ok.ensures.ok) gathered, told), (rw w.self-is at c.count_after-self.ensures) ∙ count)
+      | then-len-ge-PIECE+in-Ok w ↦ rw w.self-is (
+        (
+          h.0.0,
+          text_appended _ _ c.args.self.now.kept.name.bytes.items c.write_line.new.into.items _ _
+              w.clear.ensures.items (rw (w.as_str.ensures.value, w.deref.ensures.value) at w.in-Ok.ensures.ok) gathered,
+          told,
+        ),
+        (rw w.self-is at c.count_after-self.ensures) ∙ count,
+      )
       | else-len-ge-PIECE w ↦ rw w.self-is ((h.0.0, gathered, told), (rw w.self-is at c.count_after-self.ensures) ∙ count)
     ]
 
@@ -51,7 +61,8 @@ returns-clause-later g c =
             record {
               name = refl;
               others = others_of_piece before (g.F.Files.at w.append.new.self).contents kept.name.bytes.items now v;
-              keeps = piece_keeps before (g.F.Files.at w.append.new.self).contents kept.failed kept.name.bytes.items kept.bytes.items now _ c.args.line.now c.if-self.false c.requires written w.clear.ensures.items v;
+              keeps = piece_keeps before (g.F.Files.at w.append.new.self).contents kept.failed kept.name.bytes.items kept.bytes.items now _ c.args.line.now
+                  c.if-self.false c.requires written w.clear.ensures.items v;
               read_faults = w.append.ensures.read_faults;
               reads = w.append.ensures.reads;
             },

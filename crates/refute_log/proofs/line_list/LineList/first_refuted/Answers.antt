@@ -11,7 +11,9 @@ pub returns-then-is_refuted_within : goal.returns-then-is_refuted_within
 returns-then-is_refuted_within c =
     let view : c.self.inside.lines.items ≡ c.args.self.now = c.self.view_is in
     let lt : c.loop-i.i < length c.self.inside.lines.items = let t = c.loop-i-test.true in let e = c.len.ensures in omega arith in
-    found_first c.loop-i.invariant (subst (λ (ls : Lines). c.loop-i.i < length ls) view lt) (subst (λ (ls : Lines). c.index.result.now ≡ get_or ls c.loop-i.i c.index.result.now) view c.index.ensures) (c.is_refuted_within.ensures.0 c.if-is_refuted_within.true)
+    found_first c.loop-i.invariant (subst (λ (ls : Lines). c.loop-i.i < length ls) view lt)
+    (subst (λ (ls : Lines). c.index.result.now ≡ get_or ls c.loop-i.i c.index.result.now) view c.index.ensures)
+    (c.is_refuted_within.ensures.0 c.if-is_refuted_within.true)
 
 pub loop-i-smaller : goal.loop-i-smaller
 loop-i-smaller c = let t = c.loop-i-test.true in let e = c.len.ensures in omega arith
@@ -20,7 +22,9 @@ pub loop-i-preserved : goal.loop-i-preserved
 loop-i-preserved c =
     let view : c.self.inside.lines.items ≡ c.args.self.now = c.self.view_is in
     let lt : c.loop-i.i < length c.self.inside.lines.items = let t = c.loop-i-test.true in let e = c.len.ensures in omega arith in
-    none_more_tested c.is_refuted_within.result c.loop-i.invariant (subst (λ (ls : Lines). c.loop-i.i < length ls) view lt) (subst (λ (ls : Lines). c.index.result.now ≡ get_or ls c.loop-i.i c.index.result.now) view c.index.ensures) (λ had. c.is_refuted_within.ensures.1 had) c.if-is_refuted_within.false
+    none_more_tested c.is_refuted_within.result c.loop-i.invariant (subst (λ (ls : Lines). c.loop-i.i < length ls) view lt)
+    (subst (λ (ls : Lines). c.index.result.now ≡ get_or ls c.loop-i.i c.index.result.now) view c.index.ensures) (λ had. c.is_refuted_within.ensures.1 had)
+    c.if-is_refuted_within.false
 
 pub returns : goal.returns
 returns c =
