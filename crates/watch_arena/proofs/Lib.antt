@@ -16,3 +16,5 @@ pub mod AttachLemmas
 pub mod ViewLemmas
 pub mod ArenaLemmas
 pub mod LawLemmas
+pub mod LeavesLemmas
+pub mod PairLemmas

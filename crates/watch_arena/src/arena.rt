@@ -11,9 +11,10 @@ ghost use Rattle.watch_arena.specs.Walk.{KeepsReasons};
 ghost use Rattle.watch_arena.specs.Arena.{AreWatched, AreReasoned, AreBecause, AreAttached, IsSameText, IsMoreText};
 ghost use Rattle.watch_arena.specs.Arena.{MayBeWatched, IsClashOf, attached_at, attached_clauses, spread};
 
-use crate::attach::attach;
+use crate::attach::{attach_long, attach_pair};
 use crate::clause_ref::ClauseRef;
 use crate::fault::ArenaFault;
+use crate::pairs::{Pairs, add_lists};
 use crate::trail::Trail;
 use crate::walks::propagate;
 use cnf_core::{Lit, ROOM, VARS, lengthen};
@@ -21,9 +22,9 @@ use plan_core::OutOfMemory;
 use std::alloc::Global;
 use std::marker::Model;
 
-/// Clauses, each in the chains of its two watches, which are its first two literals. The words hold
-/// for each clause its length, two links and its literals; a chain leads from its head, one for each
-/// literal, through the links of the watches to 0.
+/// Clauses. The words hold for each its length, two links and its literals. One of two literals stands whole in the
+/// lists of both. A longer one stands in the chains of its two watches, which are its first two literals; a chain leads
+/// from its head, one for each literal, through the links of the watches to 0.
 #[derive(Drop)]
 pub struct Arena {
     vars: u32,
@@ -31,6 +32,9 @@ pub struct Arena {
     words: Vec<u32>,
     heads: Vec<u32>,
     places: Vec<u32>,
+    longs: Vec<u32>,
+    lists: Vec<Pairs>,
+    alloc: Global,
     visits: u64,
 }
 
@@ -42,6 +46,13 @@ impl Model for Arena {
     ghost view = { λ a. attached_of a.vars a.room a.words.items a.places.items a.visits };
 
     ghost invariant = { λ a. IsArena a.vars a.room a.words.items a.heads.items a.places.items };
+}
+
+/// The lists of the literals of so many variables, which have no clause.
+fn lists_for(alloc: Global, vars: u32) -> Result<Vec<Pairs>, OutOfMemory> {
+    let mut lists = Vec::new(alloc);
+    add_lists(alloc, &mut lists, 2 * vars as usize + 2)?;
+    Ok(lists)
 }
 
 impl Arena {
@@ -62,6 +73,9 @@ impl Arena {
             words: vec![in alloc; 0; 1]?,
             heads: vec![in alloc; 0; 2 * vars as usize + 2]?,
             places: Vec::new(alloc),
+            longs: Vec::new(alloc),
+            lists: lists_for(alloc, vars)?,
+            alloc,
             visits: 0,
         })
     }
@@ -74,7 +88,15 @@ impl Arena {
         ensures watched { (m : Marks) → AreWatched self.old m → AreWatched self.new m }
         ensures reasoned { (m : Marks) → AreReasoned self.old m → AreReasoned self.new m }
     {
+        let before = self.heads.len();
         lengthen(&mut self.heads, 2 * n as usize, 0)?;
+        match add_lists(self.alloc, &mut self.lists, 2 * n as usize) {
+            Ok(()) => {}
+            Err(e) => {
+                self.heads.truncate(before);
+                return Err(e);
+            }
+        }
         self.vars += n;
         Ok(())
     }
@@ -130,6 +152,8 @@ impl Arena {
             &mut self.words,
             &mut self.heads,
             &self.places,
+            &self.longs,
+            &self.lists,
             trail,
             &mut self.visits,
         )
@@ -154,10 +178,20 @@ impl Arena {
         ensures none { OnErr result (self.new ≡ self.old) }
         ensures room { IsErrOf result Room ↔ self.old.room + 1 < length self.old.words + length lits.now + 3 }
     {
-        attach(
+        if lits.len() == 2 {
+            return attach_pair(
+                &mut self.words,
+                &mut self.places,
+                &mut self.lists,
+                lits,
+                self.room,
+            );
+        }
+        attach_long(
             &mut self.words,
             &mut self.heads,
             &mut self.places,
+            &mut self.longs,
             trail,
             lits,
             self.room,

@@ -1,5 +1,5 @@
 // Attaching clauses.
-ghost use Rattle.std.specs.Prelude.{◌≡◌, ◌≤◌, ◌<◌, ◌+◌, ◌*◌, ◌^◌, ◌∷◌, ◌++◌, [], length, OnOk, OnErr, IfOk, IsErrOf};
+ghost use Rattle.std.specs.Prelude.{◌≡◌, ◌≤◌, ◌<◌, ◌+◌, ◌*◌, ◌^◌, ◌∷◌, ◌++◌, [], length, false, OnOk, OnErr, IfOk, IsErrOf};
 ghost use Rattle.std.specs.Prelude.{take, ◌↔◌};
 ghost use Rattle.cnf_core.specs.Clause.{AreDistinct, AreThere};
 ghost use Rattle.watch_arena.specs.Words.{block_of};
@@ -9,6 +9,7 @@ ghost use Rattle.watch_arena.specs.Walk.{IsLinked, IsUnlinked, KeepsLits, lits_a
 use crate::chains::push;
 use crate::clause_ref::ClauseRef;
 use crate::fault::ArenaFault;
+use crate::pairs::{Pair, Pairs};
 use crate::trail::Trail;
 use cnf_core::Lit;
 use plan_core::OutOfMemory;
@@ -62,6 +63,15 @@ fn link_both(
     push(words, heads, 2 * p + 1, b);
 }
 
+/// Whether a further clause of so many literals is within the room.
+fn has_room(before: usize, n: usize, room: u32) -> bool
+    requires some { 1 ≤ before }
+    requires room { room < 2 ^ 28 + 1 }
+    ensures { result ≡ false ↔ room + 1 < before + n + 3 }
+{
+    n <= room as usize && before + n + 2 <= room as usize
+}
+
 /// Attaches a clause, with its first two literals as watches. The answer
 /// is its reference.
 pub fn attach(
@@ -90,7 +100,7 @@ pub fn attach(
     ensures placed { OnErr result (places.new.items ≡ places.old.items) }
 {
     let before = words.len();
-    if lits.len() > room as usize || before + lits.len() + 2 > room as usize {
+    if !has_room(before, lits.len(), room) {
         return Err(ArenaFault::Room);
     }
     let p = before as u32;
@@ -112,4 +122,81 @@ pub fn attach(
         lits[1].word(),
     );
     Ok(ClauseRef(p))
+}
+
+/// Attaches a clause of three literals or more, with its first two literals as watches. The answer is its reference.
+pub fn attach_long(
+    words: &mut Vec<u32>,
+    heads: &mut [u32],
+    places: &mut Vec<u32>,
+    longs: &mut Vec<u32>,
+    trail: &Trail,
+    lits: &[Lit],
+    room: u32,
+) -> Result<ClauseRef, ArenaFault> {
+    if !has_room(words.len(), lits.len(), room) {
+        return Err(ArenaFault::Room);
+    }
+    let before = places.len();
+    places.push(words.len() as u32)?;
+    match attach(words, heads, longs, trail, lits, room) {
+        Ok(clause) => Ok(clause),
+        Err(fault) => {
+            places.truncate(before);
+            Err(fault)
+        }
+    }
+}
+
+/// Puts a clause of two literals into the lists of both, or into none where memory fails.
+fn list_both(lists: &mut [Pairs], clause: ClauseRef, a: Lit, b: Lit) -> Result<(), OutOfMemory> {
+    lists[a.word() as usize].push(Pair { other: b, clause })?;
+    match lists[b.word() as usize].push(Pair { other: a, clause }) {
+        Ok(()) => Ok(()),
+        Err(e) => {
+            lists[a.word() as usize].pop();
+            Err(e)
+        }
+    }
+}
+
+/// Puts the place of a clause of two literals behind the others, and the clause into their lists; or nothing of it.
+fn keep_pair(
+    places: &mut Vec<u32>,
+    lists: &mut [Pairs],
+    p: u32,
+    a: Lit,
+    b: Lit,
+) -> Result<(), OutOfMemory> {
+    let before = places.len();
+    places.push(p)?;
+    match list_both(lists, ClauseRef(p), a, b) {
+        Ok(()) => Ok(()),
+        Err(e) => {
+            places.truncate(before);
+            Err(e)
+        }
+    }
+}
+
+/// Attaches a clause of two literals. The answer is its reference.
+pub fn attach_pair(
+    words: &mut Vec<u32>,
+    places: &mut Vec<u32>,
+    lists: &mut [Pairs],
+    lits: &[Lit],
+    room: u32,
+) -> Result<ClauseRef, ArenaFault> {
+    let before = words.len();
+    if !has_room(before, lits.len(), room) {
+        return Err(ArenaFault::Room);
+    }
+    append(words, lits)?;
+    match keep_pair(places, lists, before as u32, lits[0], lits[1]) {
+        Ok(()) => Ok(ClauseRef(before as u32)),
+        Err(e) => {
+            words.truncate(before);
+            Err(ArenaFault::from(e))
+        }
+    }
 }

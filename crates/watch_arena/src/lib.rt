@@ -20,6 +20,7 @@ mod clause_ref;
 mod fault;
 mod laws;
 mod looks;
+mod pairs;
 mod tables;
 mod trail;
 mod visits;
