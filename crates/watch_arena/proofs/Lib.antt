@@ -18,3 +18,5 @@ pub mod ArenaLemmas
 pub mod LawLemmas
 pub mod LeavesLemmas
 pub mod PairLemmas
+pub mod SplitLemmas
+pub mod SplitWalkLemmas
