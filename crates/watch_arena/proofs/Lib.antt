@@ -20,3 +20,4 @@ pub mod LeavesLemmas
 pub mod PairLemmas
 pub mod SplitLemmas
 pub mod SplitWalkLemmas
+pub mod AdvanceLemmas

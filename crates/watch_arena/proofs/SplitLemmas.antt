@@ -1,11 +1,13 @@
 -- Clauses of two literals beside those in chains: what a walk of a chain leaves of them.
-use Rattle.std.proofs.Common.{◌≡◌, ◌≢◌, ℕ, ◌+◌, ◌/◌, ◌%◌, ◌<◌, ◌≤◌, ◌⊎◌, List, length, refl, sym, ◌∙◌, ap, subst, inl, inr, arith}
+use Rattle.std.proofs.Common.{◌≡◌, ◌≢◌, ℕ, ◌+◌, ◌-◌, ◌/◌, ◌%◌, ◌<◌, ◌≤◌, ◌⊎◌, List, [], length, get_or, refl, sym, ◌∙◌, ap, subst, inl, inr, arith}
 use Rattle.std.specs.Prelude.{Contains}
 use Rattle.std.proofs.lemmas.Bool.{cases_lt, cases_eq}
 use Rattle.cnf_core.specs.Lit.{Literal, literal_at}
-use Rattle.watch_arena.specs.Words.{arena_word, IsLitWord, IsBlock, IsStore}
+use Rattle.std.proofs.lemmas.List.Elements.{All-weaker}
+use Rattle.watch_arena.specs.declared.pairs.Pair.{Pair}
+use Rattle.watch_arena.specs.Words.{arena_word, lit_of, other_of, IsLitWord, IsBlock, IsStore}
 use Rattle.watch_arena.specs.Walk.{lit_at, IsClauseAt, KeepsClauses}
-use Rattle.watch_arena.specs.Pairs.{IsSplit, IsOutside, LeavesOthers}
+use Rattle.watch_arena.specs.Pairs.{IsPair, HasPairs, IsSplit, IsOutside, LeavesOthers}
 
 module _ (vars : ℕ) (ws new places longs : List ℕ) (h : IsStore vars ws places) (split : IsSplit ws places longs) (leaves : LeavesOthers longs ws new) where
   -- the words of a clause of two literals stand in no chain's clause
@@ -30,7 +32,7 @@ module _ (vars : ℕ) (ws new places longs : List ℕ) (h : IsStore vars ws plac
     | inr long ↦ leaves.size p long
   ]
 
-  pair_lit : (p k : ℕ) → Contains places p → arena_word ws p ≡ 2 → k < 2 → arena_word new (p + 3 + k) ≡ arena_word ws (p + 3 + k)
+  pub pair_lit : (p k : ℕ) → Contains places p → arena_word ws p ≡ 2 → k < 2 → arena_word new (p + 3 + k) ≡ arena_word ws (p + 3 + k)
   pair_lit p k c two lt = let e : p + (3 + k) ≡ p + 3 + k = omega arith in subst (λ n. arena_word new n ≡ arena_word ws n) e (pair_word p (3 + k) c two (omega arith))
 
   pair_block : (p : ℕ) → Contains places p → arena_word ws p ≡ 2 → IsBlock vars new p
@@ -71,4 +73,25 @@ module _ (vars : ℕ) (ws new places longs : List ℕ) (h : IsStore vars ws plac
     among = split.among;
     long = λ p c. let long = split.long p c in let same = leaves.size p c in omega arith;
     rest = λ p c. elim (split.rest p c) [ inl two ↦ inl (split_size p c ∙ two) | inr long ↦ inr long ];
+  }
+
+  other_lit : (s : ℕ) → Contains places (s / 2) → arena_word ws (s / 2) ≡ 2 → lit_at new (other_of s) ≡ lit_at ws (other_of s)
+  other_lit s c two =
+      let at : other_of s ≡ s / 2 + 3 + (1 - s % 2) = omega arith in
+      ap (lit_at new) at ∙ ap literal_at (pair_lit (s / 2) (1 - s % 2) c two (omega arith)) ∙ ap (lit_at ws) (sym at)
+
+  -- the lists are of the same clauses
+  pub split_pairs : (lists : List (List Pair)) → HasPairs ws places lists → HasPairs new places lists
+  split_pairs lists x = record {
+    right = λ word lt. All-weaker (IsPair ws places word) (IsPair new places word) (λ pair y. record {
+      watch = y.watch;
+      is = record { place = y.is.place; two = split_size (y.watch / 2) y.is.place ∙ y.is.two };
+      lit = pair_lit (y.watch / 2) (y.watch % 2) y.is.place y.is.two (omega arith) ∙ y.lit;
+      other = other_lit y.watch y.is.place y.is.two ∙ y.other;
+      clause = y.clause;
+    }) (get_or lists word []) (x.right word lt);
+    all = λ s p.
+        let two : arena_word ws (s / 2) ≡ 2 = sym (split_size (s / 2) p.place) ∙ p.two in
+        let y = x.all s (record { place = p.place; two = two }) in
+        (y.0, subst (λ v. Contains (get_or lists v []) y.0) (sym (pair_lit (s / 2) (s % 2) p.place two (omega arith))) y.1, y.2 ∙ sym (other_lit s p.place two));
   }
