@@ -7,11 +7,11 @@ use Rattle.std.proofs.lemmas.List.Elements.{All-contains}
 use Rattle.cnf_core.specs.Lit.{Literal, literal_at, word_of, negate, has}
 use Rattle.cnf_core.proofs.TrailLemmas.{front_includes}
 use Rattle.watch_arena.specs.declared.clause_ref.ClauseRef.{ClauseRef}
-use Rattle.cnf_core.specs.Propagation.{IsIn}
+use Rattle.cnf_core.specs.Propagation.{LiteralSet, IsIn}
 use Rattle.watch_arena.specs.declared.pairs.Pair.{Pair}
 use Rattle.watch_arena.specs.Words.{arena_word, lit_of, other_of, IsStore}
 use Rattle.watch_arena.specs.Trail.{Marks, IsMarks, IsLonger}
-use Rattle.watch_arena.specs.Walk.{lit_at, done_of, past_of, IsTrueNoLater, IsWatched}
+use Rattle.watch_arena.specs.Walk.{lit_at, done_of, past_of, IsTrueNoLater, AreGuarded, IsWatched}
 use Rattle.watch_arena.specs.Pairs.{HasPairs, IsSplit, LeavesOthers, ArePairsQuiet, AreAllWatched}
 use Rattle.watch_arena.proofs.ChainWalkLemmas.{front_stays, was_past}
 use Rattle.watch_arena.proofs.SplitLemmas.{pair_lit, split_size}
@@ -74,3 +74,7 @@ module _ (m mid fin : Marks) (marks : IsMarks m) (mid_marks : IsMarks mid) (befo
 pub front_most : (m fin : Marks) (r : Option ClauseRef) → (r ≡ None → fin.front ≡ m.front + 1) → IfSome r (λ _. fin.front ≡ m.front) → fin.front ≤ m.front + 1
 front_most m fin None a b = let e = a refl in omega arith
 front_most m fin (Some c) a b = omega arith
+
+-- all watches are quiet, those of clauses of two literals too
+pub all_quiet : (m : Marks) (ws heads places longs : List ℕ) (lists : List (List Pair)) (done : LiteralSet) → AreAllWatched m ws heads places longs lists done → AreGuarded ws places done m []
+all_quiet m ws heads places longs lists done k = λ s c none f. elim (k.split.rest (s / 2) c) [ inl two ↦ k.quiet s (record { place = c; two = two }) f | inr long ↦ k.long.quiet s long none f ]

@@ -27,4 +27,3 @@ returns-in-None-clause-held c = λ _.
 pub returns-in-Some-true-clause-held : goal.returns-in-Some-true-clause-held
 returns-in-Some-true-clause-held c = λ _. held_now c.args.trail.now c.args.w c.args.pair.other c.len-trail.ensures.marks c.requires.fresh
     (subst (λ b. IsValue c.args.trail.now.lits c.args.pair.other (Some b)) c.in-Some-true.field-0-test c.in-Some-true.ensures)
-
