@@ -1,9 +1,12 @@
 -- Clauses of two literals, which stand whole in the lists of their literals.
-use Rattle.std.specs.Prelude.{◌≡◌, ◌≢◌, ◌≤◌, ◌<◌, ◌⊎◌, ℕ, ◌+◌, ◌*◌, ◌/◌, List, [], All, Contains, length, slice_index_or}
-use Rattle.cnf_core.specs.Lit.{Literal, negate}
+use Rattle.std.specs.Prelude.{◌≡◌, ◌≢◌, ◌≤◌, ◌<◌, ◌⊎◌, ℕ, ◌+◌, ◌*◌, ◌/◌, List, [], ◌∷◌, ◌++◌, All, Contains, length}
+use Rattle.std.specs.Prelude.{slice_index_or, slice_set}
+use Rattle.cnf_core.specs.Lit.{Literal, negate, word_of}
 use Rattle.cnf_core.specs.Propagation.{LiteralSet, IsIn}
 use Rattle.watch_arena.specs.declared.pairs.Pair.{Pair}
+use Rattle.watch_arena.specs.declared.clause_ref.ClauseRef.{ClauseRef}
 use Rattle.watch_arena.specs.Words.{arena_word, lit_of, other_of, IsStore}
+use Rattle.watch_arena.specs.Chains.{HasChains}
 use Rattle.watch_arena.specs.Trail.{Marks}
 use Rattle.watch_arena.specs.Walk.{lit_at, IsTrueNoLater, IsWatched}
 
@@ -31,6 +34,25 @@ pub record IsSplit (ws places longs : List ℕ) : Type 0 where
   pub among : (p : ℕ) → Contains longs p → Contains places p
   pub long : (p : ℕ) → Contains longs p → 3 ≤ arena_word ws p
   pub rest : (p : ℕ) → Contains places p → (arena_word ws p ≡ 2) ⊎ Contains longs p
+
+-- the entry comes to the end of the list of a word
+abbrev pub listed : List (List Pair) → ℕ → Pair → List (List Pair)
+listed lists word pair = slice_set lists word (slice_index_or lists word [] ++ pair ∷ [])
+
+-- a clause of these two literals comes to the ends of the lists of both
+abbrev pub both_listed : List (List Pair) → ClauseRef → Literal → Literal → List (List Pair)
+both_listed lists clause a b = listed (listed lists (word_of a) (record { other = b; clause = clause })) (word_of b)
+    (record { other = a; clause = clause })
+
+-- the clauses stand apart in the words, the longer ones in chains, and those of two literals in lists
+pub record AreFiled (vars : ℕ) (ws heads places longs : List ℕ) (lists : List (List Pair)) : Type 0 where
+  pub some : 1 ≤ length ws
+  pub store : IsStore vars ws places
+  pub split : IsSplit ws places longs
+  pub size : length heads ≡ 2 * vars + 2
+  pub chains : HasChains ws heads longs []
+  pub lists_size : length lists ≡ 2 * vars + 2
+  pub pairs : HasPairs ws places lists
 
 -- no clause's word stands at this place
 abbrev pub IsOutside : List ℕ → List ℕ → ℕ → Type 0

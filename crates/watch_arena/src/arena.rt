@@ -1,5 +1,5 @@
 // Watched clauses.
-ghost use Rattle.std.specs.Prelude.{◌≡◌, ◌≤◌, ◌<◌, ◌+◌, ◌*◌, ◌↔◌, ◌∷◌, ◌++◌, ℕ, Contains, length, slice_index_or, []};
+ghost use Rattle.std.specs.Prelude.{◌≡◌, ◌≤◌, ◌<◌, ◌+◌, ◌*◌, ◌↔◌, ◌∷◌, ◌++◌, ℕ, Contains, length, slice_index_or, [], replicate};
 ghost use Rattle.std.specs.Prelude.{IfSome, IfOk, OnOk, OnErr, IsErrOf};
 ghost use Rattle.cnf_core.specs.Clause.{AreDistinct, AreThere};
 ghost use Rattle.cnf_core.specs.Lit.{has};
@@ -11,7 +11,7 @@ ghost use Rattle.watch_arena.specs.Walk.{KeepsReasons};
 ghost use Rattle.watch_arena.specs.Arena.{AreWatched, AreReasoned, AreBecause, AreAttached, IsSameText, IsMoreText};
 ghost use Rattle.watch_arena.specs.Arena.{MayBeWatched, IsClashOf, attached_at, attached_clauses, spread};
 
-use crate::attach::{attach_long, attach_pair};
+use crate::attach::attach;
 use crate::clause_ref::ClauseRef;
 use crate::fault::ArenaFault;
 use crate::pairs::{Pairs, add_lists};
@@ -45,11 +45,15 @@ impl Model for Arena {
 
     ghost view = { λ a. attached_of a.vars a.room a.words.items a.places.items a.visits };
 
-    ghost invariant = { λ a. IsArena a.vars a.room a.words.items a.heads.items a.places.items };
+    ghost invariant = { λ a. IsArena a.vars a.room a.words.items a.heads.items a.places.items a.longs.items
+        a.lists.items };
 }
 
 /// The lists of the literals of so many variables, which have no clause.
-fn lists_for(alloc: Global, vars: u32) -> Result<Vec<Pairs>, OutOfMemory> {
+fn lists_for(alloc: Global, vars: u32) -> Result<Vec<Pairs>, OutOfMemory>
+    requires { vars ≤ VARS }
+    ensures { IfOk result (λ l. l.items ≡ replicate (2 * vars + 2) []) }
+{
     let mut lists = Vec::new(alloc);
     add_lists(alloc, &mut lists, 2 * vars as usize + 2)?;
     Ok(lists)
@@ -178,20 +182,12 @@ impl Arena {
         ensures none { OnErr result (self.new ≡ self.old) }
         ensures room { IsErrOf result Room ↔ self.old.room + 1 < length self.old.words + length lits.now + 3 }
     {
-        if lits.len() == 2 {
-            return attach_pair(
-                &mut self.words,
-                &mut self.places,
-                &mut self.lists,
-                lits,
-                self.room,
-            );
-        }
-        attach_long(
+        attach(
             &mut self.words,
             &mut self.heads,
             &mut self.places,
             &mut self.longs,
+            &mut self.lists,
             trail,
             lits,
             self.room,

@@ -59,7 +59,8 @@ impl Pairs {
 
     /// One more clause has it.
     pub fn push(&mut self, pair: Pair) -> Result<(), OutOfMemory>
-        ensures { OnOk result (self.new ≡ self.old ++ pair ∷ []) }
+        ensures more { OnOk result (self.new ≡ self.old ++ pair ∷ []) }
+        ensures none { OnErr result (self.new ≡ self.old) }
     {
         self.items.push(pair)?;
         Ok(())
