@@ -21,3 +21,5 @@ pub mod PairLemmas
 pub mod SplitLemmas
 pub mod SplitWalkLemmas
 pub mod AdvanceLemmas
+pub mod ListedLemmas
+pub mod FiledLemmas
