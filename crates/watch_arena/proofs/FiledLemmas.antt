@@ -117,13 +117,13 @@ module _ (vars : ℕ) (ws new places : List ℕ) (h : IsStore vars ws places) (f
     }
 
     module _ (lists : List (List Pair)) (a b : Literal) (first : arena_word new (clause.0 + 3 + 0) ≡ word_of a) (second : arena_word new (clause.0 + 3 + 1) ≡ word_of b) (below_a : word_of a < length lists) (below_b : word_of b < length lists) where
-      one : Pair
+      abbrev one : Pair
       one = record { other = b; clause = clause }
 
-      other : Pair
+      abbrev other : Pair
       other = record { other = a; clause = clause }
 
-      mid : List (List Pair)
+      abbrev mid : List (List Pair)
       mid = listed lists (word_of a) one
 
       size : length mid ≡ length lists
@@ -168,7 +168,7 @@ module _ (vars : ℕ) (ws new places : List ℕ) (h : IsStore vars ws places) (f
       pair_pairs x = record {
         right = λ v lt. listed_right mid (word_of b) other new (places ++ clause.0 ∷ []) (omega (arith, size)) is_other
             (λ w below. listed_right lists (word_of a) one new (places ++ clause.0 ∷ []) below_a is_one (front_right clause.0 lists x) w (omega (arith, size)))
-            v (omega (arith, listed_length mid (word_of b) other));
+            v (omega (arith, size, listed_length mid (word_of b) other));
         all = λ s y. elim (Contains-push_cases places clause.0 (s / 2) y.place) [
           | inl old ↦ let z = front_all lists x s old y.two in (z.0, kept (arena_word new (lit_of s)) z.0 z.1, z.2)
           | inr e ↦ new_all s e
