@@ -6,7 +6,7 @@ use Rattle.cnf_core.specs.Clause.{AreThere}
 use Rattle.watch_arena.specs.Trail.{Marks}
 use Rattle.watch_arena.specs.Walk.{IsLinked}
 use Rattle.watch_arena.specs.Arena.{Attached, attached_of, IsArena, AreWatched, AreReasoned, MayBeWatched, IsMoreText}
-use Rattle.watch_arena.proofs.ArenaLemmas.{arena_linked, arena_attached, answered, are_attached}
+use Rattle.watch_arena.proofs.ArenaLemmas.{arena_attached, answered, are_attached}
 use Rattle.watch_arena.proofs.arena.Arena.attach.Goals as goal
 
 pub returns-clause-others : goal.returns-clause-others
@@ -28,4 +28,8 @@ returns-clause-reasoned c =
     subst (λ (a : Attached). (m : Marks) → AreReasoned a m → AreReasoned (attached_of c.self.inside.vars c.self.inside.room c.attach.new.words.items c.attach.new.places.items c.self.inside.visits) m) c.self.view_is x.reasoned
 
 pub returns-clause-attached : goal.returns-clause-attached
-returns-clause-attached c = ?
+returns-clause-attached c =
+    let a = c.self.inside in
+    let new = c.attach.new in
+    are_attached a.vars a.room new.words.items new.heads new.places.items new.longs.items new.lists a.visits
+    (arena_attached a.vars a.room a.words.items a.heads.items a.places.items a.longs.items a.lists.items a.visits c.args.trail.now.vars c.args.self.now new.words.items new.heads new.places.items new.longs.items new.lists c.self.invariant c.self.view_is c.requires.vars c.attach.ensures.filed)

@@ -1,12 +1,22 @@
 use Rattle.std.proofs.Common.{rules, ◌≡◌, ◌∙◌, sym, subst, List, ℕ, length, drop, vec_len}
 use Rattle.std.proofs.lemmas.List.{take_at}
 use Rattle.std.specs.Vec.{with_items}
-use Rattle.watch_arena.specs.Walk.{IsWatched, past_of}
+use Rattle.watch_arena.specs.Walk.{past_of}
+use Rattle.watch_arena.specs.declared.pairs.Pair.{Pair}
+use Rattle.watch_arena.specs.Pairs.{AreAllWatched}
 use Rattle.watch_arena.proofs.ArenaLemmas.{arena_watched, propagated, closes, falsifies, clash_of, some_weaker}
 use Rattle.watch_arena.proofs.arena.Arena.propagate.Goals as goal
 
 pub propagate-requires : goal.propagate-requires
-propagate-requires c = ?
+propagate-requires c =
+    let m = c.args.trail.now in
+    let a = c.self.inside in
+    let w = arena_watched a.vars a.room a.words.items a.heads.items a.places.items a.longs.items a.lists.items a.visits c.args.self.now c.self.invariant c.self.view_is m c.requires.vars c.requires.watched in
+    subst (λ (x : List ℕ). AreAllWatched m x c.deref_mut-2.result.now c.deref.result.now c.deref-2.result.now c.deref-3.result.now (past_of m)) (sym c.deref_mut.ensures.value)
+    (subst (λ (x : List ℕ). AreAllWatched m a.words.items x c.deref.result.now c.deref-2.result.now c.deref-3.result.now (past_of m)) (sym c.deref_mut-2.ensures.value)
+    (subst (λ (x : List ℕ). AreAllWatched m a.words.items a.heads.items x c.deref-2.result.now c.deref-3.result.now (past_of m)) (sym c.deref.ensures.value)
+    (subst (λ (x : List ℕ). AreAllWatched m a.words.items a.heads.items a.places.items x c.deref-3.result.now (past_of m)) (sym c.deref-2.ensures.value)
+    (subst (λ (x : List (List Pair)). AreAllWatched m a.words.items a.heads.items a.places.items a.longs.items x (past_of m)) (sym c.deref-3.ensures.value) w))))
 
 pub returns-clause-watched : goal.returns-clause-watched
 returns-clause-watched c =
@@ -67,7 +77,7 @@ returns-clause-clash c =
     let len : length c.deref_mut.result.now ≡ vec_len c.self.inside.words = search rules in
     let words = with_items c.self.inside.words c.propagate.new.words in
     let items : words.items ≡ c.propagate.new.words = take_at c.propagate.new.words (drop (length c.propagate.new.words) c.self.inside.words.items) (vec_len c.self.inside.words) (size ∙ len) in
-    some_weaker c.propagate.result (λ r. clash_of c.self.inside.vars c.self.inside.room c.propagate.new.visits c.self.inside.places.items c.deref.result.now c.deref-2.result.now c.deref-3.result.now c.propagate.new.words words.items c.propagate.new.trail r.0 c.deref.ensures.value items) c.propagate.ensures.clash
+    some_weaker c.propagate.result (λ r. clash_of c.self.inside.vars c.self.inside.room c.propagate.new.visits c.self.inside.places.items c.deref.result.now c.propagate.new.words words.items c.propagate.new.trail r.0 c.deref.ensures.value items) c.propagate.ensures.clash
 
 pub returns-clause-falsifies : goal.returns-clause-falsifies
 returns-clause-falsifies c = some_weaker c.propagate.result (λ r. falsifies c.args.self.now _ _ _ _ _ _ _ c.args.trail.now c.self.view_is c.deref_mut.ensures.value c.deref.ensures.value) c.propagate.ensures.clashes
