@@ -410,7 +410,7 @@ Ok(Model) -1 2, line 10 is m
             assume: &[],
             budget: 1,
         }],
-        told: "Ok(Spent), line 24 is l -5 9 12 0\n",
+        told: "Ok(Spent), line 24 is l -5 12 9 0\n",
     },
 ];
 

@@ -8,19 +8,19 @@ use Rattle.std.proofs.lemmas.List.Elements.{Contains-push_cases, Contains-append
 use Rattle.cnf_core.specs.declared.limits.TheConstants.{VARS, ROOM}
 use Rattle.cnf_core.specs.Lit.{Literal, IsWord, literal_at, has}
 use Rattle.cnf_core.specs.Clause.{AreThere, AreDistinct}
-use Rattle.cnf_core.specs.Propagation.{LiteralSet, Falsifies, IsClosure}
+use Rattle.cnf_core.specs.Propagation.{Falsifies, IsClosure}
 use Rattle.cnf_core.proofs.TrailLemmas.{distinct_push}
 use Rattle.cnf_core.proofs.GatherLemmas.{there_push}
 use Rattle.watch_arena.specs.declared.fault.ArenaFault.{ArenaFault}
 use Rattle.watch_arena.specs.declared.clause_ref.ClauseRef.{ClauseRef}
 use Rattle.watch_arena.specs.declared.pairs.Pair.{Pair}
 use Rattle.watch_arena.specs.Words.{arena_word, lit_of, IsStore, IsBlock, KeepsFront}
-use Rattle.watch_arena.specs.Pairs.{IsPair, HasPairs, IsSplit, AreFiled, AreAllWatched}
+use Rattle.watch_arena.specs.Pairs.{IsEntry, HasPairs, IsSplit, AreFiled, AreAllWatched}
 use Rattle.cnf_core.specs.Times.{times}
 use Rattle.watch_arena.specs.Chains.{Path, HasChains}
 use Rattle.watch_arena.specs.Trail.{Marks}
 use Rattle.cnf_core.specs.Trail.{Grows}
-use Rattle.watch_arena.specs.Walk.{lit_at, lits_upto, lits_at, AreGuarded, IsWatched, IsLinked, HasWalked, IsClash, Closes, Clashes, KeepsLits, AreRight, past_of}
+use Rattle.watch_arena.specs.Walk.{lit_at, lits_upto, lits_at, AreGuarded, IsLinked, HasWalked, IsClash, Closes, Clashes, KeepsLits, AreRight, past_of}
 use Rattle.watch_arena.specs.Arena.{Attached, attached_of, attached_at, attached_clauses, watch_at, IsArena, AreWatched, AreReasoned, AreBecause, AreAttached, IsSameText, IsMoreText, MayBeWatched, IsClashOf}
 use Rattle.watch_arena.proofs.WordLemmas.{lit_there, word_there, bounds}
 use Rattle.watch_arena.proofs.TextLemmas.{upto_in, text_of, same_lits, upto_length, upto_get, kept_lits, all_false}
@@ -53,19 +53,6 @@ module _ (vars room : ℕ) (ws heads places longs : List ℕ) (lists : List (Lis
         long = record { store = linked.store; size = f.size; chains = f.chains; quiet = λ s c none g. quiet s (split.among (s / 2) c) none g };
       }
 
--- and what a walk leaves of them
-pub arena_walked : (vars room : ℕ) (ws heads places longs : List ℕ) (lists : List (List Pair)) (new then : List ℕ) (m : Marks) (done : LiteralSet) → IsArena vars room ws heads places longs lists → m.vars ≡ vars → length new ≡ length ws →
-    AreAllWatched m new then places longs lists done → IsArena vars room new then places longs lists
-arena_walked vars room ws heads places longs lists new then m done k same size w =
-    let f = k.filed in
-    let some = f.some in
-    let long : IsWatched m new then longs done = w.long in
-    record {
-      vars_limit = k.vars_limit;
-      room_limit = k.room_limit;
-      filed = subst (λ v. AreFiled v new then places longs lists) same (record { some = omega arith; store = w.store; split = w.split; size = long.size; chains = long.chains; lists_size = w.size; pairs = w.pairs });
-    }
-
 not_in_none : (n : ℕ) → Contains [] n → ⊥
 not_in_none n c = let lt = c.1 in omega arith
 
@@ -91,7 +78,7 @@ arena_new vars room v r = record {
     };
     lists_size = length-replicate {A = List Pair} (2 * vars + 2) [];
     pairs = record {
-      right = λ w lt. subst (All (IsPair (replicate 1 0) [] w)) (sym (get_padded {X = List Pair} [] (2 * vars + 2) [] w)) (λ i d less. absurd (omega arith));
+      right = λ w lt. subst (All (IsEntry (replicate 1 0) [] w)) (sym (get_padded {X = List Pair} [] (2 * vars + 2) [] w)) (λ i d less. absurd (omega arith));
       all = λ s x. absurd (not_in_none (s / 2) x.place);
     };
   };
@@ -301,9 +288,9 @@ module _ (vars room n : ℕ) (ws heads places longs : List ℕ) (lists : List (L
   -- and so are their lists
   spread_pairs : HasPairs ws places lists → HasPairs ws places (lists ++ replicate (2 * n) [])
   spread_pairs x = record {
-    right = λ v lt. subst (All (IsPair ws places v)) (sym (get_padded lists (2 * n) [] v)) (elim (cases_lt v (length lists)) [
+    right = λ v lt. subst (All (IsEntry ws places v)) (sym (get_padded lists (2 * n) [] v)) (elim (cases_lt v (length lists)) [
       | inl l ↦ x.right v l
-      | inr g ↦ subst (All (IsPair ws places v)) (sym (get_or_past lists v [] g)) (λ i d less. absurd (omega arith))
+      | inr g ↦ subst (All (IsEntry ws places v)) (sym (get_or_past lists v [] g)) (λ i d less. absurd (omega arith))
     ]);
     all = λ s w. let y = x.all s w in (y.0, subst (λ (ps : List Pair). Contains ps y.0) (sym (get_padded lists (2 * n) [] (arena_word ws (lit_of s)))) y.1, y.2);
   }

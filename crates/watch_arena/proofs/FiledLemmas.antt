@@ -1,5 +1,5 @@
 -- One more clause behind the words, and what was there stays.
-use Rattle.std.proofs.Common.{◌≡◌, ◌≢◌, ℕ, ◌+◌, ◌-◌, ◌*◌, ◌/◌, ◌%◌, ◌<◌, ◌≤◌, ◌⊎◌, List, [], ◌∷◌, ◌++◌, length, get_or, refl, sym, ◌∙◌, ap, subst, inl, inr, arith}
+use Rattle.std.proofs.Common.{◌≡◌, ℕ, ◌+◌, ◌*◌, ◌/◌, ◌%◌, ◌<◌, ◌≤◌, List, [], ◌∷◌, ◌++◌, length, get_or, refl, sym, ◌∙◌, ap, subst, inl, inr, arith}
 use Rattle.std.specs.Prelude.{All, Contains, ◌^◌}
 use Rattle.std.proofs.lemmas.Bool.{cases_eq}
 use Rattle.std.proofs.lemmas.List.Elements.{All-weaker, Contains-push_cases, Contains-push, Contains-append_left}
@@ -11,7 +11,7 @@ use Rattle.watch_arena.specs.declared.clause_ref.ClauseRef.{ClauseRef}
 use Rattle.watch_arena.specs.Words.{arena_word, link_of, lit_of, other_of, block_of, IsBlock, IsStore, KeepsFront}
 use Rattle.watch_arena.specs.Chains.{HasChains}
 use Rattle.watch_arena.specs.Walk.{lit_at, lits_at, KeepsLits, IsLinked}
-use Rattle.watch_arena.specs.Pairs.{IsPairWatch, IsPair, HasPairs, IsSplit, AreFiled, listed, both_listed}
+use Rattle.watch_arena.specs.Pairs.{IsEntry, HasPairs, IsSplit, AreFiled, listed, both_listed}
 use Rattle.watch_arena.proofs.ChainLemmas.{path_stays}
 use Rattle.watch_arena.proofs.ChainWalkLemmas.{literal_word}
 use Rattle.watch_arena.proofs.TextLemmas.{upto_length}
@@ -46,7 +46,7 @@ module _ (vars : ℕ) (ws new places : List ℕ) (h : IsStore vars ws places) (f
   }
 
   -- entries of them
-  front_pair : (p v : ℕ) (pair : Pair) → IsPair ws places v pair → IsPair new (places ++ p ∷ []) v pair
+  front_pair : (p v : ℕ) (pair : Pair) → IsEntry ws places v pair → IsEntry new (places ++ p ∷ []) v pair
   front_pair p v pair y =
       let f = front_watch y.watch y.is.place in
       record {
@@ -57,8 +57,8 @@ module _ (vars : ℕ) (ws new places : List ℕ) (h : IsStore vars ws places) (f
         clause = y.clause;
       }
 
-  front_right : (p : ℕ) (lists : List (List Pair)) → HasPairs ws places lists → (v : ℕ) → v < length lists → All (IsPair new (places ++ p ∷ []) v) (get_or lists v [])
-  front_right p lists x v lt = All-weaker (IsPair ws places v) (IsPair new (places ++ p ∷ []) v) (λ pair y. front_pair p v pair y) (get_or lists v []) (x.right v lt)
+  front_right : (p : ℕ) (lists : List (List Pair)) → HasPairs ws places lists → (v : ℕ) → v < length lists → All (IsEntry new (places ++ p ∷ []) v) (get_or lists v [])
+  front_right p lists x v lt = All-weaker (IsEntry ws places v) (IsEntry new (places ++ p ∷ []) v) (λ pair y. front_pair p v pair y) (get_or lists v []) (x.right v lt)
 
   front_all : (lists : List (List Pair)) → HasPairs ws places lists → (s : ℕ) → Contains places (s / 2) → arena_word new (s / 2) ≡ 2 →
       (pair : Pair) × Contains (get_or lists (arena_word new (lit_of s)) []) pair × (pair.other ≡ lit_at new (other_of s))
@@ -107,7 +107,7 @@ module _ (vars : ℕ) (ws new places : List ℕ) (h : IsStore vars ws places) (f
     }
 
     -- the entry of one of its watches
-    own_pair : (s : ℕ) (o : Literal) → s / 2 ≡ clause.0 → lit_at new (other_of s) ≡ o → IsPair new (places ++ clause.0 ∷ []) (arena_word new (lit_of s)) (record { other = o; clause = clause })
+    own_pair : (s : ℕ) (o : Literal) → s / 2 ≡ clause.0 → lit_at new (other_of s) ≡ o → IsEntry new (places ++ clause.0 ∷ []) (arena_word new (lit_of s)) (record { other = o; clause = clause })
     own_pair s o e is = record {
       watch = s;
       is = record { place = subst (Contains (places ++ clause.0 ∷ [])) (sym e) (Contains-push places clause.0); two = ap (arena_word new) e ∙ two };
@@ -141,11 +141,11 @@ module _ (vars : ℕ) (ws new places : List ℕ) (h : IsStore vars ws places) (f
       other_other : other_of (2 * clause.0 + 1) ≡ clause.0 + 3 + 0
       other_other = omega arith
 
-      is_one : IsPair new (places ++ clause.0 ∷ []) (word_of a) one
-      is_one = subst (λ v. IsPair new (places ++ clause.0 ∷ []) v one) (ap (arena_word new) lit_one ∙ first) (own_pair (2 * clause.0) b (omega arith) (ap (lit_at new) other_one ∙ ap literal_at second ∙ literal_word b))
+      is_one : IsEntry new (places ++ clause.0 ∷ []) (word_of a) one
+      is_one = subst (λ v. IsEntry new (places ++ clause.0 ∷ []) v one) (ap (arena_word new) lit_one ∙ first) (own_pair (2 * clause.0) b (omega arith) (ap (lit_at new) other_one ∙ ap literal_at second ∙ literal_word b))
 
-      is_other : IsPair new (places ++ clause.0 ∷ []) (word_of b) other
-      is_other = subst (λ v. IsPair new (places ++ clause.0 ∷ []) v other) (ap (arena_word new) lit_other ∙ second) (own_pair (2 * clause.0 + 1) a (omega arith) (ap (lit_at new) other_other ∙ ap literal_at first ∙ literal_word a))
+      is_other : IsEntry new (places ++ clause.0 ∷ []) (word_of b) other
+      is_other = subst (λ v. IsEntry new (places ++ clause.0 ∷ []) v other) (ap (arena_word new) lit_other ∙ second) (own_pair (2 * clause.0 + 1) a (omega arith) (ap (lit_at new) other_other ∙ ap literal_at first ∙ literal_word a))
 
       kept : (v : ℕ) (x : Pair) → Contains (get_or lists v []) x → Contains (get_or (both_listed lists clause a b) v []) x
       kept v x c = listed_keeps mid (word_of b) other v x (omega (arith, size)) (listed_keeps lists (word_of a) one v x below_a c)
@@ -154,14 +154,18 @@ module _ (vars : ℕ) (ws new places : List ℕ) (h : IsStore vars ws places) (f
       new_all s e = elim (cases_eq (s % 2) 0) [
         | inl z ↦
             let at : lit_of s ≡ clause.0 + 3 + 0 = omega arith in
-            let at_other : other_of s ≡ clause.0 + 3 + 1 = omega arith in
-            (one, subst (λ v. Contains (get_or (both_listed lists clause a b) v []) one) (sym (ap (arena_word new) at ∙ first)) (listed_keeps mid (word_of b) other (word_of a) one (omega (arith, size)) (listed_here lists (word_of a) one below_a)),
-            sym (ap (lit_at new) at_other ∙ ap literal_at second ∙ literal_word b))
+            let at_other : other_of s ≡ clause.0 + 3 + 1 = omega arith in (
+              one,
+              subst (λ v. Contains (get_or (both_listed lists clause a b) v []) one) (sym (ap (arena_word new) at ∙ first)) (listed_keeps mid (word_of b) other (word_of a) one (omega (arith, size)) (listed_here lists (word_of a) one below_a)),
+              sym (ap (lit_at new) at_other ∙ ap literal_at second ∙ literal_word b),
+            )
         | inr n ↦
             let at : lit_of s ≡ clause.0 + 3 + 1 = omega arith in
-            let at_other : other_of s ≡ clause.0 + 3 + 0 = omega arith in
-            (other, subst (λ v. Contains (get_or (both_listed lists clause a b) v []) other) (sym (ap (arena_word new) at ∙ second)) (listed_here mid (word_of b) other (omega (arith, size))),
-            sym (ap (lit_at new) at_other ∙ ap literal_at first ∙ literal_word a))
+            let at_other : other_of s ≡ clause.0 + 3 + 0 = omega arith in (
+              other,
+              subst (λ v. Contains (get_or (both_listed lists clause a b) v []) other) (sym (ap (arena_word new) at ∙ second)) (listed_here mid (word_of b) other (omega (arith, size))),
+              sym (ap (lit_at new) at_other ∙ ap literal_at first ∙ literal_word a),
+            )
       ]
 
       pair_pairs : HasPairs ws places lists → HasPairs new (places ++ clause.0 ∷ []) (both_listed lists clause a b)

@@ -1,5 +1,5 @@
 -- What a walk leaves of the words that stand in no clause of a chain.
-use Rattle.std.proofs.Common.{◌≡◌, ℕ, ◌+◌, ◌/◌, ◌%◌, ◌<◌, ◌≤◌, ◌⊎◌, List, length, refl, ◌∙◌, inl, inr, arith}
+use Rattle.std.proofs.Common.{ℕ, ◌+◌, ◌/◌, ◌<◌, List, refl, ◌∙◌, inl, inr, arith}
 use Rattle.std.specs.Prelude.{Contains}
 use Rattle.watch_arena.specs.Words.{arena_word, link_of, IsStore, Wrote, Swapped}
 use Rattle.watch_arena.specs.Pairs.{LeavesOthers}

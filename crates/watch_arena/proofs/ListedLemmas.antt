@@ -1,11 +1,11 @@
 -- Entries at the ends of lists.
-use Rattle.std.proofs.Common.{◌≡◌, ℕ, ◌+◌, ◌-◌, ◌<◌, ◌≤◌, List, [], ◌∷◌, ◌++◌, length, take, get_or, set, sym, ◌∙◌, ap, subst, inl, inr, arith, length-append, length-set}
+use Rattle.std.proofs.Common.{◌≡◌, ℕ, ◌+◌, ◌-◌, ◌<◌, List, [], ◌∷◌, ◌++◌, length, take, get_or, set, sym, ◌∙◌, ap, subst, inl, inr, arith, length-append, length-set}
 use Rattle.std.specs.Prelude.{All, Contains}
 use Rattle.std.proofs.lemmas.Bool.{cases_eq}
 use Rattle.std.proofs.lemmas.List.{take_at, set-set, set-get_or, get_or-set_same, get_or-set_other}
 use Rattle.std.proofs.lemmas.List.Elements.{All-push, Contains-push, Contains-append_left}
 use Rattle.watch_arena.specs.declared.pairs.Pair.{Pair}
-use Rattle.watch_arena.specs.Pairs.{IsPair, listed}
+use Rattle.watch_arena.specs.Pairs.{IsEntry, listed}
 
 -- an entry that came to one list, where none came to another, is taken back
 pub taken_back : (lists : List (List Pair)) (a b c : ℕ) (d e f more that less : List Pair) (pair : Pair) → a < length lists → c ≡ a →
@@ -39,10 +39,10 @@ module _ (lists : List (List Pair)) (w : ℕ) (pair : Pair) where
     | inr ne ↦ subst (λ (ps : List Pair). Contains ps x) (sym (get_or-set_other lists w v (get_or lists w [] ++ pair ∷ []) [] ne)) c
   ]
 
-  pub listed_right : (ws places : List ℕ) → w < length lists → IsPair ws places w pair → ((v : ℕ) → v < length lists → All (IsPair ws places v) (get_or lists v [])) →
-      (v : ℕ) → v < length lists → All (IsPair ws places v) (get_or (listed lists w pair) v [])
+  pub listed_right : (ws places : List ℕ) → w < length lists → IsEntry ws places w pair → ((v : ℕ) → v < length lists → All (IsEntry ws places v) (get_or lists v [])) →
+      (v : ℕ) → v < length lists → All (IsEntry ws places v) (get_or (listed lists w pair) v [])
   listed_right ws places lt is right v below = elim (cases_eq v w) [
-    | inl e ↦ subst (λ n. All (IsPair ws places n) (get_or (listed lists w pair) n [])) (sym e)
-        (subst (All (IsPair ws places w)) (sym (get_or-set_same lists w (get_or lists w [] ++ pair ∷ []) [] lt)) (All-push (IsPair ws places w) (get_or lists w []) pair (right w lt) is))
-    | inr ne ↦ subst (All (IsPair ws places v)) (sym (get_or-set_other lists w v (get_or lists w [] ++ pair ∷ []) [] ne)) (right v below)
+    | inl e ↦ subst (λ n. All (IsEntry ws places n) (get_or (listed lists w pair) n [])) (sym e)
+        (subst (All (IsEntry ws places w)) (sym (get_or-set_same lists w (get_or lists w [] ++ pair ∷ []) [] lt)) (All-push (IsEntry ws places w) (get_or lists w []) pair (right w lt) is))
+    | inr ne ↦ subst (All (IsEntry ws places v)) (sym (get_or-set_other lists w v (get_or lists w [] ++ pair ∷ []) [] ne)) (right v below)
   ]

@@ -1,15 +1,15 @@
 -- Looking at clauses of two literals.
-use Rattle.std.proofs.Common.{◌≡◌, ℕ, ◌+◌, ◌-◌, ◌/◌, ◌%◌, ◌<◌, ◌≤◌, false, List, [], ◌∷◌, ◌++◌, length, take, get_or, sym, ◌∙◌, ap, subst, arith}
+use Rattle.std.proofs.Common.{◌≡◌, ℕ, ◌-◌, ◌/◌, ◌%◌, false, List, [], ◌∷◌, length, take, get_or, sym, ◌∙◌, ap, subst, arith}
 use Rattle.std.specs.Prelude.{Contains}
 use Rattle.std.proofs.lemmas.List.{take-take, take-append-le, get_or_default}
 use Rattle.cnf_core.specs.Lit.{Literal, literal_at, negate, has}
 use Rattle.cnf_core.specs.Clause.{IsThere}
-use Rattle.cnf_core.specs.Propagation.{LiteralSet, IsIn}
+use Rattle.cnf_core.specs.Propagation.{IsIn}
 use Rattle.watch_arena.specs.declared.pairs.Pair.{Pair}
-use Rattle.watch_arena.specs.Words.{arena_word, other_of, IsStore}
+use Rattle.watch_arena.specs.Words.{IsStore}
 use Rattle.watch_arena.specs.Trail.{Marks, IsMarks, IsLonger, IsUnset, with_lit}
 use Rattle.watch_arena.specs.Walk.{lit_at, past_of, IsTrueNoLater, IsAlone, IsReasonFor, HasWalked, IsClash}
-use Rattle.watch_arena.specs.Pairs.{IsPair}
+use Rattle.watch_arena.specs.Pairs.{IsEntry}
 use Rattle.watch_arena.proofs.WordLemmas.{lit_there}
 use Rattle.watch_arena.proofs.WalkLemmas.{alone_grows, longer_unit, unit_keeps}
 use Rattle.watch_arena.proofs.ReasonLemmas.{alone_reason, unit_because, reasoned_unit}
@@ -31,7 +31,7 @@ held_longer m n f o marks longer h = record {
 pub fresh_with : (m : Marks) (l k : Literal) (reason : ℕ) → IsMarks m → past_of m k ≡ false → past_of (with_lit m l reason) k ≡ false
 fresh_with m l k reason marks fresh = ap (λ (ls : List Literal). has ls k) (take-append-le m.front m.lits (l ∷ []) marks.front) ∙ fresh
 
-module _ (m : Marks) (ws places : List ℕ) (w : ℕ) (pair : Pair) (h : IsStore m.vars ws places) (x : IsPair ws places w pair) (marks : IsMarks m) (false_now : IsIn (has m.lits) (negate (literal_at w))) where
+module _ (m : Marks) (ws places : List ℕ) (w : ℕ) (pair : Pair) (h : IsStore m.vars ws places) (x : IsEntry ws places w pair) (marks : IsMarks m) (false_now : IsIn (has m.lits) (negate (literal_at w))) where
   pub pair_there : IsThere m.vars pair.other
   pair_there =
       let two = x.is.two in

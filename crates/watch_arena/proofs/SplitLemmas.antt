@@ -1,13 +1,13 @@
 -- Clauses of two literals beside those in chains: what a walk of a chain leaves of them.
-use Rattle.std.proofs.Common.{◌≡◌, ◌≢◌, ℕ, ◌+◌, ◌-◌, ◌/◌, ◌%◌, ◌<◌, ◌≤◌, ◌⊎◌, List, [], length, get_or, refl, sym, ◌∙◌, ap, subst, inl, inr, arith}
+use Rattle.std.proofs.Common.{◌≡◌, ℕ, ◌+◌, ◌-◌, ◌/◌, ◌%◌, ◌<◌, List, [], get_or, sym, ◌∙◌, ap, subst, inl, inr, arith}
 use Rattle.std.specs.Prelude.{Contains}
 use Rattle.std.proofs.lemmas.Bool.{cases_lt, cases_eq}
 use Rattle.cnf_core.specs.Lit.{Literal, literal_at}
 use Rattle.std.proofs.lemmas.List.Elements.{All-weaker}
 use Rattle.watch_arena.specs.declared.pairs.Pair.{Pair}
-use Rattle.watch_arena.specs.Words.{arena_word, lit_of, other_of, IsLitWord, IsBlock, IsStore}
+use Rattle.watch_arena.specs.Words.{arena_word, other_of, IsLitWord, IsBlock, IsStore}
 use Rattle.watch_arena.specs.Walk.{lit_at, IsClauseAt, KeepsClauses}
-use Rattle.watch_arena.specs.Pairs.{IsPair, HasPairs, IsSplit, IsOutside, LeavesOthers}
+use Rattle.watch_arena.specs.Pairs.{IsEntry, HasPairs, IsSplit, IsOutside, LeavesOthers}
 
 module _ (vars : ℕ) (ws new places longs : List ℕ) (h : IsStore vars ws places) (split : IsSplit ws places longs) (leaves : LeavesOthers longs ws new) where
   -- the words of a clause of two literals stand in no chain's clause
@@ -83,7 +83,7 @@ module _ (vars : ℕ) (ws new places longs : List ℕ) (h : IsStore vars ws plac
   -- the lists are of the same clauses
   pub split_pairs : (lists : List (List Pair)) → HasPairs ws places lists → HasPairs new places lists
   split_pairs lists x = record {
-    right = λ word lt. All-weaker (IsPair ws places word) (IsPair new places word) (λ pair y. record {
+    right = λ word lt. All-weaker (IsEntry ws places word) (IsEntry new places word) (λ pair y. record {
       watch = y.watch;
       is = record { place = y.is.place; two = split_size (y.watch / 2) y.is.place ∙ y.is.two };
       lit = pair_lit (y.watch / 2) (y.watch % 2) y.is.place y.is.two (omega arith) ∙ y.lit;

@@ -1,5 +1,5 @@
 -- The arena as contracts see it, and what holds of it together with a trail.
-use Rattle.std.specs.Prelude.{◌≡◌, ◌≤◌, ℕ, ◌+◌, ◌*◌, Option, Some, None, List, [], ◌∷◌, All, Contains, length, map}
+use Rattle.std.specs.Prelude.{◌≡◌, ◌≤◌, ℕ, ◌+◌, Option, Some, None, List, [], ◌∷◌, All, Contains, length, map}
 use Rattle.std.specs.Prelude.{slice_index}
 use Rattle.cnf_core.specs.declared.limits.TheConstants.{VARS, ROOM}
 use Rattle.cnf_core.specs.Lit.{Literal, negate, has}

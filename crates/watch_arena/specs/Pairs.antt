@@ -1,5 +1,5 @@
 -- Clauses of two literals, which stand whole in the lists of their literals.
-use Rattle.std.specs.Prelude.{◌≡◌, ◌≢◌, ◌≤◌, ◌<◌, ◌⊎◌, ℕ, ◌+◌, ◌*◌, ◌/◌, List, [], ◌∷◌, ◌++◌, All, Contains, length}
+use Rattle.std.specs.Prelude.{◌≡◌, ◌≤◌, ◌<◌, ◌⊎◌, ℕ, ◌+◌, ◌*◌, ◌/◌, List, [], ◌∷◌, ◌++◌, All, Contains, length}
 use Rattle.std.specs.Prelude.{slice_index_or, slice_set}
 use Rattle.cnf_core.specs.Lit.{Literal, negate, word_of}
 use Rattle.cnf_core.specs.Propagation.{LiteralSet, IsIn}
@@ -16,7 +16,7 @@ pub record IsPairWatch (ws places : List ℕ) (s : ℕ) : Type 0 where
   pub two : arena_word ws (s / 2) ≡ 2
 
 -- the entry is that of a watch of this literal: it has the other literal and the clause
-pub record IsPair (ws places : List ℕ) (word : ℕ) (pair : Pair) : Type 0 where
+pub record IsEntry (ws places : List ℕ) (word : ℕ) (pair : Pair) : Type 0 where
   pub watch : ℕ
   pub is : IsPairWatch ws places watch
   pub lit : arena_word ws (lit_of watch) ≡ word
@@ -25,7 +25,7 @@ pub record IsPair (ws places : List ℕ) (word : ℕ) (pair : Pair) : Type 0 whe
 
 -- each entry is one of a clause of two literals, and each of their watches has one in the list of its literal
 pub record HasPairs (ws places : List ℕ) (lists : List (List Pair)) : Type 0 where
-  pub right : (word : ℕ) → word < length lists → All (IsPair ws places word) (slice_index_or lists word [])
+  pub right : (word : ℕ) → word < length lists → All (IsEntry ws places word) (slice_index_or lists word [])
   pub all : (s : ℕ) → IsPairWatch ws places s → (pair : Pair) ×
       Contains (slice_index_or lists (arena_word ws (lit_of s)) []) pair × (pair.other ≡ lit_at ws (other_of s))
 

@@ -1,6 +1,6 @@
 // Attaching clauses.
-ghost use Rattle.std.specs.Prelude.{◌≡◌, ◌≤◌, ◌<◌, ◌+◌, ◌*◌, ◌^◌, ◌∷◌, ◌++◌, [], length, false, OnOk, OnErr, IfOk, IsErrOf};
-ghost use Rattle.std.specs.Prelude.{take, ℕ, ◌↔◌};
+ghost use Rattle.std.specs.Prelude.{◌≡◌, ◌≤◌, ◌<◌, ◌+◌, ◌*◌, ◌^◌, ◌∷◌, ◌++◌, [], length, OnOk, OnErr, IfOk, IsErrOf};
+ghost use Rattle.std.specs.Prelude.{false, take, ℕ, ◌↔◌};
 ghost use Rattle.cnf_core.specs.Lit.{word_of};
 ghost use Rattle.cnf_core.specs.Clause.{AreDistinct, AreThere};
 ghost use Rattle.watch_arena.specs.Words.{arena_word, block_of, KeepsFront};

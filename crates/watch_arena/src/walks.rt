@@ -5,7 +5,7 @@ ghost use Rattle.watch_arena.specs.Trail.{IsMarks};
 ghost use Rattle.watch_arena.specs.Walk.{IsWalking, IsWatched, HasWalked, IsClash, KeepsClauses, KeepsLits, Closes};
 ghost use Rattle.watch_arena.specs.Walk.{Clashes, IsTrueNoLater, done_of, past_of};
 ghost use Rattle.watch_arena.specs.Words.{IsStore};
-ghost use Rattle.watch_arena.specs.Pairs.{IsPair, AreAllWatched, LeavesOthers};
+ghost use Rattle.watch_arena.specs.Pairs.{IsEntry, AreAllWatched, LeavesOthers};
 ghost use Rattle.cnf_core.specs.Propagation.{IsIn};
 
 use crate::chains::push;
@@ -73,7 +73,7 @@ pub fn walk(
 /// is false too.
 fn follow_pair(pair: Pair, words: &[u32], places: &[u32], trail: &mut Trail, w: u32) -> bool
     requires store { IsStore trail.old.vars words.now places.now }
-    requires pair { IsPair words.now places.now w pair }
+    requires pair { IsEntry words.now places.now w pair }
     requires false_now { IsIn (has trail.old.lits) (negate (literal_at w)) }
     requires fresh { past_of trail.old (negate (literal_at w)) ≡ false }
     ensures marks { IsMarks trail.new }
@@ -105,7 +105,7 @@ fn follow_pairs(
     visits: &mut u64,
 ) -> Option<ClauseRef>
     requires store { IsStore trail.old.vars words.now places.now }
-    requires pairs { All (IsPair words.now places.now w) pairs.now }
+    requires pairs { All (IsEntry words.now places.now w) pairs.now }
     requires false_now { IsIn (has trail.old.lits) (negate (literal_at w)) }
     requires fresh { past_of trail.old (negate (literal_at w)) ≡ false }
     ensures marks { IsMarks trail.new }

@@ -1,7 +1,7 @@
 use Rattle.std.proofs.Common.{rules, arith, ◌≡◌, ◌≤◌, ◌∙◌, ◌++◌, ◌∷◌, [], List, ℕ, length, ap, sym, subst}
 use Rattle.watch_arena.specs.Words.{block_of}
 use Rattle.watch_arena.specs.Walk.{lits_at}
-use Rattle.watch_arena.specs.Pairs.{AreFiled, both_listed}
+use Rattle.watch_arena.specs.Pairs.{AreFiled}
 use Rattle.watch_arena.specs.declared.pairs.Pair.{Pair}
 use Rattle.watch_arena.specs.declared.clause_ref.ClauseRef.{ClauseRef}
 use Rattle.watch_arena.proofs.AttachLemmas.{behind_lits}

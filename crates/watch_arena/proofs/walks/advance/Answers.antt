@@ -4,7 +4,7 @@ use Rattle.std.proofs.lemmas.List.{get_or_default}
 use Rattle.cnf_core.specs.Lit.{literal_at, negate, word_of}
 use Rattle.watch_arena.specs.declared.pairs.Pair.{Pair}
 use Rattle.watch_arena.specs.Walk.{IsTrueNoLater}
-use Rattle.watch_arena.specs.Pairs.{IsPair}
+use Rattle.watch_arena.specs.Pairs.{IsEntry}
 use Rattle.watch_arena.proofs.SplitLemmas.{split_store, split_kept, split_pairs}
 use Rattle.watch_arena.specs.Words.{IsStore}
 use Rattle.watch_arena.proofs.ClosureLemmas.{made_more}
@@ -19,7 +19,7 @@ follow_pairs-requires-clause-pairs c =
     let word : c.word-w.result ≡ word_of (negate c.lit-l.result) = c.word-w.ensures.value ∙ ap word_of c.negated.ensures in
     let lt : c.word-w.result < length c.args.lists.now = omega (arith, next_word c.args.trail.now.vars c.lit-l.result c.lit-l.ensures.there, c.requires.watched.size) in
     let same : c.all.result.now ≡ get_or c.args.lists.now c.word-w.result [] = c.all.ensures ∙ c.index-lists-w.is ∙ get_or_default c.args.lists.now c.word-w.result c.index-lists-w.result [] lt in
-    subst (λ (ps : List Pair). All (IsPair c.args.words.now c.args.places.now c.word-w.result) ps) (sym same) (c.requires.watched.pairs.right c.word-w.result lt)
+    subst (λ (ps : List Pair). All (IsEntry c.args.words.now c.args.places.now c.word-w.result) ps) (sym same) (c.requires.watched.pairs.right c.word-w.result lt)
 
 pub follow_pairs-requires-clause-false_now : goal.follow_pairs-requires-clause-false_now
 follow_pairs-requires-clause-false_now c =

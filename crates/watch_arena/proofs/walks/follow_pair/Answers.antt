@@ -1,5 +1,5 @@
-use Rattle.std.proofs.Common.{◌≡◌, ◌/◌, refl, sym, subst}
-use Rattle.cnf_core.specs.Lit.{negate, literal_at, has}
+use Rattle.std.proofs.Common.{sym, subst}
+use Rattle.cnf_core.specs.Lit.{negate, literal_at}
 use Rattle.cnf_core.proofs.TrailLemmas.{has_last}
 use Rattle.std.specs.Prelude.{Some}
 use Rattle.watch_arena.specs.Trail.{Marks, IsMarks, IsValue, with_lit}

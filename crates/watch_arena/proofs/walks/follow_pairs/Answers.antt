@@ -1,7 +1,7 @@
-use Rattle.std.proofs.Common.{◌≡◌, ◌<◌, ◌∙◌, length, get_or, sym, ap, subst, inl, inr, arith}
+use Rattle.std.proofs.Common.{◌≡◌, ◌∙◌, get_or, ap, subst, inl, inr, arith}
 use Rattle.std.proofs.lemmas.Bool.{cases_lt}
 use Rattle.std.proofs.lemmas.List.{get_or_default}
-use Rattle.cnf_core.specs.Lit.{Literal, negate, literal_at}
+use Rattle.cnf_core.specs.Lit.{negate, literal_at}
 use Rattle.watch_arena.specs.declared.pairs.Pair.{Pair}
 use Rattle.watch_arena.specs.Walk.{IsTrueNoLater}
 use Rattle.watch_arena.proofs.ClosureLemmas.{made_more}

@@ -1,11 +1,7 @@
-use Rattle.std.proofs.Common.{rules, ◌≡◌, ◌∙◌, sym, subst, List, ℕ, length, drop, vec_len}
-use Rattle.std.specs.Prelude.{OnErr, OnOk}
-use Rattle.std.specs.Vec.{with_items}
-use Rattle.std.proofs.lemmas.List.{take_at}
-use Rattle.cnf_core.specs.Clause.{AreThere}
+use Rattle.std.proofs.Common.{subst}
+use Rattle.std.specs.Prelude.{OnOk}
 use Rattle.watch_arena.specs.Trail.{Marks}
-use Rattle.watch_arena.specs.Walk.{IsLinked}
-use Rattle.watch_arena.specs.Arena.{Attached, attached_of, IsArena, AreWatched, AreReasoned, MayBeWatched, IsMoreText}
+use Rattle.watch_arena.specs.Arena.{Attached, attached_of, AreWatched, AreReasoned, MayBeWatched, IsMoreText}
 use Rattle.watch_arena.proofs.ArenaLemmas.{arena_attached, answered, are_attached}
 use Rattle.watch_arena.proofs.arena.Arena.attach.Goals as goal
 
