@@ -1,8 +1,8 @@
 //! The solver: its answers to a few clauses, and to made formulas.
 //!
-//! The crate has nothing but tests. `queries` asks the solver on a few clauses, and counts the clauses that are looked
-//! at. `last_line` is its log, which may fail; `written` has literals as numbers. `order` has the order in which the
-//! heap gives variables. `made` has small formulas of drawn clauses, with queries and further clauses between them;
+//! The crate has nothing but tests. `queries` asks the solver on a few clauses. `looks` counts the clauses that are
+//! looked at. `last_line` is its log, which may fail; `written` has literals as numbers. `order` has the order in which
+//! the heap gives variables. `made` has small formulas of drawn clauses, with queries and further clauses between them;
 //! their answers are those of all assignments. `pigeons` has a formula for which many clauses are learnt. A checker
 //! gets the lines of both. `case` holds a formula, a solver that has its clauses, and a checker that gets the solver's
 //! lines. `checked` is that checker as a log, and `literals` makes clauses and assumptions of any literals. `trying`
@@ -22,6 +22,8 @@ mod draws;
 mod last_line;
 #[cfg(test)]
 mod literals;
+#[cfg(test)]
+mod looks;
 #[cfg(test)]
 mod made;
 #[cfg(test)]

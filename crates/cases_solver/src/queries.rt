@@ -12,14 +12,14 @@ use std::test::Fail;
 
 /// Clauses that come; literals of variables of the last of them, which are assumed then; and how many clauses may be
 /// learnt.
-struct Query {
-    clauses: &'static [&'static [i32]],
-    assume: &'static [i32],
-    budget: u32,
+pub struct Query {
+    pub clauses: &'static [&'static [i32]],
+    pub assume: &'static [i32],
+    pub budget: u32,
 }
 
 /// Adds a clause, whose variables then have one.
-fn add(
+pub fn add(
     alloc: Global,
     solver: &mut Solver,
     log: &mut LastLine,
@@ -71,7 +71,7 @@ fn assumptions(
 }
 
 /// Adds the clauses of a query, and asks it.
-fn ask(
+pub fn ask(
     alloc: Global,
     solver: &mut Solver,
     log: &mut LastLine,
@@ -102,7 +102,7 @@ fn suggest_model(solver: &mut Solver, model: &Truths) -> Result<(), AddFault> {
 }
 
 /// Suggests the model in which so many variables are true, and those behind them false.
-fn suggest(alloc: Global, solver: &mut Solver, high: u32) -> Result<(), AddFault> {
+pub fn suggest(alloc: Global, solver: &mut Solver, high: u32) -> Result<(), AddFault> {
     let mut values = Vec::new(alloc);
     for i in 0..solver.vars() {
         values.push(i < high)?;
@@ -197,7 +197,7 @@ const PIGEONS: &[&[i32]] = &[
 ];
 
 /// More lines than any case has.
-const MANY: u32 = 10_000;
+pub const MANY: u32 = 10_000;
 
 static CASES: [Case; 16] = [
     Case {
@@ -411,7 +411,7 @@ Ok(Model) -1 2, line 10 is m
             assume: &[],
             budget: 1,
         }],
-        told: "Ok(Spent), line 24 is l -5 9 12 0\n",
+        told: "Ok(Spent), line 24 is l -5 12 9 0\n",
     },
 ];
 
@@ -511,100 +511,4 @@ fn learn_all(alloc: Global) -> Result<(), Fail> {
 #[test]
 fn conflicts_are_analysed(rt: HostRuntime) -> Result<(), Fail> {
     learn_all(rt.alloc())
-}
-
-/// So many clauses of two neighbouring variables, from a variable on. A query behind them, where all variables are
-/// suggested to be true. How many clauses are looked at.
-struct Look {
-    shows: &'static str,
-    from: i32,
-    count: i32,
-    query: Query,
-    seen: u64,
-}
-
-static LOOKS: [Look; 4] = [
-    Look {
-        shows: "Clauses without a false watch aren't looked at.",
-        from: 4,
-        count: 1_000,
-        query: Query {
-            clauses: &[&[-2, 3], &[-1, 2]],
-            assume: &[1],
-            budget: 0,
-        },
-        seen: 2,
-    },
-    Look {
-        shows: "One clause of a thousand is looked at.",
-        from: 3,
-        count: 999,
-        query: Query {
-            clauses: &[&[1, 2]],
-            assume: &[-1],
-            budget: 0,
-        },
-        seen: 1,
-    },
-    Look {
-        shows: "(1 2 3) is looked at and watched elsewhere, and then sets 3.",
-        from: 4,
-        count: 0,
-        query: Query {
-            clauses: &[&[1, 2, 3]],
-            assume: &[-1, -2],
-            budget: 0,
-        },
-        seen: 2,
-    },
-    Look {
-        shows: "(1 2) is looked at where 2 is true.",
-        from: 4,
-        count: 0,
-        query: Query {
-            clauses: &[&[1, 2]],
-            assume: &[2, -1],
-            budget: 0,
-        },
-        seen: 1,
-    },
-];
-
-/// Adds the clauses of neighbouring variables.
-fn add_neighbours(
-    alloc: Global,
-    solver: &mut Solver,
-    log: &mut LastLine,
-    look: &Look,
-) -> Result<(), AddFault> {
-    for i in 0..look.count {
-        let v = look.from.saturating_add(i.saturating_mul(2));
-        add(alloc, solver, log, &[v, v.saturating_add(1)])?;
-    }
-    Ok(())
-}
-
-/// How many clauses are looked at until a model is found.
-fn seen_by(alloc: Global, look: &Look) -> Result<u64, AddFault> {
-    let mut log = LastLine::of(alloc, MANY);
-    let mut solver = Solver::new(alloc, 10_000)?;
-    solver.add_vars(2_003)?;
-    suggest(alloc, &mut solver, 2_003)?;
-    add_neighbours(alloc, &mut solver, &mut log, look)?;
-    ask(alloc, &mut solver, &mut log, &look.query)?;
-    Ok(solver.visits())
-}
-
-fn look_at_all(alloc: Global) -> Result<(), Fail> {
-    for look in &LOOKS {
-        if seen_by(alloc, look)? != look.seen {
-            return Err(Fail::new(look.shows));
-        }
-    }
-    Ok(())
-}
-
-#[test]
-fn clauses_are_looked_at_where_a_watch_is_false(rt: HostRuntime) -> Result<(), Fail> {
-    look_at_all(rt.alloc())
 }

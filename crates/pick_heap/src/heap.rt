@@ -167,6 +167,9 @@ impl Heap {
         ensures value { self.new ≡ with_held self.old v.0 }
         ensures held { IsHeld self.new v.0 }
     {
+        if self.held[v.0 as usize] {
+            return;
+        }
         self.held[v.0 as usize] = true;
         set_leaf(&mut self.tree, &self.activities, self.leaves, v.0, v.0);
     }

@@ -240,21 +240,9 @@ linked_lits vars ws mid new heads next then places p a b k d e =
     let h2 = link_store vars ws mid places (2 * p) (arena_word heads a) k.store here link in
     keeps_lits_push vars ws mid new places (2 * p + 1) (arena_word next b) h2 here2 link2 (keeps_lits_push vars ws ws mid places (2 * p) (arena_word heads a) k.store here link (keeps_lits_none places ws))
 
--- the words behind the others hold the clause, and the others hold what they held
+-- the words behind the others hold the clause
 pub behind_lits : (vars : ℕ) (ws : List ℕ) (lits : List Literal) (from : 1 ≤ length ws) (two : 2 ≤ length lits) (there : AreThere vars lits) (distinct : AreDistinct lits) → lits_at (ws ++ block_of lits) (length ws) ≡ lits
 behind_lits vars ws lits from two there distinct = lits_are (ws ++ block_of lits) (length ws) lits len (λ k d lt. ap literal_at (behind_lit vars ws lits from two there distinct k d lt) ∙ literal_word (get_or lits k d))
   where
     len : arena_word (ws ++ block_of lits) (length ws) ≡ length lits
     len = ap (arena_word (ws ++ block_of lits)) (omega arith) ∙ behind vars ws lits from two there distinct 0
-
-pub before_lits : (vars : ℕ) (ws places : List ℕ) (lits : List Literal) (from : 1 ≤ length ws) (two : 2 ≤ length lits) (there : AreThere vars lits) (distinct : AreDistinct lits) → IsStore vars ws places → KeepsLits places ws (ws ++ block_of lits)
-before_lits vars ws places lits from two there distinct h = record {
-  size = λ q c. let b = h.block q c in let within = b.within in before vars ws lits from two there distinct q (omega arith);
-  lits = λ q k c lt. let b = h.block q c in let within = b.within in before vars ws lits from two there distinct (q + 3 + k) (omega arith);
-}
-
-pub keeps_lits_more : (places more old mid new : List ℕ) → ((p : ℕ) → Contains places p → Contains more p) → KeepsLits places old mid → KeepsLits more mid new → KeepsLits places old new
-keeps_lits_more places more old mid new sub a b = record {
-  size = λ q c. b.size q (sub q c) ∙ a.size q c;
-  lits = λ q k c lt. let same = a.size q c in b.lits q k (sub q c) (omega arith) ∙ a.lits q k c lt;
-}

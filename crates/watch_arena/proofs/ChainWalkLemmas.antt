@@ -105,6 +105,15 @@ module _ (m : Marks) (l : Literal) (w : ℕ) (marks : IsMarks m) (lt : m.front <
   pub next_done : done_of m ≡ has (take m.front m.lits ++ l ∷ [])
   next_done = ap has (take_more m.lits m.front l lt ∙ ap (λ (k : Literal). take m.front m.lits ++ k ∷ []) is)
 
+  -- what was propagated before, but for this literal
+  pub was_past : (ws : List ℕ) (t : ℕ) → arena_word ws (lit_of t) ≢ w → IsIn (done_of m) (negate (lit_at ws (lit_of t))) → IsIn (past_of m) (negate (lit_at ws (lit_of t)))
+  was_past ws t ne f =
+      let g : IsIn (has (take m.front m.lits ++ l ∷ [])) (negate (lit_at ws (lit_of t))) = subst (λ (set : LiteralSet). IsIn set (negate (lit_at ws (lit_of t)))) next_done f in
+      elim (same_literal_or (negate (lit_at ws (lit_of t))) l) [
+        | inl e ↦ absurd (ne (words_same (arena_word ws (lit_of t)) w (sym (negate-negate (lit_at ws (lit_of t))) ∙ ap negate (e ∙ sym next_is) ∙ negate-negate (literal_at w))))
+        | inr other ↦ sym (has_front (take m.front m.lits) l (negate (lit_at ws (lit_of t))) other) ∙ g
+      ]
+
   -- the chain of its negation is taken off its head
   pub starting : (ws heads then places : List ℕ) → IsWatched m ws heads places (past_of m) → w < length heads → Wrote heads then w 0 → IsWalking m ws then places (done_of m) w (arena_word heads w)
   starting ws heads then places k lh d = record {
@@ -127,7 +136,7 @@ module _ (m : Marks) (l : Literal) (w : ℕ) (marks : IsMarks m) (lt : m.front <
     own = λ t among. chains.own w t lh among;
     quiet = λ t c none f. elim (cases_eq (arena_word ws (lit_of t)) w) [
       | inl e ↦ absurd (lost t c e none)
-      | inr ne ↦ k.quiet t c refl (was_past t ne f)
+      | inr ne ↦ k.quiet t c refl (was_past ws t ne f)
     ];
   }
     where
@@ -166,14 +175,6 @@ module _ (m : Marks) (l : Literal) (w : ℕ) (marks : IsMarks m) (lt : m.front <
             ] in
             omega arith
       ]
-
-      was_past : (t : ℕ) → arena_word ws (lit_of t) ≢ w → IsIn (done_of m) (negate (lit_at ws (lit_of t))) → IsIn (past_of m) (negate (lit_at ws (lit_of t)))
-      was_past t ne f =
-          let g : IsIn (has (take m.front m.lits ++ l ∷ [])) (negate (lit_at ws (lit_of t))) = subst (λ (set : LiteralSet). IsIn set (negate (lit_at ws (lit_of t)))) next_done f in
-          elim (same_literal_or (negate (lit_at ws (lit_of t))) l) [
-            | inl e ↦ absurd (ne (words_same (arena_word ws (lit_of t)) w (sym (negate-negate (lit_at ws (lit_of t))) ∙ ap negate (e ∙ sym next_is) ∙ negate-negate (literal_at w))))
-            | inr other ↦ sym (has_front (take m.front m.lits) l (negate (lit_at ws (lit_of t))) other) ∙ g
-          ]
 
 -- a clause all of whose literals are false
 pub all_false : (ws : List ℕ) (set : LiteralSet) (w s : ℕ) → arena_word ws (lit_of s) ≡ w → IsIn set (negate (literal_at w)) → IsFalsified ws set s → AreFalse ws set (s / 2)

@@ -1,5 +1,5 @@
 -- What holds once all is propagated.
-use Rattle.std.proofs.Common.{◌≡◌, ◌≢◌, ℕ, ◌+◌, ◌*◌, ◌/◌, ◌<◌, ◌≤◌, ◌⊎◌, List, length, take, get_or, refl, sym, ◌∙◌, ap, subst, inl, inr, arith}
+use Rattle.std.proofs.Common.{◌≡◌, ◌≢◌, ℕ, ◌+◌, ◌*◌, ◌/◌, ◌<◌, ◌≤◌, ◌⊎◌, List, [], length, take, get_or, refl, sym, ◌∙◌, ap, subst, inl, inr, arith}
 use Rattle.std.specs.Prelude.{All, Contains}
 use Rattle.std.proofs.lemmas.Bool.{cases_lt}
 use Rattle.std.proofs.lemmas.List.{take_all, get_or-take}
@@ -8,10 +8,10 @@ use Rattle.cnf_core.specs.Lit.{Literal, literal_at, negate, has}
 use Rattle.cnf_core.specs.Clause.{Clauses}
 use Rattle.cnf_core.specs.Propagation.{LiteralSet, IsIn, IsUnit, IsClosed, Closure, IsConsistent, Falsified}
 use Rattle.cnf_core.proofs.TrailLemmas.{distinct_consistent}
-use Rattle.watch_arena.specs.Words.{arena_word, lit_of, other_of}
+use Rattle.watch_arena.specs.Words.{arena_word, lit_of, other_of, IsStore}
 use Rattle.watch_arena.specs.Trail.{Marks, IsMarks, IsLonger, advanced}
 use Rattle.cnf_core.specs.Trail.{Grows}
-use Rattle.watch_arena.specs.Walk.{lit_at, past_of, IsTrueNoLater, IsClauseAt, HoldsClauses, KeepsClauses, IsWatched, HasWalked, IsClash, KeepsLits, Closes, Clashes, IsReasoned}
+use Rattle.watch_arena.specs.Walk.{lit_at, past_of, IsTrueNoLater, IsClauseAt, HoldsClauses, KeepsClauses, AreGuarded, HasWalked, IsClash, KeepsLits, Closes, Clashes, IsReasoned}
 use Rattle.watch_arena.proofs.ReasonLemmas.{text_kept, reasoned_text, reason_kept, reason_grown, none_because}
 use Rattle.cnf_core.proofs.GrowthLemmas.{grows_none, grows_more}
 use Rattle.watch_arena.proofs.WalkLemmas.{longer_none, longer_more}
@@ -63,7 +63,7 @@ module _ (set : LiteralSet) (ws : List ℕ) (p : ℕ) (c : List Literal) (is : I
   clause_unfalsified all =
       consistent (lit_at ws (p + 3 + 1)) (first (All-contains (λ k. IsIn set (negate k)) c (lit_at ws (p + 3 + 0)) all first_in)) (All-contains (λ k. IsIn set (negate k)) c (lit_at ws (p + 3 + 1)) all second_in)
 
-module _ (m : Marks) (ws heads places : List ℕ) (marks : IsMarks m) (k : IsWatched m ws heads places (past_of m)) (all : m.front ≡ length m.lits) where
+module _ (m : Marks) (ws places : List ℕ) (marks : IsMarks m) (store : IsStore m.vars ws places) (quiet : AreGuarded ws places (past_of m) m []) (all : m.front ≡ length m.lits) where
   past_all : past_of m ≡ has m.lits
   past_all = ap has (take_all m.front m.lits (omega arith))
 
@@ -73,7 +73,7 @@ module _ (m : Marks) (ws heads places : List ℕ) (marks : IsMarks m) (k : IsWat
       let other : other_of (2 * p) ≡ p + 3 + 1 = omega arith in
       let here : Contains places ((2 * p) / 2) = subst (λ n. Contains places n) (omega arith) c in
       let f2 : IsIn (past_of m) (negate (lit_at ws (lit_of (2 * p)))) = subst (λ (s : LiteralSet). IsIn s (negate (lit_at ws (lit_of (2 * p))))) (sym past_all) (subst (λ n. IsIn (has m.lits) (negate (lit_at ws n))) (sym lit) f) in
-      let held : IsTrueNoLater m (negate (lit_at ws (lit_of (2 * p)))) (lit_at ws (other_of (2 * p))) = k.quiet (2 * p) here refl f2 in
+      let held : IsTrueNoLater m (negate (lit_at ws (lit_of (2 * p)))) (lit_at ws (other_of (2 * p))) = quiet (2 * p) here refl f2 in
       subst (λ n. IsIn (has m.lits) (lit_at ws n)) other held.now
 
   second_true : (p : ℕ) → Contains places p → IsIn (has m.lits) (negate (lit_at ws (p + 3 + 1))) → IsIn (has m.lits) (lit_at ws (p + 3 + 0))
@@ -82,13 +82,13 @@ module _ (m : Marks) (ws heads places : List ℕ) (marks : IsMarks m) (k : IsWat
       let other : other_of (2 * p + 1) ≡ p + 3 + 0 = omega arith in
       let here : Contains places ((2 * p + 1) / 2) = subst (λ n. Contains places n) (omega arith) c in
       let f2 : IsIn (past_of m) (negate (lit_at ws (lit_of (2 * p + 1)))) = subst (λ (s : LiteralSet). IsIn s (negate (lit_at ws (lit_of (2 * p + 1))))) (sym past_all) (subst (λ n. IsIn (has m.lits) (negate (lit_at ws n))) (sym lit) f) in
-      let held : IsTrueNoLater m (negate (lit_at ws (lit_of (2 * p + 1)))) (lit_at ws (other_of (2 * p + 1))) = k.quiet (2 * p + 1) here refl f2 in
+      let held : IsTrueNoLater m (negate (lit_at ws (lit_of (2 * p + 1)))) (lit_at ws (other_of (2 * p + 1))) = quiet (2 * p + 1) here refl f2 in
       subst (λ n. IsIn (has m.lits) (lit_at ws n)) other held.now
 
   pub watched_closed : (clauses : Clauses) → HoldsClauses clauses ws places → IsClosed clauses (has m.lits)
   watched_closed clauses t = λ c among l unit.
       let d = t.stored c among in
-      let h = k.store in
+      let h = store in
       let b = h.block d.0 d.1 in
       let two = b.two in
       clause_closed (has m.lits) ws d.0 c d.2 two (b.distinct 0 1 (omega arith) (omega arith) (omega arith)) (distinct_consistent m.lits marks.distinct) (first_true d.0 d.1) (second_true d.0 d.1) l unit
@@ -96,21 +96,21 @@ module _ (m : Marks) (ws heads places : List ℕ) (marks : IsMarks m) (k : IsWat
   pub watched_unfalsified : (clauses : Clauses) → HoldsClauses clauses ws places → Falsified clauses (has m.lits) → ⊥
   watched_unfalsified clauses t f =
       let d = t.stored f.clause f.among in
-      let h = k.store in
+      let h = store in
       let b = h.block d.0 d.1 in
       let two = b.two in
       clause_unfalsified (has m.lits) ws d.0 f.clause d.2 two (b.distinct 0 1 (omega arith) (omega arith) (omega arith)) (distinct_consistent m.lits marks.distinct) (first_true d.0 d.1) (second_true d.0 d.1) f.each
 
-pub watched_closes : (old new : Marks) (start ws heads places : List ℕ) → IsMarks new → HasWalked old new start ws places → IsWatched new ws heads places (past_of new) → new.front ≡ length new.lits → Closes places start old.lits new.lits
-watched_closes old new start ws heads places marks made k all = λ clauses t.
+pub watched_closes : (old new : Marks) (start ws places : List ℕ) → IsMarks new → HasWalked old new start ws places → IsStore new.vars ws places → AreGuarded ws places (past_of new) new [] → new.front ≡ length new.lits → Closes places start old.lits new.lits
+watched_closes old new start ws places marks made store quiet all = λ clauses t.
     let now = text_kept clauses start ws places made.text t in
     let grown = made.grows clauses t in
     let longer = made.longer in
     record {
-      closed = watched_closed new ws heads places marks k all clauses now;
+      closed = watched_closed new ws places marks store quiet all clauses now;
       includes = longer.keeps;
       within = grown.within;
-      unfalsified = watched_unfalsified new ws heads places marks k all clauses now;
+      unfalsified = watched_unfalsified new ws places marks store quiet all clauses now;
     }
 
 pub clash_clashes : (old new : Marks) (start ws places : List ℕ) (p : ℕ) → HasWalked old new start ws places → IsClash ws places (has new.lits) p → Clashes places start old.lits

@@ -16,3 +16,10 @@ pub mod AttachLemmas
 pub mod ViewLemmas
 pub mod ArenaLemmas
 pub mod LawLemmas
+pub mod LeavesLemmas
+pub mod PairLemmas
+pub mod SplitLemmas
+pub mod SplitWalkLemmas
+pub mod AdvanceLemmas
+pub mod ListedLemmas
+pub mod FiledLemmas

@@ -50,7 +50,7 @@ text_of ws places = record {
 }
 
 -- a clause at the same place is unit for the same literals
-unit_at : (ws : List ℕ) (p : ℕ) (set : LiteralSet) (c e : List Literal) (l : Literal) → IsClauseAt ws p c → IsClauseAt ws p e → IsUnit set c l → IsUnit set e l
+pub unit_at : (ws : List ℕ) (p : ℕ) (set : LiteralSet) (c e : List Literal) (l : Literal) → IsClauseAt ws p c → IsClauseAt ws p e → IsUnit set c l → IsUnit set e l
 unit_at ws p set c e l at_c at_e u = record {
   among = (at_e l).1 ((at_c l).0 u.among);
   others = All-weaker (Contains e) (λ k. (k ≡ l) ⊎ IsIn set (negate k)) (λ k among. All-contains (λ m. (m ≡ l) ⊎ IsIn set (negate m)) c k u.others ((at_c k).1 ((at_e k).0 among))) e (All-contains_itself e);

@@ -2,7 +2,7 @@
 use Rattle.std.proofs.Common.{◌≡◌, ℕ, ◌+◌, ◌<◌, ◌≤◌, Bool, false, take, List, [], ◌∷◌, ◌++◌, length, get_or, set, refl, sym, ◌∙◌, ap, subst, inl, inr, arith, length-take-le}
 use Rattle.std.proofs.lemmas.Bool.{cases_eq}
 use Rattle.std.specs.Prelude.{min}
-use Rattle.std.proofs.lemmas.List.{take-take, take_all, take_more, get_or-take, get_or_past, get_or_default}
+use Rattle.std.proofs.lemmas.List.{take-take, take_more, get_or-take, get_or_default}
 use Rattle.cnf_core.specs.Lit.{Literal, word_of}
 use Rattle.cnf_core.specs.Clause.{AreThere}
 use Rattle.cnf_core.proofs.TrailLemmas.{there_last, word_below}

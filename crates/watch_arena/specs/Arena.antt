@@ -1,13 +1,13 @@
 -- The arena as contracts see it, and what holds of it together with a trail.
-use Rattle.std.specs.Prelude.{◌≡◌, ◌≤◌, ℕ, ◌+◌, ◌*◌, Option, Some, None, List, [], ◌∷◌, All, Contains, length, map}
+use Rattle.std.specs.Prelude.{◌≡◌, ◌≤◌, ℕ, ◌+◌, Option, Some, None, List, [], ◌∷◌, All, Contains, length, map}
 use Rattle.std.specs.Prelude.{slice_index}
 use Rattle.cnf_core.specs.declared.limits.TheConstants.{VARS, ROOM}
 use Rattle.cnf_core.specs.Lit.{Literal, negate, has}
 use Rattle.cnf_core.specs.Clause.{Clauses, AreDistinct, AreThere}
 use Rattle.cnf_core.specs.Propagation.{IsIn, SameLiterals}
 use Rattle.watch_arena.specs.declared.clause_ref.ClauseRef.{ClauseRef}
-use Rattle.watch_arena.specs.Words.{IsStore}
-use Rattle.watch_arena.specs.Chains.{HasChains}
+use Rattle.watch_arena.specs.declared.pairs.Pair.{Pair}
+use Rattle.watch_arena.specs.Pairs.{AreFiled}
 use Rattle.watch_arena.specs.Trail.{Marks, IsUnset}
 use Rattle.watch_arena.specs.Walk.{lit_at, lits_at, AreRight, IsReasoned, IsReasonFor, AddsReasons}
 
@@ -31,15 +31,12 @@ attached_of vars room words places visits = record {
       visits;
 }
 
--- what each arena keeps: every watch of every clause stands once in the chain of its literal, and
--- every chain ends
-pub record IsArena (vars room : ℕ) (words heads places : List ℕ) : Type 0 where
+-- what each arena keeps: every watch of a longer clause stands once in the chain of its literal, every
+-- chain ends, and every clause of two literals stands in the lists of both
+pub record IsArena (vars room : ℕ) (words heads places longs : List ℕ) (lists : List (List Pair)) : Type 0 where
   pub vars_limit : vars ≤ VARS
   pub room_limit : room ≤ ROOM
-  pub some : 1 ≤ length words
-  pub store : IsStore vars words places
-  pub size : length heads ≡ 2 * vars + 2
-  pub chains : HasChains words heads places []
+  pub filed : AreFiled vars words heads places longs lists
 
 -- the literals of the clause at a place, in their present order
 abbrev pub attached_at : Attached → ℕ → List Literal

@@ -1,6 +1,6 @@
 // Watched clauses.
 ghost use Rattle.std.specs.Prelude.{◌≡◌, ◌≤◌, ◌<◌, ◌+◌, ◌*◌, ◌↔◌, ◌∷◌, ◌++◌, ℕ, Contains, length, slice_index_or, []};
-ghost use Rattle.std.specs.Prelude.{IfSome, IfOk, OnOk, OnErr, IsErrOf};
+ghost use Rattle.std.specs.Prelude.{IfSome, IfOk, OnOk, OnErr, IsErrOf, replicate};
 ghost use Rattle.cnf_core.specs.Clause.{AreDistinct, AreThere};
 ghost use Rattle.cnf_core.specs.Lit.{has};
 ghost use Rattle.cnf_core.specs.Propagation.{Falsifies, IsClosure};
@@ -14,6 +14,7 @@ ghost use Rattle.watch_arena.specs.Arena.{MayBeWatched, IsClashOf, attached_at, 
 use crate::attach::attach;
 use crate::clause_ref::ClauseRef;
 use crate::fault::ArenaFault;
+use crate::pairs::{Pairs, add_lists};
 use crate::trail::Trail;
 use crate::walks::propagate;
 use cnf_core::{Lit, ROOM, VARS, lengthen};
@@ -21,9 +22,9 @@ use plan_core::OutOfMemory;
 use std::alloc::Global;
 use std::marker::Model;
 
-/// Clauses, each in the chains of its two watches, which are its first two literals. The words hold
-/// for each clause its length, two links and its literals; a chain leads from its head, one for each
-/// literal, through the links of the watches to 0.
+/// Clauses. The words hold for each its length, two links and its literals. One of two literals stands whole in the
+/// lists of both. A longer one stands in the chains of its two watches, which are its first two literals; a chain leads
+/// from its head, one for each literal, through the links of the watches to 0.
 #[derive(Drop)]
 pub struct Arena {
     vars: u32,
@@ -31,6 +32,9 @@ pub struct Arena {
     words: Vec<u32>,
     heads: Vec<u32>,
     places: Vec<u32>,
+    longs: Vec<u32>,
+    lists: Vec<Pairs>,
+    alloc: Global,
     visits: u64,
 }
 
@@ -41,7 +45,18 @@ impl Model for Arena {
 
     ghost view = { λ a. attached_of a.vars a.room a.words.items a.places.items a.visits };
 
-    ghost invariant = { λ a. IsArena a.vars a.room a.words.items a.heads.items a.places.items };
+    ghost invariant = { λ a. IsArena a.vars a.room a.words.items a.heads.items a.places.items a.longs.items
+        a.lists.items };
+}
+
+/// The lists of the literals of so many variables, which have no clause.
+fn lists_for(alloc: Global, vars: u32) -> Result<Vec<Pairs>, OutOfMemory>
+    requires { vars ≤ VARS }
+    ensures { IfOk result (λ l. l.items ≡ replicate (2 * vars + 2) []) }
+{
+    let mut lists = Vec::new(alloc);
+    add_lists(alloc, &mut lists, 2 * vars as usize + 2)?;
+    Ok(lists)
 }
 
 impl Arena {
@@ -62,6 +77,9 @@ impl Arena {
             words: vec![in alloc; 0; 1]?,
             heads: vec![in alloc; 0; 2 * vars as usize + 2]?,
             places: Vec::new(alloc),
+            longs: Vec::new(alloc),
+            lists: lists_for(alloc, vars)?,
+            alloc,
             visits: 0,
         })
     }
@@ -74,7 +92,15 @@ impl Arena {
         ensures watched { (m : Marks) → AreWatched self.old m → AreWatched self.new m }
         ensures reasoned { (m : Marks) → AreReasoned self.old m → AreReasoned self.new m }
     {
+        let before = self.heads.len();
         lengthen(&mut self.heads, 2 * n as usize, 0)?;
+        match add_lists(self.alloc, &mut self.lists, 2 * n as usize) {
+            Ok(()) => {}
+            Err(e) => {
+                self.heads.truncate(before);
+                return Err(e);
+            }
+        }
         self.vars += n;
         Ok(())
     }
@@ -130,6 +156,8 @@ impl Arena {
             &mut self.words,
             &mut self.heads,
             &self.places,
+            &self.longs,
+            &self.lists,
             trail,
             &mut self.visits,
         )
@@ -158,6 +186,8 @@ impl Arena {
             &mut self.words,
             &mut self.heads,
             &mut self.places,
+            &mut self.longs,
+            &mut self.lists,
             trail,
             lits,
             self.room,

@@ -3,6 +3,7 @@ ghost use Rattle.std.specs.Prelude.{◌≡◌, ◌≢◌, ◌≤◌, ◌<◌, �
 ghost use Rattle.cnf_core.specs.Lit.{negate, literal_at, has};
 ghost use Rattle.cnf_core.specs.Propagation.{IsIn};
 ghost use Rattle.watch_arena.specs.Trail.{IsMarks};
+ghost use Rattle.watch_arena.specs.Pairs.{LeavesOthers};
 ghost use Rattle.watch_arena.specs.Walk.{IsWalking, IsStepped, IsFalsified, HasWalked, done_of, past_of};
 
 use crate::chains::{push, swap};
@@ -29,6 +30,7 @@ pub fn visit(
     ensures marks { IsMarks trail.new }
     ensures front { trail.new.front ≡ trail.old.front }
     ensures made { HasWalked trail.old trail.new words.old words.new places.now }
+    ensures others { LeavesOthers places.now words.old words.new }
     ensures stepped { IfSome result (λ next. IsStepped trail.new words.old words.new heads.new places.now
         (done_of trail.new) w s next) }
     ensures falsified { result ≡ None → IsFalsified words.new (has trail.new.lits) s }

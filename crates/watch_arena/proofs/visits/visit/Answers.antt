@@ -10,6 +10,7 @@ use Rattle.watch_arena.proofs.ReasonLemmas.{reasoned_text, none_because}
 use Rattle.watch_arena.proofs.ReasonWalkLemmas.{visited_reasoned, visited_because}
 use Rattle.cnf_core.proofs.GrowthLemmas.{grows_none}
 use Rattle.watch_arena.proofs.WalkLemmas.{ready, watch_below, visited_true, visited_move, visited_unit, visited_grows, longer_unit, longer_none, unit_keeps}
+use Rattle.watch_arena.proofs.LeavesLemmas.{leaves_push, leaves_swap, leaves_more}
 use Rattle.watch_arena.proofs.visits.visit.Goals as goal
 
 pub bounds-words-s : goal.bounds-words-s
@@ -119,3 +120,22 @@ returns-in-Unit-clause-stepped c =
     let more : IsMarks (with_lit c.args.trail.now c.in-Unit.l (c.args.s / 2)) = subst IsMarks c.set.ensures.value c.set.ensures.marks in
     subst (λ (m : Marks). IsStepped m c.args.words.now c.push-in-Unit.new.words c.push-in-Unit.new.heads c.args.places.now (done_of m) c.args.w c.args.s (arena_word c.args.words.now (c.args.s / 2 + 1 + c.args.s % 2))) (sym c.set.ensures.value)
     (visited_unit c.args.trail.now _ _ _ _ _ c.requires.walking c.requires.some c.requires.false_now c.requires.fresh c.len-trail.ensures.marks _ _ c.in-Unit.l (c.args.s / 2) c.requires.front more c.in-Unit.ensures c.push-in-Unit.ensures)
+
+pub returns-in-True-clause-others : goal.returns-in-True-clause-others
+returns-in-True-clause-others c =
+    let r = ready _ _ _ _ _ _ _ c.requires.walking c.requires.some in
+    leaves_push _ _ _ _ _ _ c.requires.walking.store r.place c.push.ensures.link
+
+pub returns-in-Move-clause-others : goal.returns-in-Move-clause-others
+returns-in-Move-clause-others c =
+    let r = ready _ _ _ _ _ _ _ c.requires.walking c.requires.some in
+    let two = r.two in
+    let store = swap_store _ c.args.words.now c.swap.new.words c.args.places.now (c.args.s / 2) (c.args.s % 2) c.in-Move.k c.requires.walking.store r.place (omega arith) c.in-Move.ensures.below c.swap.ensures in
+    leaves_more c.args.places.now c.args.words.now c.swap.new.words c.push-in-Move.new.words
+    (leaves_swap _ c.args.words.now c.swap.new.words c.args.places.now (c.args.s / 2) (c.args.s % 2) c.in-Move.k c.requires.walking.store r.place (omega arith) c.in-Move.ensures.below c.swap.ensures)
+    (leaves_push _ _ _ _ _ _ store r.place c.push-in-Move.ensures.link)
+
+pub returns-in-Unit-clause-others : goal.returns-in-Unit-clause-others
+returns-in-Unit-clause-others c =
+    let r = ready _ _ _ _ _ _ _ c.requires.walking c.requires.some in
+    leaves_push _ _ _ _ _ _ c.requires.walking.store r.place c.push-in-Unit.ensures.link

@@ -6,6 +6,7 @@ use Rattle.watch_arena.proofs.WordLemmas.{wrote_set}
 use Rattle.watch_arena.proofs.WalkLemmas.{ready}
 use Rattle.watch_arena.proofs.ClosureLemmas.{made_none, made_more, made_text, made_advanced, clash_kept}
 use Rattle.watch_arena.proofs.ChainWalkLemmas.{finished, all_false, next_false, next_fresh, starting, front_stays, watched_advanced, next_word}
+use Rattle.watch_arena.proofs.LeavesLemmas.{leaves_none, leaves_more}
 use Rattle.watch_arena.proofs.walks.walk.Goals as goal
 
 pub loop-s-init : goal.loop-s-init
@@ -21,6 +22,7 @@ loop-s-init c =
       made = made_none m c.args.words.now c.args.places.now;
       walking = starting m c.lit-l.result c.word-w.result c.propagated.ensures.marks c.requires.front is word c.args.words.now c.args.heads.now _ c.args.places.now c.requires.watched lt (wrote_set c.args.heads.now c.word-w.result 0 lt);
       false_now = next_false m c.lit-l.result c.word-w.result c.propagated.ensures.marks c.requires.front is word;
+      others = leaves_none c.args.places.now c.args.words.now;
       counted = omega arith;
       fresh = next_fresh m c.lit-l.result c.word-w.result c.propagated.ensures.marks c.requires.front is word;
     }
@@ -37,6 +39,7 @@ loop-s-preserved c =
       made = made_more c.args.trail.now c.loop-s.trail c.visit.new.trail _ _ _ _ i.made e.made;
       walking = let x = e.stepped in x.walking;
       false_now = longer.keeps (negate (literal_at c.word-w.result)) i.false_now;
+      others = leaves_more _ _ _ _ i.others e.others;
       counted = let one = c.saturating_add.ensures in omega arith;
       fresh = front_stays c.loop-s.trail c.visit.new.trail longer e.front i.marks (negate (literal_at c.word-w.result)) ∙ i.fresh;
     }
@@ -60,3 +63,6 @@ returns-clause-made c = subst (λ (m : Marks). HasWalked c.args.trail.now m c.ar
 pub returns-clause-watched : goal.returns-clause-watched
 returns-clause-watched c = subst (λ (m : Marks). IsWatched m c.loop-s.words c.loop-s.heads c.args.places.now (past_of m)) (sym c.advance.ensures.value)
     (watched_advanced c.loop-s.trail _ _ _ (finished c.loop-s.trail _ _ _ _ _ _ c.loop-s.invariant.walking c.loop-s-test.false))
+
+pub returns-in-None-clause-others : goal.returns-in-None-clause-others
+returns-in-None-clause-others c = leaves_more _ _ _ _ (leaves_more _ _ _ _ c.loop-s.invariant.others c.in-None.ensures.others) c.put_back.ensures.others

@@ -1,17 +1,22 @@
 use Rattle.std.proofs.Common.{rules, ◌≡◌, ◌∙◌, sym, subst, List, ℕ, length, drop, vec_len}
 use Rattle.std.proofs.lemmas.List.{take_at}
 use Rattle.std.specs.Vec.{with_items}
-use Rattle.watch_arena.specs.Walk.{IsWatched, past_of}
+use Rattle.watch_arena.specs.Walk.{past_of}
+use Rattle.watch_arena.specs.declared.pairs.Pair.{Pair}
+use Rattle.watch_arena.specs.Pairs.{AreAllWatched}
 use Rattle.watch_arena.proofs.ArenaLemmas.{arena_watched, propagated, closes, falsifies, clash_of, some_weaker}
 use Rattle.watch_arena.proofs.arena.Arena.propagate.Goals as goal
 
 pub propagate-requires : goal.propagate-requires
 propagate-requires c =
     let m = c.args.trail.now in
-    let w = arena_watched _ _ _ _ _ _ c.args.self.now m c.self.invariant c.self.view_is c.requires.vars c.requires.watched in
-    subst (λ (x : List ℕ). IsWatched m x c.deref_mut-2.result.now c.deref.result.now (past_of m)) (sym c.deref_mut.ensures.value)
-    (subst (λ (x : List ℕ). IsWatched m c.self.inside.words.items x c.deref.result.now (past_of m)) (sym c.deref_mut-2.ensures.value)
-    (subst (λ (x : List ℕ). IsWatched m c.self.inside.words.items c.self.inside.heads.items x (past_of m)) (sym c.deref.ensures.value) w))
+    let a = c.self.inside in
+    let w = arena_watched a.vars a.room a.words.items a.heads.items a.places.items a.longs.items a.lists.items a.visits c.args.self.now c.self.invariant c.self.view_is m c.requires.vars c.requires.watched in
+    subst (λ (x : List ℕ). AreAllWatched m x c.deref_mut-2.result.now c.deref.result.now c.deref-2.result.now c.deref-3.result.now (past_of m)) (sym c.deref_mut.ensures.value)
+    (subst (λ (x : List ℕ). AreAllWatched m a.words.items x c.deref.result.now c.deref-2.result.now c.deref-3.result.now (past_of m)) (sym c.deref_mut-2.ensures.value)
+    (subst (λ (x : List ℕ). AreAllWatched m a.words.items a.heads.items x c.deref-2.result.now c.deref-3.result.now (past_of m)) (sym c.deref.ensures.value)
+    (subst (λ (x : List ℕ). AreAllWatched m a.words.items a.heads.items a.places.items x c.deref-3.result.now (past_of m)) (sym c.deref-2.ensures.value)
+    (subst (λ (x : List (List Pair)). AreAllWatched m a.words.items a.heads.items a.places.items a.longs.items x (past_of m)) (sym c.deref-3.ensures.value) w))))
 
 pub returns-clause-watched : goal.returns-clause-watched
 returns-clause-watched c =
@@ -19,7 +24,7 @@ returns-clause-watched c =
     let len : length c.deref_mut.result.now ≡ vec_len c.self.inside.words = search rules in
     let words = with_items c.self.inside.words c.propagate.new.words in
     let items : words.items ≡ c.propagate.new.words = take_at c.propagate.new.words (drop (length c.propagate.new.words) c.self.inside.words.items) (vec_len c.self.inside.words) (size ∙ len) in
-    let x = propagated c.args.self.now c.self.inside.vars c.self.inside.room c.self.inside.visits c.propagate.new.visits c.self.inside.words.items c.self.inside.places.items c.deref_mut.result.now c.deref.result.now c.propagate.new.words words.items c.propagate.new.heads c.args.trail.now c.propagate.new.trail
+    let x = propagated c.args.self.now c.self.inside.vars c.self.inside.room c.self.inside.visits c.propagate.new.visits c.self.inside.words.items c.self.inside.places.items c.deref_mut.result.now c.deref.result.now c.deref-2.result.now c.deref-3.result.now c.propagate.new.words words.items c.propagate.new.heads c.args.trail.now c.propagate.new.trail
     c.self.view_is c.deref_mut.ensures.value c.deref.ensures.value items size c.propagate.ensures.made c.propagate.ensures.watched in
     x.watched
 
@@ -29,7 +34,7 @@ returns-clause-reasoned c =
     let len : length c.deref_mut.result.now ≡ vec_len c.self.inside.words = search rules in
     let words = with_items c.self.inside.words c.propagate.new.words in
     let items : words.items ≡ c.propagate.new.words = take_at c.propagate.new.words (drop (length c.propagate.new.words) c.self.inside.words.items) (vec_len c.self.inside.words) (size ∙ len) in
-    let x = propagated c.args.self.now c.self.inside.vars c.self.inside.room c.self.inside.visits c.propagate.new.visits c.self.inside.words.items c.self.inside.places.items c.deref_mut.result.now c.deref.result.now c.propagate.new.words words.items c.propagate.new.heads c.args.trail.now c.propagate.new.trail
+    let x = propagated c.args.self.now c.self.inside.vars c.self.inside.room c.self.inside.visits c.propagate.new.visits c.self.inside.words.items c.self.inside.places.items c.deref_mut.result.now c.deref.result.now c.deref-2.result.now c.deref-3.result.now c.propagate.new.words words.items c.propagate.new.heads c.args.trail.now c.propagate.new.trail
     c.self.view_is c.deref_mut.ensures.value c.deref.ensures.value items size c.propagate.ensures.made c.propagate.ensures.watched in
     x.reasoned
 
@@ -39,7 +44,7 @@ returns-clause-because c =
     let len : length c.deref_mut.result.now ≡ vec_len c.self.inside.words = search rules in
     let words = with_items c.self.inside.words c.propagate.new.words in
     let items : words.items ≡ c.propagate.new.words = take_at c.propagate.new.words (drop (length c.propagate.new.words) c.self.inside.words.items) (vec_len c.self.inside.words) (size ∙ len) in
-    let x = propagated c.args.self.now c.self.inside.vars c.self.inside.room c.self.inside.visits c.propagate.new.visits c.self.inside.words.items c.self.inside.places.items c.deref_mut.result.now c.deref.result.now c.propagate.new.words words.items c.propagate.new.heads c.args.trail.now c.propagate.new.trail
+    let x = propagated c.args.self.now c.self.inside.vars c.self.inside.room c.self.inside.visits c.propagate.new.visits c.self.inside.words.items c.self.inside.places.items c.deref_mut.result.now c.deref.result.now c.deref-2.result.now c.deref-3.result.now c.propagate.new.words words.items c.propagate.new.heads c.args.trail.now c.propagate.new.trail
     c.self.view_is c.deref_mut.ensures.value c.deref.ensures.value items size c.propagate.ensures.made c.propagate.ensures.watched in
     x.because
 
@@ -49,7 +54,7 @@ returns-clause-text c =
     let len : length c.deref_mut.result.now ≡ vec_len c.self.inside.words = search rules in
     let words = with_items c.self.inside.words c.propagate.new.words in
     let items : words.items ≡ c.propagate.new.words = take_at c.propagate.new.words (drop (length c.propagate.new.words) c.self.inside.words.items) (vec_len c.self.inside.words) (size ∙ len) in
-    let x = propagated c.args.self.now c.self.inside.vars c.self.inside.room c.self.inside.visits c.propagate.new.visits c.self.inside.words.items c.self.inside.places.items c.deref_mut.result.now c.deref.result.now c.propagate.new.words words.items c.propagate.new.heads c.args.trail.now c.propagate.new.trail
+    let x = propagated c.args.self.now c.self.inside.vars c.self.inside.room c.self.inside.visits c.propagate.new.visits c.self.inside.words.items c.self.inside.places.items c.deref_mut.result.now c.deref.result.now c.deref-2.result.now c.deref-3.result.now c.propagate.new.words words.items c.propagate.new.heads c.args.trail.now c.propagate.new.trail
     c.self.view_is c.deref_mut.ensures.value c.deref.ensures.value items size c.propagate.ensures.made c.propagate.ensures.watched in
     x.text
 
@@ -59,7 +64,7 @@ returns-clause-grows c =
     let len : length c.deref_mut.result.now ≡ vec_len c.self.inside.words = search rules in
     let words = with_items c.self.inside.words c.propagate.new.words in
     let items : words.items ≡ c.propagate.new.words = take_at c.propagate.new.words (drop (length c.propagate.new.words) c.self.inside.words.items) (vec_len c.self.inside.words) (size ∙ len) in
-    let x = propagated c.args.self.now c.self.inside.vars c.self.inside.room c.self.inside.visits c.propagate.new.visits c.self.inside.words.items c.self.inside.places.items c.deref_mut.result.now c.deref.result.now c.propagate.new.words words.items c.propagate.new.heads c.args.trail.now c.propagate.new.trail
+    let x = propagated c.args.self.now c.self.inside.vars c.self.inside.room c.self.inside.visits c.propagate.new.visits c.self.inside.words.items c.self.inside.places.items c.deref_mut.result.now c.deref.result.now c.deref-2.result.now c.deref-3.result.now c.propagate.new.words words.items c.propagate.new.heads c.args.trail.now c.propagate.new.trail
     c.self.view_is c.deref_mut.ensures.value c.deref.ensures.value items size c.propagate.ensures.made c.propagate.ensures.watched in
     x.grows
 
