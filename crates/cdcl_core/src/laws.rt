@@ -8,7 +8,7 @@ ghost use Rattle.refute_log.specs.Told.{Lines};
 ghost use Rattle.cdcl_core.specs.Kept.{Kept};
 ghost use Rattle.cdcl_core.specs.Belongs.{Belongs};
 
-/// A log that belongs to a solver belongs to it with a Bound line at its end, one that may be told.
+/// A log that belongs to a solver belongs to it with a Bound line at its end, one that a log takes.
 pub fn a_bound_line_changes_nothing()
     ensures { (lines : Lines) (k : Kept) (criterion : Criterion) (n : ℕ) (x : Variable) →
         MayBeTold (Bound criterion n x) →

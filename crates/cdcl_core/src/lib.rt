@@ -1,14 +1,16 @@
 //! The solver: clauses learnt from conflicts, and a log that derives.
 //!
-//! `Solver` keeps the clauses that it is given and those that it learns, and `solve` looks for a model
-//! of them that makes assumptions true; it tells what it learns to any log. `specs/` has the
-//! definitions: `Kept` (what a contract sees of a solver, and what its answers say), `Belongs` (a log
-//! that belongs to a solver, and the lines that a search tells), `Faults`; and for the crate itself
-//! `Roots` (what is kept of arena and trail), `Search` (the state of a search) and `Rounds` (what it
-//! tells). `search` has the state, `moves` what goes along the trail, `choices` what is decided,
-//! `given` clauses that are given and `learning` those that are learnt, `endings` how a search ends,
-//! `rounds` the search, `models` its answer, `solver` the whole as one value, `laws` a law of its logs.
-//! It stands on the trail and arena of `watch_arena`, on `pick_heap`, `cdcl_learn` and `refute_log`.
+//! `Solver` keeps the clauses that it is given and those that it learns. `solve` looks for a model of them that makes
+//! assumptions true, and gives what it learns to any log.
+//!
+//! `specs/Kept` says what a contract sees of a solver, and what its answers say. `Belongs` says which log belongs to a
+//! solver, and which lines a search gives to it. `Faults` has the faults. For the crate itself, `Roots` says what is
+//! kept of arena and trail, `Search` what the state of a search is, and `Rounds` what it gives to the log.
+//!
+//! `search` has the state, `moves` what goes along the trail, and `choices` what is decided. `given` takes clauses that
+//! are given, `learning` those that are learnt. `endings` says how a search ends, `rounds` is the search, and `models`
+//! its answer. `solver` is the whole as one value, and `laws` a law of its logs. This crate uses the trail and arena of
+//! `watch_arena`, and `pick_heap`, `cdcl_learn` and `refute_log`. `lex_minimise`, `search_moved` and `law_core` use it.
 #![tactic(auto)]
 
 mod answer;

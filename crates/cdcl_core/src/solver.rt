@@ -80,8 +80,8 @@ impl Solver {
         }
     }
 
-    /// Adds a clause of distinct variables, tells it as a Formula line, and keeps it. `Room` comes
-    /// exactly where the words so far, the literals and 3 pass the room, before anything is told.
+    /// Adds a clause of distinct variables, gives it to the log as a Formula line, and keeps it. `Room` comes
+    /// exactly where the words so far, the literals and 3 pass the room. Then the log gets nothing.
     pub fn add_clause<L: LogSink>(&mut self, lits: &[Lit], log: &mut L) -> Result<(), AddFault>
         requires working { self.old.failed ≡ false }
         requires there { AreThere self.old.vars lits.now }

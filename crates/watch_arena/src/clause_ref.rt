@@ -2,8 +2,7 @@
 ghost use Rattle.std.specs.Prelude.{◌≡◌};
 ghost use Rattle.watch_arena.specs.Trail.{place_of};
 
-/// An attached clause, by the place of its first word in the arena; no clause stands at 0. It stays
-/// that clause's for good.
+/// An attached clause, by the place of its first word in the arena. No clause is at 0. It stays that clause's for good.
 #[derive(Clone, Copy, Debug, PartialEq, Eq)]
 pub struct ClauseRef(pub u32);
 

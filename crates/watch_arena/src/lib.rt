@@ -1,17 +1,20 @@
 //! The trail of literals that are true, and clauses that are watched, in lists and in chains.
 //!
-//! `Trail` holds literals in the order in which they became true, with levels and reasons, and how
-//! many of them are propagated. `Arena` holds clauses in one vector of words, and its `propagate`
-//! puts what follows by unit propagation behind the trail, without taking memory, and looks at the
-//! clauses alone whose watch became false. `specs/` has the definitions: `Trail` (what a contract
-//! sees of a trail, and what each call makes of it), `Words` and `Chains` (where clauses and their
-//! links stand), `Walk` (what a walk of a chain keeps), `Pairs` (clauses of two literals, and all
-//! clauses together), `Arena` (what a contract sees of an arena; when it is watched on a trail, and
-//! when the trail is reasoned). `trail` has the trail, `tables` how its tables grow, `chains` the one
-//! write of a chain, `pairs` the clauses of two literals that have one literal, `looks` and `visits`
-//! one step of a walk, `walks` a list, a chain and the way to the closure, `attach` a further clause,
-//! `arena` the whole as one value, `laws` what its levels say of a trail, and which literals may
-//! be watched. Learning from conflicts and the solver stand on it.
+//! `Trail` holds literals in the order in which they became true, with levels and reasons, and how many of them are
+//! propagated. `Arena` holds the clauses. Its `propagate` puts what follows by unit propagation behind the trail. It
+//! takes no memory, and looks only at clauses of which a watch became false. A clause of two literals is whole in the
+//! list of each of them. All others are in one vector of words, in chains.
+//!
+//! `specs/Trail` says what a contract sees of a trail, and what each call makes of it. `Words` and `Chains` say where
+//! clauses and their links lie, and `Walk` what a walk of a chain keeps. `Pairs` has the clauses of two literals, and
+//! all clauses together. `Arena` says what a contract sees of an arena, when it is watched on a trail, and when the
+//! trail is reasoned.
+//!
+//! `trail` has the trail, and `tables` how its tables grow. `chains` is the one write of a chain, and `pairs` has the
+//! clauses of two literals that have one literal. `looks` and `visits` are one step of a walk. `walks` goes through a
+//! list and a chain, and to the closure. `attach` takes a further clause. `arena` is the whole as one value. `laws` say
+//! what levels tell of a trail, and which literals may be watched. `cdcl_learn`, `cdcl_core` and `log_trim` use this
+//! crate.
 #![tactic(auto)]
 
 mod arena;
