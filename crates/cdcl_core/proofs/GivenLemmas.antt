@@ -1,5 +1,6 @@
 -- Keeping a clause that is given at level 0.
-use Rattle.std.proofs.Common.{◌≡◌, ◌≢◌, ℕ, suc, ◌<◌, ◌≤◌, ◌⊎◌, Bool, true, false, List, [], ◌∷◌, ◌++◌, length, get_or, take, refl, sym, ◌∙◌, ap, subst, inl, inr, arith}
+use Rattle.std.proofs.Common.{◌≡◌, ◌≢◌, ℕ, suc, ◌<◌, ◌≤◌, ◌⊎◌, Bool, true, false, List, [], ◌∷◌, ◌++◌, length, get_or, take, refl, sym, ◌∙◌, ap, subst, inl}
+use Rattle.std.proofs.Common.{inr, arith}
 use Rattle.std.specs.Prelude.{All, Contains, Some, slice_get}
 use Rattle.std.proofs.lemmas.Bool.{cases_lt, cases_eq, cases_Bool}
 use Rattle.std.proofs.lemmas.List.Elements.{All-weaker, Contains-push, Contains-append_right}
@@ -31,7 +32,8 @@ root_level a m l marks none on =
     omega arith
 
 -- a clause that is false at level 0 refutes all
-pub refuted_by : (a : Attached) (m : Marks) (own now : Clauses) (refuted : Bool) (c : List Literal) → now ≡ own ++ c ∷ [] → m.cuts ≡ [] → IsFalseClause m c → IsGrounded a m own refuted → Rup (all_of a now) []
+pub refuted_by : (a : Attached) (m : Marks) (own now : Clauses) (refuted : Bool) (c : List Literal) → now ≡ own ++ c ∷ [] → m.cuts ≡ [] → IsFalseClause m c →
+    IsGrounded a m own refuted → Rup (all_of a now) []
 refuted_by a m own now refuted c is none off g = record {
   clause = c;
   among = Contains-append_right (attached_clauses a) now c (subst (λ (cs : Clauses). Contains cs c) (sym is) (Contains-push own c));
@@ -40,32 +42,41 @@ refuted_by a m own now refuted c is none off g = record {
 }
   where
     rooted : HasRoots (sight a m) (all_of a now)
-    rooted = λ i lt z. reason_among (all_of a own) (all_of a now) (has (take i m.lits)) (get_or m.lits i (literal 0 true)) (among_append (attached_clauses a) own (attached_clauses a) now (among_itself (attached_clauses a)) (subst (λ (cs : Clauses). AreAmong own cs) (sym is) (among_left own (c ∷ [])))) (g.rooted i lt z)
+    rooted = λ i lt z. reason_among (all_of a own) (all_of a now) (has (take i m.lits)) (get_or m.lits i (literal 0 true))
+    (among_append (attached_clauses a) own (attached_clauses a) now (among_itself (attached_clauses a))
+    (subst (λ (cs : Clauses). AreAmong own cs) (sym is) (among_left own (c ∷ [])))) (g.rooted i lt z)
 
-pub solving_refuting : (a : Attached) (m : Marks) (own now : Clauses) (refuted : Bool) (c : List Literal) → now ≡ own ++ c ∷ [] → m.cuts ≡ [] → IsFalseClause m c → AreThere m.vars c → IsSolving a m own refuted → IsSolving a m now true
+pub solving_refuting : (a : Attached) (m : Marks) (own now : Clauses) (refuted : Bool) (c : List Literal) → now ≡ own ++ c ∷ [] → m.cuts ≡ [] →
+    IsFalseClause m c → AreThere m.vars c → IsSolving a m own refuted → IsSolving a m now true
 solving_refuting a m own now refuted c is none off there s = record {
   watched = s.watched;
   grounded = grounded_owned a m own now refuted true c is there (λ e. cc) (λ e. refuted_by a m own now refuted c is none off s.grounded) s.grounded;
 }
 
 -- a clause of one literal that is true already
-pub solving_owned : (a : Attached) (m : Marks) (own now : Clauses) (refuted : Bool) (c : List Literal) → now ≡ own ++ c ∷ [] → m.cuts ≡ [] → length c ≡ 1 → IsSilent m c → AreThere m.vars c → IsSolving a m own refuted → IsSolving a m now refuted
+pub solving_owned : (a : Attached) (m : Marks) (own now : Clauses) (refuted : Bool) (c : List Literal) → now ≡ own ++ c ∷ [] → m.cuts ≡ [] → length c ≡ 1 →
+    IsSilent m c → AreThere m.vars c → IsSolving a m own refuted → IsSolving a m now refuted
 solving_owned a m own now refuted [] is none one silent there s = absurd silent
 solving_owned a m own now refuted (l ∷ []) is none one silent there s = record {
   watched = s.watched;
   grounded = grounded_owned a m own now refuted refuted (l ∷ []) is there
       (λ e. (e, record { lit = l; inside = contains_first l []; true_ = silent; root = root_level a m l s.grounded.marks none silent }))
-      (λ e. rup_more (all_of a own) (all_of a now) [] (among_append (attached_clauses a) own (attached_clauses a) now (among_itself (attached_clauses a)) (subst (λ (cs : Clauses). AreAmong own cs) (sym is) (among_left own ((l ∷ []) ∷ [])))) (s.grounded.falsified e))
+      (λ e. rup_more (all_of a own) (all_of a now) [] (among_append (attached_clauses a) own (attached_clauses a) now (among_itself (attached_clauses a))
+      (subst (λ (cs : Clauses). AreAmong own cs) (sym is) (among_left own ((l ∷ []) ∷ [])))) (s.grounded.falsified e))
       s.grounded;
 }
 solving_owned a m own now refuted (k ∷ (l ∷ ls)) is none one silent there s = absurd (omega arith)
 
 -- a longer clause that makes no literal true
-watched_silent : (a b : Attached) (m : Marks) (own : Clauses) (refuted : Bool) (k l : Literal) (ls : List Literal) → m.cuts ≡ [] → ((n : Marks) → AreWatched a n → MayBeWatched n (k ∷ l ∷ ls) → AreWatched b n) → AreWatched a m → IsSilent m (k ∷ l ∷ ls) → IsMarks m → (has m.lits (negate l) ≡ true) ⊎ (has m.lits (negate l) ≡ false) → AreWatched b m
+watched_silent : (a b : Attached) (m : Marks) (own : Clauses) (refuted : Bool) (k l : Literal) (ls : List Literal) → m.cuts ≡ [] →
+    ((n : Marks) → AreWatched a n → MayBeWatched n (k ∷ l ∷ ls) → AreWatched b n) → AreWatched a m → IsSilent m (k ∷ l ∷ ls) → IsMarks m →
+    (has m.lits (negate l) ≡ true) ⊎ (has m.lits (negate l) ≡ false) → AreWatched b m
 watched_silent a b m own refuted k l ls none put before silent marks value = elim silent [
   | inr open_ ↦ put m before (may_open m k l open_)
   | inl on ↦ elim value [
-    | inl off ↦ put m before (may_held m k l marks (inr (record { first = off; second = on; level = let x = root_level b m k marks none on in let y = root_level b m (negate l) marks none off in omega arith })))
+    | inl off ↦ put m before (may_held m k l marks (inr (record {
+    first = off; second = on; level = let x = root_level b m k marks none on in let y = root_level b m (negate l) marks none off in omega arith
+    })))
     | inr free ↦ put m before (may_open m k l (record {
       first = λ h. consistent (sight b m) k marks.distinct on h;
       second = λ h. not_both (has m.lits (negate l)) h free;
@@ -73,12 +84,14 @@ watched_silent a b m own refuted k l ls none put before silent marks value = eli
   ]
 ]
 
-pub solving_silent : (a b : Attached) (m : Marks) (own : Clauses) (refuted : Bool) (p : ℕ) (c : List Literal) → m.cuts ≡ [] → length c ≢ 1 → IsPut a b m p c → IsSilent m c → AreThere m.vars c → IsSolving a m own refuted → IsSolving b m own refuted
+pub solving_silent : (a b : Attached) (m : Marks) (own : Clauses) (refuted : Bool) (p : ℕ) (c : List Literal) → m.cuts ≡ [] → length c ≢ 1 → IsPut a b m p c →
+    IsSilent m c → AreThere m.vars c → IsSolving a m own refuted → IsSolving b m own refuted
 solving_silent a b m own refuted p [] none more put silent there s = absurd silent
 solving_silent a b m own refuted p (l ∷ []) none more put silent there s = absurd (more refl)
 solving_silent a b m own refuted p (k ∷ (l ∷ ls)) none more put silent there s = record {
   watched = watched_silent a b m own refuted k l ls none put.watched s.watched silent s.grounded.marks (cases_Bool (has m.lits (negate l)));
-  grounded = grounded_attached a b m own refuted p (k ∷ (l ∷ ls)) put.more put.places put.clause (put_text a b m p (k ∷ (l ∷ ls)) put) put.reasoned there (λ q lt. absurd (let z : length m.cuts ≡ 0 = ap length none in omega arith)) s.grounded;
+  grounded = grounded_attached a b m own refuted p (k ∷ (l ∷ ls)) put.more put.places put.clause (put_text a b m p (k ∷ (l ∷ ls)) put) put.reasoned there
+  (λ q lt. absurd (let z : length m.cuts ≡ 0 = ap length none in omega arith)) s.grounded;
 }
 
 -- literals that changed places
@@ -156,7 +169,8 @@ exchanged_sym old new a b e = record {
 }
 
 pub exchanged_same : (old new : List Literal) (a b : ℕ) → IsExchanged old new a b → a < length old → b < length old → SameLiterals old new
-exchanged_same old new a b e la lb = λ l. (exchanged_back new old a b (exchanged_sym old new a b e) (let s = e.size in omega arith) (let s = e.size in omega arith) l, exchanged_back old new a b e la lb l)
+exchanged_same old new a b e la lb = λ l. (exchanged_back new old a b (exchanged_sym old new a b e) (let s = e.size in omega arith)
+    (let s = e.size in omega arith) l, exchanged_back old new a b e la lb l)
 
 pub there_same : (vars : ℕ) (old new : List Literal) → SameLiterals old new → AreThere vars old → AreThere vars new
 there_same vars old new same h = by_list new (λ l c. there_of ((same l).1 c))
@@ -169,7 +183,8 @@ there_same vars old new same h = by_list new (λ l c. there_of ((same l).1 c))
     by_list (l ∷ ls) f = (f l (contains_first l ls), by_list ls (λ k c. f k (contains_later l k ls c)))
 
 -- up to two literals that aren't false stand in front
-pub fronted_none : (m : Marks) (c : List Literal) (first : ℕ) → first ≡ length c → ((i : ℕ) (d : Literal) → 0 ≤ i → i < first → IsFalse m (get_or c i d)) → IsFronted m c 0
+pub fronted_none : (m : Marks) (c : List Literal) (first : ℕ) → first ≡ length c → ((i : ℕ) (d : Literal) → 0 ≤ i → i < first → IsFalse m (get_or c i d)) →
+    IsFronted m c 0
 fronted_none m c first e h = record {
   few = omega arith;
   some = omega arith;
@@ -180,7 +195,9 @@ fronted_none m c first e h = record {
 not_false : (m : Marks) (k l : Literal) → k ≡ l → has m.lits (negate l) ≡ false → IsFalse m k → ⊥
 not_false m k l e off on = not_both (has m.lits (negate l)) (subst (λ (x : Literal). IsFalse m x) e on) off
 
-pub fronted_one : (m : Marks) (old new : List Literal) (first second : ℕ) → IsExchanged old new 0 first → first < length old → ((d : Literal) → first < length old → has m.lits (negate (get_or old first d)) ≡ false) → second ≡ length new → ((i : ℕ) (d : Literal) → 1 ≤ i → i < second → IsFalse m (get_or new i d)) → IsFronted m new 1
+pub fronted_one : (m : Marks) (old new : List Literal) (first second : ℕ) → IsExchanged old new 0 first → first < length old →
+    ((d : Literal) → first < length old → has m.lits (negate (get_or old first d)) ≡ false) → second ≡ length new →
+    ((i : ℕ) (d : Literal) → 1 ≤ i → i < second → IsFalse m (get_or new i d)) → IsFronted m new 1
 fronted_one m old new first second e lt off end rest = record {
   few = omega arith;
   some = let s = e.size in omega arith;
@@ -188,12 +205,15 @@ fronted_one m old new first second e lt off end rest = record {
   others = λ i d few le within. rest i d le (omega arith);
 }
 
-pub fronted_two : (m : Marks) (old mid new : List Literal) (first second : ℕ) → IsExchanged old mid 0 first → IsExchanged mid new 1 second → first < length old → 1 ≤ second → second < length mid → ((d : Literal) → first < length old → has m.lits (negate (get_or old first d)) ≡ false) → ((d : Literal) → second < length mid → has m.lits (negate (get_or mid second d)) ≡ false) → IsFronted m new 2
+pub fronted_two : (m : Marks) (old mid new : List Literal) (first second : ℕ) → IsExchanged old mid 0 first → IsExchanged mid new 1 second →
+    first < length old → 1 ≤ second → second < length mid → ((d : Literal) → first < length old → has m.lits (negate (get_or old first d)) ≡ false) →
+    ((d : Literal) → second < length mid → has m.lits (negate (get_or mid second d)) ≡ false) → IsFronted m new 2
 fronted_two m old mid new first second e f lt one within off other = record {
   few = omega arith;
   some = let s = e.size in let t = f.size in omega arith;
   front = λ i d below. elim (cases_eq i 0) [
-    | inl z ↦ not_false m (get_or new i d) (get_or old first d) (ap (λ j. get_or new j d) z ∙ f.others 0 d (below_one 1 (omega arith)) (below_one second one) ∙ e.first d) (off d lt)
+    | inl z ↦ not_false m (get_or new i d) (get_or old first d) (ap (λ j. get_or new j d) z ∙ f.others 0 d (below_one 1 (omega arith)) (below_one second one)
+    ∙ e.first d) (off d lt)
     | inr nz ↦ let is : i ≡ 1 = omega arith in not_false m (get_or new i d) (get_or mid second d) (ap (λ j. get_or new j d) is ∙ f.first d) (other d within)
   ];
   others = λ i d few le lt2. absurd (omega arith);
@@ -225,7 +245,8 @@ pub first_there : (vars : ℕ) (c : List Literal) (l : Literal) → slice_get c 
 first_there vars [] l e h = cc
 first_there vars (k ∷ ls) l e h = subst (IsThere vars) (head_is k l ls e) h.0
 
-pub asserted_one : (a : Attached) (m : Marks) (c : List Literal) (l : Literal) → IsMarks m → m.cuts ≡ [] → IsFronted m c 1 → slice_get c 0 ≡ Some l → IsUnset m.lits l → AreThere m.vars c → AreDistinct c → IsAssertedClause a m c
+pub asserted_one : (a : Attached) (m : Marks) (c : List Literal) (l : Literal) → IsMarks m → m.cuts ≡ [] → IsFronted m c 1 → slice_get c 0 ≡ Some l →
+    IsUnset m.lits l → AreThere m.vars c → AreDistinct c → IsAssertedClause a m c
 asserted_one a m [] l marks none f e un there distinct = absurd (let s = f.some in omega arith)
 asserted_one a m (k ∷ rest) l marks none f e un there distinct = record {
   unset = subst (IsUnset m.lits) (sym (head_is k l rest e)) un;

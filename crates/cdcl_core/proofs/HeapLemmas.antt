@@ -1,5 +1,6 @@
 -- Which variables the heap offers.
-use Rattle.std.proofs.Common.{◌≡◌, ◌≢◌, ℕ, ◌-◌, ◌<◌, ◌≤◌, ◌⊎◌, Bool, true, false, cond, nat_eq, List, [], ◌∷◌, ◌++◌, length, get_or, take, refl, sym, ◌∙◌, ap, subst, inl, inr, arith}
+use Rattle.std.proofs.Common.{◌≡◌, ◌≢◌, ℕ, ◌-◌, ◌<◌, ◌≤◌, ◌⊎◌, Bool, true, false, cond, nat_eq, List, [], ◌∷◌, ◌++◌, length, get_or, take, refl, sym, ◌∙◌, ap}
+use Rattle.std.proofs.Common.{subst, inl, inr, arith}
 use Rattle.std.specs.List.{sum_by}
 use Rattle.std.proofs.lemmas.Bool.{cases_Bool, cases_eq, cases_lt}
 use Rattle.std.proofs.lemmas.List.{get_or-set_other, get_or_past, get_or_default, get_or-take, length-take}
@@ -41,7 +42,8 @@ pub heap_longer : (h : Ranked) (m n : Marks) → IsLonger m n → AreOffered h m
 heap_longer h m n longer offered = heap_more h m n longer.vars longer.keeps offered
 
 -- a variable that is taken out, and set
-pub offered_others : (h : Ranked) (m : Marks) (v : ℕ) → AreOffered h m → (l : Literal) → IsThere m.vars l → IsUnset m.lits l → l.var ≢ v → IsHeld (without h v) l.var
+pub offered_others : (h : Ranked) (m : Marks) (v : ℕ) → AreOffered h m → (l : Literal) → IsThere m.vars l → IsUnset m.lits l → l.var ≢ v →
+    IsHeld (without h v) l.var
 offered_others h m v offered l there un ne = get_or-set_other h.held v l.var false false ne ∙ offered l there un
 
 pub offered_without : (h : Ranked) (m : Marks) (v : ℕ) (l : Literal) → l.var ≡ v → (IsUnset m.lits l → ⊥) → AreOffered h m → AreOffered (without h v) m
@@ -60,7 +62,8 @@ fewer_held h v held = elim (cases_lt v (length h.held)) [
 ]
 
 -- a decided literal
-pub offered_decided : (h : Ranked) (m : Marks) (l : Literal) → ((k : Literal) → IsThere m.vars k → IsUnset m.lits k → k.var ≢ l.var → IsHeld h k.var) → AreOffered h (with_lit (opened m) l 0)
+pub offered_decided : (h : Ranked) (m : Marks) (l : Literal) → ((k : Literal) → IsThere m.vars k → IsUnset m.lits k → k.var ≢ l.var → IsHeld h k.var) →
+    AreOffered h (with_lit (opened m) l 0)
 offered_decided h m l others = λ k there un. others k there (off k un.0, off (negate k) un.1) (λ e. apart k e un)
   where
     off : (k : Literal) → has (m.lits ++ l ∷ []) k ≡ false → has m.lits k ≡ false
@@ -95,7 +98,9 @@ pub put_more : (h n : Ranked) (v w : ℕ) → n ≡ with_held h v → IsHeld n v
 put_more h n v w e here held = subst (λ (x : Ranked). IsHeld x w) (sym e) (held_more h v w (subst (λ (x : Ranked). IsHeld x v) e here) held)
 
 -- the literals that are undone were put back
-pub offered_undone : (h : Ranked) (m : Marks) (level i : ℕ) → IsMarks m → level ≤ length m.cuts → (i ≡ 0) ⊎ ((1 ≤ i) × (i ≤ length m.lits) × (get_or m.levels (get_or m.lits (i - 1) (literal 0 true)).var 0 ≤ level)) → AreOffered h m → ((j : ℕ) → i ≤ j → j < length m.lits → IsHeld h (get_or m.lits j (literal 0 true)).var) → AreOffered h (undone m level)
+pub offered_undone : (h : Ranked) (m : Marks) (level i : ℕ) → IsMarks m → level ≤ length m.cuts →
+    (i ≡ 0) ⊎ ((1 ≤ i) × (i ≤ length m.lits) × (get_or m.levels (get_or m.lits (i - 1) (literal 0 true)).var 0 ≤ level)) → AreOffered h m →
+    ((j : ℕ) → i ≤ j → j < length m.lits → IsHeld h (get_or m.lits j (literal 0 true)).var) → AreOffered h (undone m level)
 offered_undone h m level i marks le cut offered back = λ l there un. elim (cases_set m.lits l) [
   | inl set_ ↦ by_place l un set_
   | inr unset ↦ offered l there unset
@@ -137,7 +142,8 @@ offered_undone h m level i marks le cut offered back = λ l there un. elim (case
         let is : get_or m.lits c.0 (literal 0 true) ≡ k = get_or_default m.lits c.0 (literal 0 true) k lt ∙ c.2 in
         elim (cases_lt c.0 (level_end m level)) [
           | inl front ↦
-              let on : has (take (level_end m level) m.lits) k ≡ true = has_from_contains (take (level_end m level) m.lits) k (c.0, inside c.0 lt front, get_or-take (level_end m level) m.lits c.0 k front ∙ c.2) in
+              let on : has (take (level_end m level) m.lits) k ≡ true = has_from_contains (take (level_end m level) m.lits) k
+              (c.0, inside c.0 lt front, get_or-take (level_end m level) m.lits c.0 k front ∙ c.2) in
               let off = unset_other (take (level_end m level) m.lits) l k (sym set_.1) un in
               absurd (not_both (has (take (level_end m level) m.lits) k) on off.0)
           | inr behind ↦ put_held h (get_or m.lits c.0 (literal 0 true)).var l.var (ap (λ (x : Literal). x.var) is ∙ set_.1) (back c.0 (early c.0 behind lt) lt)

@@ -46,24 +46,32 @@ asserted_alone a m [] h e = absurd h
 asserted_alone a m (x ∷ []) h e = h.alone refl
 asserted_alone a m (x ∷ (y ∷ ls)) h e = absurd (omega arith)
 
-pub asserted_reason : (a b : Attached) (m : Marks) (p : ℕ) (c : List Literal) (l : Literal) → IsAssertedClause a m c → slice_get c 0 ≡ Some l → IsPut a b m p c → IsReasonOf b m l p
+pub asserted_reason : (a b : Attached) (m : Marks) (p : ℕ) (c : List Literal) (l : Literal) → IsAssertedClause a m c → slice_get c 0 ≡ Some l →
+    IsPut a b m p c → IsReasonOf b m l p
 asserted_reason a b m p [] l h e put = absurd h
 asserted_reason a b m p (x ∷ ls) l h e put = subst (λ (k : Literal). IsReasonOf b m k p) (head_is x l ls e) (may_be_set a b m p x ls put h.others)
 
-pub kept_long : (a b : Attached) (m t : Marks) (own : Clauses) (refuted : Bool) (p : ℕ) (c : List Literal) (l : Literal) → IsAssertedClause a m c → length c ≢ 1 → slice_get c 0 ≡ Some l → IsPut a b m p c → t ≡ with_lit m l p → IsMarks t → AreReasoned b t → IsSolving a m own refuted → IsSolving b t own refuted
+pub kept_long : (a b : Attached) (m t : Marks) (own : Clauses) (refuted : Bool) (p : ℕ) (c : List Literal) (l : Literal) → IsAssertedClause a m c →
+    length c ≢ 1 → slice_get c 0 ≡ Some l → IsPut a b m p c → t ≡ with_lit m l p → IsMarks t → AreReasoned b t → IsSolving a m own refuted →
+    IsSolving b t own refuted
 kept_long a b m t own refuted p [] l h ne e put is marks reasoned g = absurd h
 kept_long a b m t own refuted p (x ∷ []) l h ne e put is marks reasoned g = absurd (ne refl)
-kept_long a b m t own refuted p (x ∷ (y ∷ ls)) l h ne e put is marks reasoned g = solving_long a b m t own refuted p x y ls put h (is ∙ ap (λ (k : Literal). with_lit m k p) (sym (head_is x l (y ∷ ls) e))) marks reasoned g
+kept_long a b m t own refuted p (x ∷ (y ∷ ls)) l h ne e put is marks reasoned g = solving_long a b m t own refuted p x y ls put h
+    (is ∙ ap (λ (k : Literal). with_lit m k p) (sym (head_is x l (y ∷ ls) e))) marks reasoned g
 
-pub kept_single : (a : Attached) (m t : Marks) (own now : Clauses) (refuted : Bool) (c : List Literal) (l : Literal) → IsAssertedClause a m c → length c ≡ 1 → slice_get c 0 ≡ Some l → now ≡ own ++ c ∷ [] → t ≡ with_lit m l 0 → IsMarks t → AreWatched a t → AreReasoned a t → IsGrounded a m own refuted → IsSolving a t now refuted
+pub kept_single : (a : Attached) (m t : Marks) (own now : Clauses) (refuted : Bool) (c : List Literal) (l : Literal) → IsAssertedClause a m c → length c ≡ 1 →
+    slice_get c 0 ≡ Some l → now ≡ own ++ c ∷ [] → t ≡ with_lit m l 0 → IsMarks t → AreWatched a t → AreReasoned a t → IsGrounded a m own refuted →
+    IsSolving a t now refuted
 kept_single a m t own now refuted [] l h one e is at marks watched reasoned g = absurd h
-kept_single a m t own now refuted (x ∷ []) l h one e is at marks watched reasoned g = solving_single a m t own now refuted x is h (at ∙ ap (λ (k : Literal). with_lit m k 0) (sym (head_is x l [] e))) marks watched reasoned g
+kept_single a m t own now refuted (x ∷ []) l h one e is at marks watched reasoned g = solving_single a m t own now refuted x is h
+    (at ∙ ap (λ (k : Literal). with_lit m k 0) (sym (head_is x l [] e))) marks watched reasoned g
 kept_single a m t own now refuted (x ∷ (y ∷ ls)) l h one e is at marks watched reasoned g = absurd (omega arith)
 
 -- the same of what is offered and asked
 pub set_offered : (h : Ranked) (m t : Marks) (l : Literal) (reason : ℕ) → t ≡ with_lit m l reason → AreOffered h m → AreOffered h t
 set_offered h m t l reason e offered = subst (AreOffered h) (sym e) (heap_more h m (with_lit m l reason) refl (push_keeps m.lits l) offered)
 
-pub set_asking : (a b : Attached) (m t : Marks) (l : Literal) (reason : ℕ) (query : List Literal) (q n : ℕ) → t ≡ with_lit m l reason → IsMarks m → IsMarks t → IsUnset m.lits l → IsThere m.vars l → (reason ≡ 0 → length m.cuts ≡ 0) → IsAssuming query (sight a m) q n → IsAssuming query (sight b t) q n
+pub set_asking : (a b : Attached) (m t : Marks) (l : Literal) (reason : ℕ) (query : List Literal) (q n : ℕ) → t ≡ with_lit m l reason → IsMarks m → IsMarks t →
+    IsUnset m.lits l → IsThere m.vars l → (reason ≡ 0 → length m.cuts ≡ 0) → IsAssuming query (sight a m) q n → IsAssuming query (sight b t) q n
 set_asking a b m t l reason query q n e before after un there root h = subst (λ (x : Marks). IsAssuming query (sight b x) q n) (sym e)
     (asking_set a b m l reason query q n before (subst IsMarks e after) un (let size = before.reasons in let high = there.1 in omega arith) root h)

@@ -69,7 +69,8 @@ greatest_front lines d (suc n) le =
     line_at (l ∷ lines) (suc n) lt = let r = line_at lines n (omega arith) in (r.0, r.1, ap (λ (ls : Lines). l ∷ ls) r.2)
 
 pub greatest_of_log : (lines : Lines) → Derives lines → greatest_var (facts_of lines).clauses ≤ (facts_of lines).greatest
-greatest_of_log lines d = let g = greatest_front lines d (length lines) (omega arith) in subst (λ (ls : Lines). greatest_var (facts_of ls).clauses ≤ (facts_of ls).greatest) (take_all (length lines) lines (omega arith)) g.same
+greatest_of_log lines d = let g = greatest_front lines d (length lines) (omega arith) in subst
+    (λ (ls : Lines). greatest_var (facts_of ls).clauses ≤ (facts_of ls).greatest) (take_all (length lines) lines (omega arith)) g.same
 
 pub named_below : (clauses more : Clauses) (v : ℕ) → AreAmong clauses more → IsNamed clauses v → v ≤ greatest_var more
 named_below clauses more v there n =
@@ -81,18 +82,27 @@ named_below clauses more v there n =
     omega arith
 
 -- a clause is given
-pub belongs_given : (lines : Lines) (clauses now : Clauses) (count : ℕ) (c : List Literal) → MayBeTold (Formula c) → AreSameClauses (clauses ++ c ∷ []) now → BelongsTo lines clauses count → BelongsTo (lines ++ Formula c ∷ []) now (count + length c + 3)
+pub belongs_given : (lines : Lines) (clauses now : Clauses) (count : ℕ) (c : List Literal) → MayBeTold (Formula c) → AreSameClauses (clauses ++ c ∷ []) now →
+    BelongsTo lines clauses count → BelongsTo (lines ++ Formula c ∷ []) now (count + length c + 3)
 belongs_given lines clauses now count c formed same b = record {
   formed = each_pushed MayBeTold lines (Formula c) b.formed formed;
-  derives = derives_more lines (Formula c) b.derives (record { named = All-nil (λ l. l.var ≤ (facts_of lines).greatest); answers = tt; implied = tt; says_more = tt });
+  derives = derives_more lines (Formula c) b.derives (record {
+    named = All-nil (λ l. l.var ≤ (facts_of lines).greatest);
+    answers = tt;
+    implied = tt;
+    says_more = tt;
+  });
   due = due_more lines (Formula c) b.due (λ d e. cc);
-  told = after (λ f. AreAmong f.clauses now) lines (Formula c) (among_more ((facts_of lines).clauses ++ c ∷ []) (clauses ++ c ∷ []) now (among_append (facts_of lines).clauses (c ∷ []) clauses (c ∷ []) b.told (among_itself (c ∷ []))) same.there);
-  all = after (λ f. AreAmong now f.clauses) lines (Formula c) (among_more now (clauses ++ c ∷ []) ((facts_of lines).clauses ++ c ∷ []) same.back (among_append clauses (c ∷ []) (facts_of lines).clauses (c ∷ []) b.all (among_itself (c ∷ []))));
+  told = after (λ f. AreAmong f.clauses now) lines (Formula c) (among_more ((facts_of lines).clauses ++ c ∷ []) (clauses ++ c ∷ []) now
+      (among_append (facts_of lines).clauses (c ∷ []) clauses (c ∷ []) b.told (among_itself (c ∷ []))) same.there);
+  all = after (λ f. AreAmong now f.clauses) lines (Formula c) (among_more now (clauses ++ c ∷ []) ((facts_of lines).clauses ++ c ∷ []) same.back
+      (among_append clauses (c ∷ []) (facts_of lines).clauses (c ∷ []) b.all (among_itself (c ∷ []))));
   words = after (λ f. count + length c + 3 ≡ words_of f.clauses) lines (Formula c) (let w = b.words in omega (arith, words_push (facts_of lines).clauses c));
 }
 
 -- the clauses that are kept may stand in another order
-pub belongs_same : (lines : Lines) (clauses now : Clauses) (count more : ℕ) → AreSameClauses clauses now → more ≡ count → BelongsTo lines clauses count → BelongsTo lines now more
+pub belongs_same : (lines : Lines) (clauses now : Clauses) (count more : ℕ) → AreSameClauses clauses now → more ≡ count → BelongsTo lines clauses count →
+    BelongsTo lines now more
 belongs_same lines clauses now count more same e b = record {
   formed = b.formed;
   derives = b.derives;
@@ -103,7 +113,8 @@ belongs_same lines clauses now count more same e b = record {
 }
 
 -- lines that add no clause
-belongs_line : (lines : Lines) (clauses : Clauses) (count : ℕ) (line : LogLine) → MayBeTold line → added line ≡ [] → ((c : List Literal) → line ≡ Learnt c → ⊥) → Stands lines line → BelongsTo lines clauses count → BelongsTo (lines ++ line ∷ []) clauses count
+belongs_line : (lines : Lines) (clauses : Clauses) (count : ℕ) (line : LogLine) → MayBeTold line → added line ≡ [] →
+    ((c : List Literal) → line ≡ Learnt c → ⊥) → Stands lines line → BelongsTo lines clauses count → BelongsTo (lines ++ line ∷ []) clauses count
 belongs_line lines clauses count line formed none other stands b = record {
   formed = each_pushed MayBeTold lines line b.formed formed;
   derives = derives_more lines line b.derives stands;
@@ -114,15 +125,23 @@ belongs_line lines clauses count line formed none other stands b = record {
 }
 
 -- a bound
-pub belongs_bound : (lines : Lines) (clauses : Clauses) (count : ℕ) (criterion : Criterion) (k : ℕ) (x : Var) → MayBeTold (Bound criterion k x) → BelongsTo lines clauses count → BelongsTo (lines ++ Bound criterion k x ∷ []) clauses count
+pub belongs_bound : (lines : Lines) (clauses : Clauses) (count : ℕ) (criterion : Criterion) (k : ℕ) (x : Var) → MayBeTold (Bound criterion k x) →
+    BelongsTo lines clauses count → BelongsTo (lines ++ Bound criterion k x ∷ []) clauses count
 belongs_bound lines clauses count criterion k x formed b =
-    belongs_line lines clauses count (Bound criterion k x) formed refl (λ d e. cc) (record { named = All-nil (λ l. l.var ≤ (facts_of lines).greatest); answers = tt; implied = tt; says_more = tt }) b
+    belongs_line lines clauses count (Bound criterion k x) formed refl (λ d e. cc) (record {
+      named = All-nil (λ l. l.var ≤ (facts_of lines).greatest);
+      answers = tt;
+      implied = tt;
+      says_more = tt;
+    }) b
 
 -- a query
-pub belongs_query : (lines : Lines) (clauses : Clauses) (count : ℕ) (q : List Literal) → MayBeTold (Query q) → All (λ l. IsNamed clauses l.var) q → BelongsTo lines clauses count → BelongsAt q (lines ++ Query q ∷ []) clauses count
+pub belongs_query : (lines : Lines) (clauses : Clauses) (count : ℕ) (q : List Literal) → MayBeTold (Query q) → All (λ l. IsNamed clauses l.var) q →
+    BelongsTo lines clauses count → BelongsAt q (lines ++ Query q ∷ []) clauses count
 belongs_query lines clauses count q formed named b = record {
   belongs = belongs_line lines clauses count (Query q) formed refl (λ c e. cc) (record {
-    named = All-weaker (λ l. IsNamed clauses l.var) (λ l. l.var ≤ (facts_of lines).greatest) (λ l n. let v = named_below clauses (facts_of lines).clauses l.var b.all n in let g = greatest_of_log lines b.derives in omega arith) q named;
+    named = All-weaker (λ l. IsNamed clauses l.var) (λ l. l.var ≤ (facts_of lines).greatest)
+        (λ l n. let v = named_below clauses (facts_of lines).clauses l.var b.all n in let g = greatest_of_log lines b.derives in omega arith) q named;
     answers = tt;
     implied = tt;
     says_more = tt;
@@ -143,7 +162,9 @@ new_told clauses more [] there back n = absurd n
 new_told clauses more (first ∷ rest) there back n = new_same clauses more first rest rest there back (λ l. (λ m. m, λ m. m)) n
 
 -- a learnt clause, where the query is open
-pub belongs_learnt : (lines : Lines) (clauses now : Clauses) (count : ℕ) (q c : List Literal) → MayBeTold (Learnt c) → IsDeduced clauses c → IsOpenQuery clauses q → AreSameClauses (clauses ++ c ∷ []) now → BelongsAt q lines clauses count → BelongsAt q (lines ++ Learnt c ∷ []) now (count + length c + 3)
+pub belongs_learnt : (lines : Lines) (clauses now : Clauses) (count : ℕ) (q c : List Literal) → MayBeTold (Learnt c) → IsDeduced clauses c →
+    IsOpenQuery clauses q → AreSameClauses (clauses ++ c ∷ []) now → BelongsAt q lines clauses count →
+    BelongsAt q (lines ++ Learnt c ∷ []) now (count + length c + 3)
 belongs_learnt lines clauses now count q c formed deduced is_open same at_query =
     let b = at_query.belongs in
     let g = greatest_of_log lines b.derives in
@@ -152,36 +173,49 @@ belongs_learnt lines clauses now count q c formed deduced is_open same at_query 
       belongs = record {
         formed = each_pushed MayBeTold lines (Learnt c) b.formed formed;
         derives = derives_more lines (Learnt c) b.derives (record {
-          named = All-weaker (λ l. l.var ≤ greatest_var (facts_of lines).clauses) (λ l. l.var ≤ (facts_of lines).greatest) (λ l h. omega arith) c (new_below (facts_of lines).clauses c new);
+          named = All-weaker (λ l. l.var ≤ greatest_var (facts_of lines).clauses) (λ l. l.var ≤ (facts_of lines).greatest) (λ l h. omega arith) c
+              (new_below (facts_of lines).clauses c new);
           answers = tt;
           implied = rup_more clauses (facts_of lines).clauses c b.all deduced.follows;
           says_more = new;
         });
-        due = due_more lines (Learnt c) b.due (λ d e. open_lines lines q at_query.asked (λ f. is_open (falsifies_more (facts_of lines).clauses clauses (has q) b.told f)));
-        told = after (λ f. AreAmong f.clauses now) lines (Learnt c) (among_more ((facts_of lines).clauses ++ c ∷ []) (clauses ++ c ∷ []) now (among_append (facts_of lines).clauses (c ∷ []) clauses (c ∷ []) b.told (among_itself (c ∷ []))) same.there);
-        all = after (λ f. AreAmong now f.clauses) lines (Learnt c) (among_more now (clauses ++ c ∷ []) ((facts_of lines).clauses ++ c ∷ []) same.back (among_append clauses (c ∷ []) (facts_of lines).clauses (c ∷ []) b.all (among_itself (c ∷ []))));
-        words = after (λ f. count + length c + 3 ≡ words_of f.clauses) lines (Learnt c) (let w = b.words in omega (arith, words_push (facts_of lines).clauses c));
+        due = due_more lines (Learnt c) b.due (λ d e. open_lines lines q at_query.asked
+            (λ f. is_open (falsifies_more (facts_of lines).clauses clauses (has q) b.told f)));
+        told = after (λ f. AreAmong f.clauses now) lines (Learnt c) (among_more ((facts_of lines).clauses ++ c ∷ []) (clauses ++ c ∷ []) now
+            (among_append (facts_of lines).clauses (c ∷ []) clauses (c ∷ []) b.told (among_itself (c ∷ []))) same.there);
+        all = after (λ f. AreAmong now f.clauses) lines (Learnt c) (among_more now (clauses ++ c ∷ []) ((facts_of lines).clauses ++ c ∷ []) same.back
+            (among_append clauses (c ∷ []) (facts_of lines).clauses (c ∷ []) b.all (among_itself (c ∷ []))));
+        words = after (λ f. count + length c + 3 ≡ words_of f.clauses) lines (Learnt c)
+            (let w = b.words in omega (arith, words_push (facts_of lines).clauses c));
       };
       asked = after (λ f. f.query ≡ Some q) lines (Learnt c) at_query.asked;
     }
 
 -- the query is refuted
-pub belongs_refuted : (lines : Lines) (clauses : Clauses) (count : ℕ) (q c : List Literal) → MayBeTold (Refuted c) → All (λ l. IsNamed clauses l.var) q → IsRefuting clauses q c → BelongsAt q lines clauses count → BelongsTo (lines ++ Refuted c ∷ []) clauses count
+pub belongs_refuted : (lines : Lines) (clauses : Clauses) (count : ℕ) (q c : List Literal) → MayBeTold (Refuted c) → All (λ l. IsNamed clauses l.var) q →
+    IsRefuting clauses q c → BelongsAt q lines clauses count → BelongsTo (lines ++ Refuted c ∷ []) clauses count
 belongs_refuted lines clauses count q c formed named r at_query =
     let b = at_query.belongs in
     let g = greatest_of_log lines b.derives in
     belongs_line lines clauses count (Refuted c) formed refl (λ d e. cc) (record {
-      named = All-weaker (λ l. Contains q (negate l)) (λ l. l.var ≤ (facts_of lines).greatest) (λ l among. let v = named_below clauses (facts_of lines).clauses l.var b.all (All-contains (λ k. IsNamed clauses k.var) q (negate l) named among) in omega arith) c r.answers;
+      named = All-weaker (λ l. Contains q (negate l)) (λ l. l.var ≤ (facts_of lines).greatest)
+          (λ l among. let v = named_below clauses (facts_of lines).clauses l.var b.all (All-contains (λ k. IsNamed clauses k.var) q (negate l) named among) in
+          omega
+          arith) c r.answers;
       answers = subst (λ (x : Option (List Literal)). MatchOption x ⊥ (λ p. All (λ l. Contains p (negate l)) c)) (sym at_query.asked) r.answers;
       implied = rup_more clauses (facts_of lines).clauses c b.all r.follows;
       says_more = tt;
     }) b
 
 -- the query has a model
-pub belongs_model : (lines : Lines) (clauses : Clauses) (count : ℕ) (q : List Literal) → BelongsAt q lines clauses count → BelongsTo (lines ++ Model ∷ []) clauses count
+pub belongs_model : (lines : Lines) (clauses : Clauses) (count : ℕ) (q : List Literal) → BelongsAt q lines clauses count →
+    BelongsTo (lines ++ Model ∷ []) clauses count
 belongs_model lines clauses count q at_query =
     let b = at_query.belongs in
-    belongs_line lines clauses count Model (record { formed = tt; once = tt }) refl (λ d e. cc) (record { named = All-nil (λ l. l.var ≤ (facts_of lines).greatest); answers = tt; implied = tt; says_more = tt }) b
+    belongs_line lines clauses count Model (record {
+      formed = tt;
+      once = tt;
+    }) refl (λ d e. cc) (record { named = All-nil (λ l. l.var ≤ (facts_of lines).greatest); answers = tt; implied = tt; says_more = tt }) b
 
 -- deduced, whatever the order
 pub deduced_same : (clauses more : Clauses) (c : List Literal) → AreAmong clauses more → AreAmong more clauses → IsDeduced clauses c → IsDeduced more c

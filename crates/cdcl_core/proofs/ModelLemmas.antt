@@ -1,8 +1,10 @@
 -- What a search that ended says of all assignments.
-use Rattle.std.proofs.Common.{◌≡◌, ◌≢◌, ℕ, ◌+◌, ◌<◌, ◌⊎◌, Bool, true, false, not, List, [], ◌∷◌, ◌++◌, length, get_or, take, map, refl, sym, ◌∙◌, ap, subst, inl, inr, arith, Some, None}
+use Rattle.std.proofs.Common.{◌≡◌, ◌≢◌, ℕ, ◌+◌, ◌<◌, ◌⊎◌, Bool, true, false, not, List, [], ◌∷◌, ◌++◌, length, get_or, take, map, refl, sym, ◌∙◌, ap, subst}
+use Rattle.std.proofs.Common.{inl, inr, arith, Some, None}
 use Rattle.std.specs.Prelude.{All, Contains}
 use Rattle.std.proofs.lemmas.Bool.{cases_eq, cases_Bool}
-use Rattle.std.proofs.lemmas.List.Elements.{All-nil, All-cons, All-head, All-tail, All-weaker, All-contains, All-contains_itself, Contains-push_cases, Contains-append_cases}
+use Rattle.std.proofs.lemmas.List.Elements.{All-nil, All-cons, All-head, All-tail, All-weaker, All-contains, All-contains_itself, Contains-push_cases}
+use Rattle.std.proofs.lemmas.List.Elements.{Contains-append_cases}
 use Rattle.cnf_core.specs.Lit.{Literal, negate, has, same_sign}
 use Rattle.cnf_core.specs.Clause.{Clauses, AreDistinct, AreThere, IsThere, IsNamed}
 use Rattle.cnf_core.specs.Assignment.{truth, Satisfies, SatisfiesAll}
@@ -24,9 +26,13 @@ use Rattle.cdcl_core.proofs.LogLemmas.{deduced_same}
 use Rattle.cdcl_core.proofs.RoundLemmas.{satisfied_lit, satisfied_by, satisfies_among}
 
 -- one more literal of the trail is true
-pub truths_more : (lits : List Literal) (ts now : List Bool) (i : ℕ) (l : Literal) → AreDistinct lits → i < length lits → get_or lits i l ≡ l → truth (assignment now) l ≡ true → ((x : ℕ) → x ≢ l.var → assignment now x ≡ assignment ts x) → ((k : Literal) → IsIn (has (take i lits)) k → truth (assignment ts) k ≡ true) → (k : Literal) → IsIn (has (take (i + 1) lits)) k → truth (assignment now) k ≡ true
+pub truths_more : (lits : List Literal) (ts now : List Bool) (i : ℕ) (l : Literal) → AreDistinct lits → i < length lits → get_or lits i l ≡ l →
+    truth (assignment now) l ≡ true → ((x : ℕ) → x ≢ l.var → assignment now x ≡ assignment ts x) →
+    ((k : Literal) → IsIn (has (take i lits)) k → truth (assignment ts) k ≡ true) → (k : Literal) → IsIn (has (take (i + 1) lits)) k →
+    truth (assignment now) k ≡ true
 truths_more lits ts now i l distinct lt at holds others so_far k on =
-    elim (Contains-push_cases (take i lits) l k (contains_from_has (take i lits ++ l ∷ []) k (subst (λ (ls : List Literal). IsIn (has ls) k) (next_front lits i l lt at) on))) [
+    elim (Contains-push_cases (take i lits) l k (contains_from_has (take i lits ++ l ∷ []) k
+    (subst (λ (ls : List Literal). IsIn (has ls) k) (next_front lits i l lt at) on))) [
       | inr same ↦ subst (λ (x : Literal). truth (assignment now) x ≡ true) same holds
       | inl old ↦
           let before = has_from_contains (take i lits) k old in
@@ -39,7 +45,8 @@ truths_more lits ts now i l distinct lt at holds others so_far k on =
     ]
 
 -- a clause has a true literal, or all its literals are false
-find_true : (m : Marks) (c : List Literal) → ((l : Literal) → IsThere m.vars l → IsUnset m.lits l → ⊥) → AreThere m.vars c → ((l : Literal) × Contains c l × (has m.lits l ≡ true)) ⊎ All (IsFalse m) c
+find_true : (m : Marks) (c : List Literal) → ((l : Literal) → IsThere m.vars l → IsUnset m.lits l → ⊥) → AreThere m.vars c →
+    ((l : Literal) × Contains c l × (has m.lits l ≡ true)) ⊎ All (IsFalse m) c
 find_true m [] total there = inr (All-nil (IsFalse m))
 find_true m (k ∷ c) total there = elim (cases_Bool (has m.lits k)) [
   | inl t ↦ inl (k, contains_first k c, t)
@@ -53,14 +60,17 @@ find_true m (k ∷ c) total there = elim (cases_Bool (has m.lits k)) [
 ]
 
 -- the variables of a kept clause are there
-pub clause_there : (a : Attached) (m : Marks) (own : Clauses) (refuted : Bool) (c : List Literal) → IsGrounded a m own refuted → Contains (all_of a own) c → AreThere m.vars c
+pub clause_there : (a : Attached) (m : Marks) (own : Clauses) (refuted : Bool) (c : List Literal) → IsGrounded a m own refuted → Contains (all_of a own) c →
+    AreThere m.vars c
 clause_there a m own refuted c g among = elim (Contains-append_cases (attached_clauses a) own c among) [
   | inl old ↦ let p = place_of_text a a.places c old in subst (AreThere m.vars) p.is (g.texts p.place p.among)
   | inr own_c ↦ All-contains (AreThere m.vars) own c g.there own_c
 ]
 
-pub complete_satisfies : (query : List Literal) (s : Search) (values : List Bool) → IsGrounded s.arena s.trail s.own.items s.refuted → IsComplete query s → ((l : Literal) → IsIn (has s.trail.lits) l → truth (assignment values) l ≡ true) → SatisfiesAll (assignment values) (clauses s)
-complete_satisfies query s values g complete true_all = satisfies_from_each (assignment values) (clauses s) (All-weaker (Contains (clauses s)) (Satisfies (assignment values)) by_clause (clauses s) (All-contains_itself (clauses s)))
+pub complete_satisfies : (query : List Literal) (s : Search) (values : List Bool) → IsGrounded s.arena s.trail s.own.items s.refuted → IsComplete query s →
+    ((l : Literal) → IsIn (has s.trail.lits) l → truth (assignment values) l ≡ true) → SatisfiesAll (assignment values) (clauses s)
+complete_satisfies query s values g complete true_all = satisfies_from_each (assignment values) (clauses s)
+    (All-weaker (Contains (clauses s)) (Satisfies (assignment values)) by_clause (clauses s) (All-contains_itself (clauses s)))
   where
     by_clause : (c : List Literal) → Contains (clauses s) c → Satisfies (assignment values) c
     by_clause c among = elim (find_true s.trail c complete.total (clause_there s.arena s.trail s.own.items s.refuted c g among)) [
@@ -82,38 +92,47 @@ refuting_no_model given cs query c g r = λ v all assumed.
 
 negated_among : (query c : List Literal) → All (λ l. Contains query (negate l)) c → All (λ l. Contains query l) (map negate c)
 negated_among query [] h = All-nil (λ l. Contains query l)
-negated_among query (l ∷ c) h = All-cons (λ k. Contains query k) (negate l) (map negate c) (All-head (λ k. Contains query (negate k)) l c h) (negated_among query c (All-tail (λ k. Contains query (negate k)) l c h))
+negated_among query (l ∷ c) h = All-cons (λ k. Contains query k) (negate l) (map negate c) (All-head (λ k. Contains query (negate k)) l c h)
+    (negated_among query c (All-tail (λ k. Contains query (negate k)) l c h))
 
 all_negated : (c : List Literal) → All (λ l. Contains (map negate c) (negate l)) c
 all_negated [] = All-nil (λ l. Contains [] (negate l))
 all_negated (l ∷ c) = All-cons (λ k. Contains (negate l ∷ map negate c) (negate k)) l c (contains_first (negate l) (map negate c))
-    (All-weaker (λ k. Contains (map negate c) (negate k)) (λ k. Contains (negate l ∷ map negate c) (negate k)) (λ k m. contains_later (negate l) (negate k) (map negate c) m) c (all_negated c))
+    (All-weaker (λ k. Contains (map negate c) (negate k)) (λ k. Contains (negate l ∷ map negate c) (negate k))
+    (λ k m. contains_later (negate l) (negate k) (map negate c) m) c (all_negated c))
 
 -- the assumptions whose negations the clause has are refuted
-pub refuted_negated : (answer : Answer) (given cs : Clauses) (query c refuted : List Literal) → answer ≡ Refuted → refuted ≡ map negate c → AreGiven given cs → IsRefuting cs query c → HasRefuted answer given query refuted
-refuted_negated answer given cs query c refuted is e g r = subst (λ (a : Answer). HasRefuted a given query refuted) (sym is) (subst (AreRefuted given query) (sym e) (record {
-  among = negated_among query c r.answers;
-  none = refuting_no_model given cs (map negate c) c g (record { follows = r.follows; answers = all_negated c });
-}))
+pub refuted_negated : (answer : Answer) (given cs : Clauses) (query c refuted : List Literal) → answer ≡ Refuted → refuted ≡ map negate c → AreGiven given cs →
+    IsRefuting cs query c → HasRefuted answer given query refuted
+refuted_negated answer given cs query c refuted is e g r = subst (λ (a : Answer). HasRefuted a given query refuted) (sym is)
+    (subst (AreRefuted given query) (sym e) (record {
+      among = negated_among query c r.answers;
+      none = refuting_no_model given cs (map negate c) c g (record { follows = r.follows; answers = all_negated c });
+    }))
 
-pub none_refuted : (answer : Answer) (given : Clauses) (query refuted : List Literal) → (answer ≡ Refuted → ⊥) → refuted ≡ [] → HasRefuted answer given query refuted
+pub none_refuted : (answer : Answer) (given : Clauses) (query refuted : List Literal) → (answer ≡ Refuted → ⊥) → refuted ≡ [] →
+    HasRefuted answer given query refuted
 none_refuted Model given query refuted other e = e
 none_refuted Refuted given query refuted other e = absurd (other refl)
 none_refuted Spent given query refuted other e = e
 none_refuted Room given query refuted other e = e
 
 -- what the search says is true of the given clauses
-pub model_answer : (given : Clauses) (query refuted : List Literal) (s t : Search) (values : List Bool) → AreGiven given (clauses s) → IsGrounded s.arena s.trail s.own.items s.refuted → IsComplete query s → length values ≡ t.trail.vars → ((l : Literal) → IsIn (has s.trail.lits) l → truth (assignment values) l ≡ true) → HasModel given query (kept_of t (Some values) refuted false)
+pub model_answer : (given : Clauses) (query refuted : List Literal) (s t : Search) (values : List Bool) → AreGiven given (clauses s) →
+    IsGrounded s.arena s.trail s.own.items s.refuted → IsComplete query s → length values ≡ t.trail.vars →
+    ((l : Literal) → IsIn (has s.trail.lits) l → truth (assignment values) l ≡ true) → HasModel given query (kept_of t (Some values) refuted false)
 model_answer given query refuted s t values g grounded complete size true_all = record {
   values = values;
   model = refl;
   vars = size;
   clauses = satisfies_among (assignment values) (clauses s) given g.kept (complete_satisfies query s values grounded complete true_all);
-  assumptions = All-weaker (Contains query) (λ l. truth (assignment values) l ≡ true) (λ l among. true_all l (complete.assumed l among)) query (All-contains_itself query);
+  assumptions = All-weaker (Contains query) (λ l. truth (assignment values) l ≡ true) (λ l among. true_all l (complete.assumed l among)) query
+      (All-contains_itself query);
 }
 
 -- the answers without a model
-pub other_answer : (answer : Answer) (given : Clauses) (query refuted : List Literal) (s t : Search) → (answer ≡ Model → ⊥) → IsSameStore s t → AreGiven given (clauses s) → IsSearchAnswer answer query s → IsTrueAnswer answer given query (kept_of t None refuted false)
+pub other_answer : (answer : Answer) (given : Clauses) (query refuted : List Literal) (s t : Search) → (answer ≡ Model → ⊥) → IsSameStore s t →
+    AreGiven given (clauses s) → IsSearchAnswer answer query s → IsTrueAnswer answer given query (kept_of t None refuted false)
 other_answer Model given query refuted s t other f g says = absurd (other refl)
 other_answer Refuted given query refuted s t other f g says = refuting_no_model given (clauses s) query s.analyser.clause g says
 other_answer Spent given query refuted s t other f g says = λ h. says (falsifies_more (clauses t) (clauses s) (has query) f.clauses.back h)

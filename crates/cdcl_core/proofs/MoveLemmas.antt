@@ -1,5 +1,6 @@
 -- What each move of the trail leaves of the literals up to a level.
-use Rattle.std.proofs.Common.{◌≡◌, ℕ, zero, suc, ◌+◌, ◌<◌, ◌≤◌, ◌⊎◌, true, List, [], ◌∷◌, length, take, get_or, refl, sym, ◌∙◌, ap, subst, inl, inr, arith, length-append, length-take-le}
+use Rattle.std.proofs.Common.{◌≡◌, ℕ, zero, suc, ◌+◌, ◌<◌, ◌≤◌, ◌⊎◌, true, List, [], ◌∷◌, length, take, get_or, refl, sym, ◌∙◌, ap, subst, inl, inr, arith}
+use Rattle.std.proofs.Common.{length-append, length-take-le}
 use Rattle.std.proofs.lemmas.Bool.{cases_lt}
 use Rattle.std.proofs.lemmas.List.{take_at, take-take, get_or-take, get_or_past, get_or_default}
 use Rattle.plan_core.proofs.TruthFacts.{same_when}
@@ -19,11 +20,13 @@ use Rattle.cdcl_learn.proofs.LevelLemmas.{upto_parts, upto_from}
 pub level_low : (a : Attached) (m : Marks) (l : Literal) → IsMarks m → IsIn (has m.lits) l → level_of (sight a m) l ≤ length m.cuts
 level_low a m l marks on =
     let p = placed_anywhere (sight a m) l on in
-    subst (λ (k : Literal). level_of (sight a m) k ≤ length m.cuts) p.is (subst (λ n. n ≤ length m.cuts) (sym (marks.levels p.place (literal 0 true) p.within)) (level_most m.cuts p.place))
+    subst (λ (k : Literal). level_of (sight a m) k ≤ length m.cuts) p.is (subst (λ n. n ≤ length m.cuts) (sym (marks.levels p.place (literal 0 true) p.within))
+    (level_most m.cuts p.place))
 
 -- up to the present level all literals count
 pub upto_all : (a : Attached) (m : Marks) → IsMarks m → (l : Literal) → upto (sight a m) (length m.cuts) l ≡ has m.lits l
-upto_all a m marks l = same_when (upto (sight a m) (length m.cuts) l) (has m.lits l) (λ h. (upto_parts (sight a m) (length m.cuts) l h).0) (λ h. upto_from (sight a m) (length m.cuts) l h (level_low a m l marks h))
+upto_all a m marks l = same_when (upto (sight a m) (length m.cuts) l) (has m.lits l) (λ h. (upto_parts (sight a m) (length m.cuts) l h).0)
+    (λ h. upto_from (sight a m) (length m.cuts) l h (level_low a m l marks h))
 
 -- the literals of the first trail stand in front on the second one, at the same levels; the others
 -- are of level q or a later one
@@ -66,7 +69,10 @@ module _ (a b : Attached) (m n : Marks) (q : ℕ) (f : IsFurther m n q) where
   further_cases l on =
       let p = placed_anywhere (sight b n) l on in
       elim (cases_lt p.place (length m.lits)) [
-        | inl lt ↦ record { cases = inl (subst (λ (k : Literal). IsIn (has m.lits) k) (sym (further_nth p.place lt) ∙ p.is) (has_from_contains m.lits (nth (sight a m) p.place) (stands (sight a m) p.place lt))) }
+        | inl lt ↦ record {
+        cases = inl (subst (λ (k : Literal). IsIn (has m.lits) k) (sym (further_nth p.place lt)
+        ∙ p.is) (has_from_contains m.lits (nth (sight a m) p.place) (stands (sight a m) p.place lt)))
+        }
         | inr ge ↦ record { cases = inr (subst (λ (k : Literal). q ≤ level_of (sight b n) k) p.is (further_later p.place ge p.within)) }
       ]
 
@@ -91,7 +97,9 @@ module _ (a b : Attached) (m n : Marks) (q : ℕ) (f : IsFurther m n q) where
   further_same = record { same = λ p l lt. same_when (upto (sight b n) p l) (upto (sight a m) p l) (λ h. back_upto p l lt h) (λ h. further_upto p l h) }
 
   pub back_same : (level : ℕ) → level ≤ q → SameUpto (sight b n) (sight a m) level
-  back_same level le = record { same = λ p l lt. same_when (upto (sight a m) p l) (upto (sight b n) p l) (λ h. further_upto p l h) (λ h. back_upto p l (omega arith) h) }
+  back_same level le = record {
+  same = λ p l lt. same_when (upto (sight a m) p l) (upto (sight b n) p l) (λ h. further_upto p l h) (λ h. back_upto p l (omega arith) h)
+  }
 
 -- further literals of the present level
 pub further_longer : (m n : Marks) → IsMarks m → IsMarks n → IsLonger m n → IsFurther m n (length m.cuts)

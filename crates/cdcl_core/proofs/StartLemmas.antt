@@ -15,7 +15,8 @@ use Rattle.cdcl_core.specs.Roots.{IsTrueAtRoot, IsSolving, AreOffered}
 none_placed : (ps : List ℕ) (p : ℕ) → ps ≡ [] → Contains ps p → ⊥
 none_placed ps p none h = let within : h.0 < length ps = h.1 in omega (arith, ap length none)
 
-pub fitted_start : (room vars heap analyser phases arena_room arena_words own_words : ℕ) → room ≤ ROOM → vars ≡ 0 → heap ≡ 0 → analyser ≡ 0 → phases ≡ 1 → arena_room ≡ room → arena_words ≡ 1 → own_words ≡ 0 → AreFitted room vars heap analyser phases arena_room arena_words own_words 0
+pub fitted_start : (room vars heap analyser phases arena_room arena_words own_words : ℕ) → room ≤ ROOM → vars ≡ 0 → heap ≡ 0 → analyser ≡ 0 → phases ≡ 1 →
+    arena_room ≡ room → arena_words ≡ 1 → own_words ≡ 0 → AreFitted room vars heap analyser phases arena_room arena_words own_words 0
 fitted_start room vars heap analyser phases arena_room arena_words own_words limit v h a p r w o = record {
   room_limit = limit;
   heap_size = omega arith;
@@ -26,7 +27,8 @@ fitted_start room vars heap analyser phases arena_room arena_words own_words lim
   within = omega arith;
 }
 
-pub solving_start : (a : Attached) (m : Marks) (own : Clauses) → own ≡ [] → a.places ≡ [] → m.vars ≡ a.vars → m.lits ≡ [] → m.cuts ≡ [] → IsMarks m → AreReasoned a m → AreWatched a m → IsSolving a m own false
+pub solving_start : (a : Attached) (m : Marks) (own : Clauses) → own ≡ [] → a.places ≡ [] → m.vars ≡ a.vars → m.lits ≡ [] → m.cuts ≡ [] → IsMarks m →
+    AreReasoned a m → AreWatched a m → IsSolving a m own false
 solving_start a m own none places vars lits cuts marks reasoned watched = subst (λ (cs : Clauses). IsSolving a m cs false) (sym none) (record {
   watched = watched;
   grounded = record {

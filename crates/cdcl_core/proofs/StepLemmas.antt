@@ -12,11 +12,13 @@ pub decided_longer : (m n : Marks) (l : Literal) → n ≡ with_lit (opened m) l
 decided_longer m n l e = omega (arith, ap (λ (k : Marks). length k.lits) e, length_push m.lits l)
 
 -- a list that is copied, one literal after another
-pub copied_more : (all there new : List Literal) (i : ℕ) (l : Literal) → i < length all → get_or all i l ≡ l → there ≡ take i all → new ≡ there ++ l ∷ [] → new ≡ take (i + 1) all
+pub copied_more : (all there new : List Literal) (i : ℕ) (l : Literal) → i < length all → get_or all i l ≡ l → there ≡ take i all → new ≡ there ++ l ∷ [] →
+    new ≡ take (i + 1) all
 copied_more all there new i l within is so_far pushed =
     pushed ∙ ap (λ ls. ls ++ l ∷ []) so_far ∙ ap (λ k. take i all ++ k ∷ []) (sym is) ∙ sym (take_more all i l within)
 
 -- the same where each literal is mapped
-pub mapped_more : (f : Literal → Literal) (all there new : List Literal) (i : ℕ) (l k : Literal) → i < length all → l ≡ get_or all i l → k ≡ f l → there ≡ map f (take i all) → new ≡ there ++ k ∷ [] → new ≡ map f (take (i + 1) all)
+pub mapped_more : (f : Literal → Literal) (all there new : List Literal) (i : ℕ) (l k : Literal) → i < length all → l ≡ get_or all i l → k ≡ f l →
+    there ≡ map f (take i all) → new ≡ there ++ k ∷ [] → new ≡ map f (take (i + 1) all)
 mapped_more f all there new i l k within is maps so_far pushed =
     pushed ∙ ap (λ ls. ls ++ k ∷ []) so_far ∙ ap (λ x. map f (take i all) ++ x ∷ []) (maps ∙ ap f is) ∙ sym (map_more f all i l within)

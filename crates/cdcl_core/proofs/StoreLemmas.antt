@@ -84,10 +84,12 @@ turned_one c d same = record {
   back = λ x m. (c, (0, omega arith, refl), subst (λ (y : List Literal). SameLiterals y c) (one_of d x m) (same_back c d same));
 }
 
-pub kept_turned : {T E : Type 0} (res : Result T E) (s t : Search) (c d : List Literal) → SameLiterals c d → length d ≡ length c → OnOk res (IsKeptOne s t d) → OnOk res (IsKeptOne s t c)
+pub kept_turned : {T E : Type 0} (res : Result T E) (s t : Search) (c d : List Literal) → SameLiterals c d → length d ≡ length c → OnOk res (IsKeptOne s t d) →
+    OnOk res (IsKeptOne s t c)
 kept_turned (Err e) s t c d same size h = h
 kept_turned (Ok x) s t c d same size h = record {
-  clauses = same_more (clauses s ++ c ∷ []) (clauses s ++ d ∷ []) (clauses t) (same_append (clauses s) (c ∷ []) (clauses s) (d ∷ []) (same_itself (clauses s)) (turned_one c d same)) h.clauses;
+  clauses = same_more (clauses s ++ c ∷ []) (clauses s ++ d ∷ []) (clauses t) (same_append (clauses s) (c ∷ []) (clauses s) (d ∷ []) (same_itself (clauses s))
+      (turned_one c d same)) h.clauses;
   words = h.words ∙ ap (λ n. s.words + n + 3) size;
   room = h.room;
   vars = h.vars;

@@ -32,21 +32,28 @@ named_given old new c l given inside =
     record { clause = d.0; among = d.1; lit = l; inside = (d.2 l).0 inside; var = refl }
 
 -- whether the solver has failed, as its fields say
-pub failed_field : (s : Search) (model : Option (List Bool)) (refuted : List Literal) (failed : Bool) (k : Kept) → kept_of s model refuted failed ≡ k → k.failed ≡ false → failed ≡ false
+pub failed_field : (s : Search) (model : Option (List Bool)) (refuted : List Literal) (failed : Bool) (k : Kept) → kept_of s model refuted failed ≡ k →
+    k.failed ≡ false → failed ≡ false
 failed_field s model refuted failed k view e = ap (λ (x : Kept). x.failed) view ∙ e
 
-pub idle_now : (s : Search) (model : Option (List Bool)) (refuted : List Literal) (failed : Bool) (k : Kept) → IsSolver s failed → kept_of s model refuted failed ≡ k → k.failed ≡ false → IsIdle s
+pub idle_now : (s : Search) (model : Option (List Bool)) (refuted : List Literal) (failed : Bool) (k : Kept) → IsSolver s failed →
+    kept_of s model refuted failed ≡ k → k.failed ≡ false → IsIdle s
 idle_now s model refuted failed k invariant view e = invariant (failed_field s model refuted failed k view e)
 
 -- the words of a solver that hasn't failed are within its room, and that within the greatest one
-pub words_view : (s : Search) (model : Option (List Bool)) (refuted : List Literal) (failed : Bool) (k : Kept) → IsSolver s failed → kept_of s model refuted failed ≡ k → k.failed ≡ false → k.words ≤ k.room
-words_view s model refuted failed k invariant view e = subst (λ (x : Kept). x.words ≤ x.room) view (idle_now s model refuted failed k invariant view e).search.fitted.within
+pub words_view : (s : Search) (model : Option (List Bool)) (refuted : List Literal) (failed : Bool) (k : Kept) → IsSolver s failed →
+    kept_of s model refuted failed ≡ k → k.failed ≡ false → k.words ≤ k.room
+words_view s model refuted failed k invariant view e = subst (λ (x : Kept). x.words ≤ x.room) view
+    (idle_now s model refuted failed k invariant view e).search.fitted.within
 
-pub room_view : (s : Search) (model : Option (List Bool)) (refuted : List Literal) (failed : Bool) (k : Kept) → IsSolver s failed → kept_of s model refuted failed ≡ k → k.failed ≡ false → k.room ≤ ROOM
-room_view s model refuted failed k invariant view e = subst (λ (x : Kept). x.room ≤ ROOM) view (idle_now s model refuted failed k invariant view e).search.fitted.room_limit
+pub room_view : (s : Search) (model : Option (List Bool)) (refuted : List Literal) (failed : Bool) (k : Kept) → IsSolver s failed →
+    kept_of s model refuted failed ≡ k → k.failed ≡ false → k.room ≤ ROOM
+room_view s model refuted failed k invariant view e = subst (λ (x : Kept). x.room ≤ ROOM) view
+    (idle_now s model refuted failed k invariant view e).search.fitted.room_limit
 
 -- further variables
-pub wide_view : (s t : Search) (model : Option (List Bool)) (refuted : List Literal) (failed : Bool) (k : Kept) (n : ℕ) → kept_of s model refuted failed ≡ k → k.failed ≡ false → kept_of t None [] false ≡ with_more_vars (kept_of s None [] false) n → kept_of t None [] failed ≡ with_more_vars k n
+pub wide_view : (s t : Search) (model : Option (List Bool)) (refuted : List Literal) (failed : Bool) (k : Kept) (n : ℕ) → kept_of s model refuted failed ≡ k →
+    k.failed ≡ false → kept_of t None [] false ≡ with_more_vars (kept_of s None [] false) n → kept_of t None [] failed ≡ with_more_vars k n
 wide_view s t model refuted failed k n view e more =
     let f = failed_field s model refuted failed k view e in
     ap (kept_of t None []) f ∙ more ∙ ap (λ b. with_more_vars (kept_of s model refuted b) n) (sym f) ∙ ap (λ (x : Kept). with_more_vars x n) view
@@ -58,7 +65,8 @@ pub wide_belongs : (k now : Kept) (n : ℕ) → now ≡ with_more_vars k n → (
 wide_belongs k now n e lines b = subst (Belongs lines) (sym e) b
 
 -- a clause was given
-pub given_view : (s t : Search) (model : Option (List Bool)) (refuted : List Literal) (failed : Bool) (k : Kept) (c : List Literal) → kept_of s model refuted failed ≡ k → k.failed ≡ false → IsKeptOne s t c → t.learnt ≡ s.learnt → IsGivenOne k (kept_of t None [] failed) c
+pub given_view : (s t : Search) (model : Option (List Bool)) (refuted : List Literal) (failed : Bool) (k : Kept) (c : List Literal) →
+    kept_of s model refuted failed ≡ k → k.failed ≡ false → IsKeptOne s t c → t.learnt ≡ s.learnt → IsGivenOne k (kept_of t None [] failed) c
 given_view s t model refuted failed k c view e kept learnt = subst (λ (x : Kept). IsGivenOne x (kept_of t None [] failed) c) view (record {
   clauses = kept.clauses;
   words = kept.words;
@@ -74,46 +82,68 @@ given_view s t model refuted failed k c view e kept learnt = subst (λ (x : Kept
 pub given_now : (k now : Kept) (c : List Literal) → IsGivenOne k now c → (given : Clauses) → AreGiven given k.clauses → AreGiven (given ++ c ∷ []) now.clauses
 given_now k now c one given g = given_added given k.clauses now.clauses c one.clauses g
 
-pub belongs_now : (k now : Kept) (c : List Literal) → MayBeTold (Formula c) → IsGivenOne k now c → (lines : Lines) → Belongs lines k → Belongs (lines ++ Formula c ∷ []) now
-belongs_now k now c formed one lines b = subst (BelongsTo (lines ++ Formula c ∷ []) now.clauses) (sym one.words) (belongs_given lines k.clauses now.clauses k.words c formed one.clauses b)
+pub belongs_now : (k now : Kept) (c : List Literal) → MayBeTold (Formula c) → IsGivenOne k now c → (lines : Lines) → Belongs lines k →
+    Belongs (lines ++ Formula c ∷ []) now
+belongs_now k now c formed one lines b = subst (BelongsTo (lines ++ Formula c ∷ []) now.clauses) (sym one.words)
+    (belongs_given lines k.clauses now.clauses k.words c formed one.clauses b)
 
 -- what stands of a log after an error
-pub still_view : (before now : Lines → Type 0) (s : Search) (model : Option (List Bool)) (refuted : List Literal) (failed : Bool) (k : Kept) → kept_of s model refuted failed ≡ k → StillDerives (λ ls. Belongs ls (seen s)) before now → StillDerives (λ ls. Belongs ls k) before now
-still_view before now s model refuted failed k view d = subst (λ (x : Kept). StillDerives (λ ls. Belongs ls x) before now) view (λ lines b told more m. d lines b told more m)
+pub still_view : (before now : Lines → Type 0) (s : Search) (model : Option (List Bool)) (refuted : List Literal) (failed : Bool) (k : Kept) →
+    kept_of s model refuted failed ≡ k → StillDerives (λ ls. Belongs ls (seen s)) before now → StillDerives (λ ls. Belongs ls k) before now
+still_view before now s model refuted failed k view d = subst (λ (x : Kept). StillDerives (λ ls. Belongs ls x) before now) view
+    (λ lines b told more m. d lines b told more m)
 
-pub named_view : (s : Search) (model : Option (List Bool)) (refuted : List Literal) (failed : Bool) (k : Kept) (query : List Literal) → kept_of s model refuted failed ≡ k → All (λ l. IsNamed k.clauses l.var) query → All (λ l. IsNamed (clauses s) l.var) query
+pub named_view : (s : Search) (model : Option (List Bool)) (refuted : List Literal) (failed : Bool) (k : Kept) (query : List Literal) →
+    kept_of s model refuted failed ≡ k → All (λ l. IsNamed k.clauses l.var) query → All (λ l. IsNamed (clauses s) l.var) query
 named_view s model refuted failed k query view h = subst (λ (x : Kept). All (λ l. IsNamed x.clauses l.var) query) (sym view) h
 
 -- the same with another model
 abbrev with_model : Kept → Option (List Bool) → List Literal → Bool → Kept
-with_model k model refuted failed = record { room = k.room; vars = k.vars; clauses = k.clauses; words = k.words; learnt = k.learnt; visits = k.visits; model = model; refuted = refuted; failed = failed }
+with_model k model refuted failed = record {
+  room = k.room;
+  vars = k.vars;
+  clauses = k.clauses;
+  words = k.words;
+  learnt = k.learnt;
+  visits = k.visits;
+  model = model;
+  refuted = refuted;
+  failed = failed;
+}
 
-pub solved_given : (s t : Search) (model : Option (List Bool)) (refuted : List Literal) (failed : Bool) (k : Kept) → kept_of s model refuted failed ≡ k → ((given : Clauses) → AreGiven given (clauses s) → AreGiven given (clauses t)) → (given : Clauses) → AreGiven given k.clauses → AreGiven given (clauses t)
+pub solved_given : (s t : Search) (model : Option (List Bool)) (refuted : List Literal) (failed : Bool) (k : Kept) → kept_of s model refuted failed ≡ k →
+    ((given : Clauses) → AreGiven given (clauses s) → AreGiven given (clauses t)) → (given : Clauses) → AreGiven given k.clauses → AreGiven given (clauses t)
 solved_given s t model refuted failed k view h given g = h given (subst (λ (x : Kept). AreGiven given x.clauses) (sym view) g)
 
-pub searched_view : (before now : Lines → Type 0) (query : List Literal) (s t : Search) (model new : Option (List Bool)) (refuted needed : List Literal) (failed : Bool) (k : Kept) (a : Answer) (budget count after : ℕ) → kept_of s model refuted failed ≡ k → k.failed ≡ false → HasSolved before now query (seen s) (seen t) a budget count after → HasSolved before now query k (kept_of t new needed failed) a budget count after
-searched_view before now query s t model new refuted needed failed k a budget count after view e h = subst (λ (x : Kept). HasSolved before now query x (kept_of t new needed failed) a budget count after) view (record {
-  learnt = h.learnt;
-  ending = h.ending;
-  kept = record {
-    clauses = h.kept.clauses;
-    words = h.kept.words;
-    room = h.kept.room;
-    vars = h.kept.vars;
-    learnt = h.kept.learnt;
-    visits = h.kept.visits;
-    failed = failed_field s model refuted failed k view e;
-  };
-  spent = h.spent;
-  counted = h.counted;
-  ends = h.ends;
-  told = h.told;
-  belongs = λ lines b. h.belongs lines b;
-})
+pub searched_view : (before now : Lines → Type 0) (query : List Literal) (s t : Search) (model new : Option (List Bool)) (refuted needed : List Literal)
+    (failed : Bool) (k : Kept) (a : Answer) (budget count after : ℕ) → kept_of s model refuted failed ≡ k → k.failed ≡ false →
+    HasSolved before now query (seen s) (seen t) a budget count after → HasSolved before now query k (kept_of t new needed failed) a budget count after
+searched_view before now query s t model new refuted needed failed k a budget count after view e h = subst
+    (λ (x : Kept). HasSolved before now query x (kept_of t new needed failed) a budget count after) view (record {
+      learnt = h.learnt;
+      ending = h.ending;
+      kept = record {
+        clauses = h.kept.clauses;
+        words = h.kept.words;
+        room = h.kept.room;
+        vars = h.kept.vars;
+        learnt = h.kept.learnt;
+        visits = h.kept.visits;
+        failed = failed_field s model refuted failed k view e;
+      };
+      spent = h.spent;
+      counted = h.counted;
+      ends = h.ends;
+      told = h.told;
+      belongs = λ lines b. h.belongs lines b;
+    })
 
-pub suggest_view : (s t : Search) (model : Option (List Bool)) (refuted : List Literal) (failed : Bool) (k : Kept) → kept_of s model refuted failed ≡ k → k.failed ≡ false → kept_of t None [] false ≡ kept_of s None [] false → kept_of t model refuted failed ≡ k
+pub suggest_view : (s t : Search) (model : Option (List Bool)) (refuted : List Literal) (failed : Bool) (k : Kept) → kept_of s model refuted failed ≡ k →
+    k.failed ≡ false → kept_of t None [] false ≡ kept_of s None [] false → kept_of t model refuted failed ≡ k
 suggest_view s t model refuted failed k view e same = ap (λ (x : Kept). with_model x model refuted failed) same ∙ view
 
 -- assumptions that were refuted
-pub refuted_view : (s : Search) (model : Option (List Bool)) (refuted needed : List Literal) (failed : Bool) (k : Kept) (query : List Literal) (a : Answer) → kept_of s model refuted failed ≡ k → ((given : Clauses) → AreGiven given (clauses s) → HasRefuted a given query needed) → (given : Clauses) → AreGiven given k.clauses → HasRefuted a given query needed
+pub refuted_view : (s : Search) (model : Option (List Bool)) (refuted needed : List Literal) (failed : Bool) (k : Kept) (query : List Literal) (a : Answer) →
+    kept_of s model refuted failed ≡ k → ((given : Clauses) → AreGiven given (clauses s) → HasRefuted a given query needed) → (given : Clauses) →
+    AreGiven given k.clauses → HasRefuted a given query needed
 refuted_view s model refuted needed failed k query a view h given g = h given (subst (λ (x : Kept). AreGiven given x.clauses) (sym view) g)

@@ -1,5 +1,6 @@
 -- The literal of the latest level is put first.
-use Rattle.std.proofs.Common.{◌≡◌, ℕ, ◌<◌, ◌≤◌, ◌⊎◌, cond, nat_eq, zero, suc, take, List, [], ◌∷◌, length, get_or, set, refl, sym, ◌∙◌, ap, subst, inl, inr, arith, length-set, length-take-le}
+use Rattle.std.proofs.Common.{◌≡◌, ℕ, ◌<◌, ◌≤◌, ◌⊎◌, cond, nat_eq, zero, suc, take, List, [], ◌∷◌, length, get_or, set, refl, sym, ◌∙◌, ap, subst, inl, inr}
+use Rattle.std.proofs.Common.{arith, length-set, length-take-le}
 use Rattle.std.specs.Prelude.{All, Contains}
 use Rattle.std.proofs.lemmas.Bool.{cases_eq, cases_order, eq-eqb, ne_eqb}
 use Rattle.std.proofs.lemmas.List.{get_or_default, get_or-set_same, get_or-set_other, get_or-take}
@@ -31,7 +32,8 @@ contains_rest first k ls c = by_place c.0 c.1 c.2
     by_place (suc i) lt e = inr (i, omega arith, e)
 
 -- the order of a learnt clause's further literals doesn't matter
-pub learnt_same : (s : Sight) (first : Literal) (old now : List Literal) → Within now old → Within old now → AreDistinct now → IsLearnt s first old → IsLearnt s first now
+pub learnt_same : (s : Sight) (first : Literal) (old now : List Literal) → Within now old → Within old now → AreDistinct now → IsLearnt s first old →
+    IsLearnt s first now
 learnt_same s first old now into from distinct l = record {
   falsified = with_first (λ k. IsIn (has s.lits) (negate k)) l.falsified;
   above = with_first (λ k. 0 < level_of s k) l.above;
@@ -74,10 +76,15 @@ shuffle_distinct old now s distinct = distinct_from_pairs now (λ i j d lt withi
     let size = s.size in
     let a = s.within i (omega arith) in
     let b = s.within j (omega arith) in
-    let same : (get_or old (s.to i) d).var ≡ (get_or old (s.to j) d).var = sym (ap (λ (m : Literal). m.var) (s.same i d (omega arith))) ∙ e ∙ ap (λ (m : Literal). m.var) (s.same j d (omega arith)) in
+    let same : (get_or old (s.to i) d).var ≡ (get_or old (s.to j) d).var = sym (ap (λ (m : Literal). m.var) (s.same i d (omega arith))) ∙ e
+    ∙ ap (λ (m : Literal). m.var) (s.same j d (omega arith)) in
     elim (cases_order (s.to i) (s.to j)) [
       | inl x ↦ let y : i ≡ j = sym (s.again i (omega arith)) ∙ ap s.to x ∙ s.again j (omega arith) in absurd (omega arith)
-      | inr o ↦ elim o [ inl x ↦ absurd (pairs_from_distinct old distinct (s.to i) (s.to j) d x b same) | inr x ↦ absurd (pairs_from_distinct old distinct (s.to j) (s.to i) d x a (sym same)) ]
+      | inr o ↦ elim o [
+        | inl x ↦ absurd (pairs_from_distinct old distinct (s.to i) (s.to j) d x b same)
+        | inr x ↦ absurd
+            (pairs_from_distinct old distinct (s.to j) (s.to i) d x a (sym same))
+      ]
     ])
 
 -- the first and another literal change places
@@ -99,13 +106,16 @@ swap_other : (j i : ℕ) → (i ≡ 0 → ⊥) → (i ≡ j → ⊥) → swap_of
 unfolding swap_of
 swap_other j i nz nj = rw (ne_eqb i 0 nz, ne_eqb i j nj) refl
 
-swap_get : (old : List Literal) (j i : ℕ) (a b d : Literal) → j < length old → i < length old → a ≡ get_or old 0 a → b ≡ get_or old j b → get_or (set (set old 0 b) j a) i d ≡ get_or old (swap_of j i) d
+swap_get : (old : List Literal) (j i : ℕ) (a b d : Literal) → j < length old → i < length old → a ≡ get_or old 0 a → b ≡ get_or old j b →
+    get_or (set (set old 0 b) j a) i d ≡ get_or old (swap_of j i) d
 swap_get old j i a b d lt h ea eb = elim (cases_eq i j) [
   | inl e ↦
       let size = length-set old 0 b in
-      ap (λ x. get_or (set (set old 0 b) j a) x d) e ∙ get_or-set_same (set old 0 b) j a d (omega arith) ∙ ea ∙ get_or_default old 0 a d (omega arith) ∙ sym (ap (λ x. get_or old x d) (swap_at j i e))
+      ap (λ x. get_or (set (set old 0 b) j a) x d) e ∙ get_or-set_same (set old 0 b) j a d (omega arith) ∙ ea ∙ get_or_default old 0 a d (omega arith)
+      ∙ sym (ap (λ x. get_or old x d) (swap_at j i e))
   | inr ne ↦ get_or-set_other (set old 0 b) j i a d ne ∙ elim (cases_eq i 0) [
-    | inl z ↦ ap (λ x. get_or (set old 0 b) x d) z ∙ get_or-set_same old 0 b d (omega arith) ∙ eb ∙ get_or_default old j b d lt ∙ sym (ap (λ x. get_or old x d) (ap (swap_of j) z ∙ swap_first j))
+    | inl z ↦ ap (λ x. get_or (set old 0 b) x d) z ∙ get_or-set_same old 0 b d (omega arith) ∙ eb ∙ get_or_default old j b d lt
+        ∙ sym (ap (λ x. get_or old x d) (ap (swap_of j) z ∙ swap_first j))
     | inr nz ↦ get_or-set_other old 0 i b d nz ∙ sym (ap (λ x. get_or old x d) (swap_other j i nz ne))
   ]
 ]
@@ -119,10 +129,15 @@ swap_inside j i len lt h = elim (cases_eq i 0) [
 swap_again : (j i : ℕ) → swap_of j (swap_of j i) ≡ i
 swap_again j i = elim (cases_eq i 0) [
   | inl z ↦ ap (λ x. swap_of j (swap_of j x)) z ∙ ap (swap_of j) (swap_first j) ∙ swap_at j j refl ∙ sym z
-  | inr nz ↦ elim (cases_eq i j) [ inl e ↦ ap (swap_of j) (swap_at j i e) ∙ swap_first j ∙ sym e | inr ne ↦ ap (swap_of j) (swap_other j i nz ne) ∙ swap_other j i nz ne ]
+  | inr nz ↦ elim (cases_eq i j) [
+    | inl e ↦ ap (swap_of j) (swap_at j i e) ∙ swap_first j ∙ sym e
+    | inr ne ↦ ap (swap_of j) (swap_other j i nz ne)
+        ∙ swap_other j i nz ne
+  ]
 ]
 
-pub swap_shuffle : (old : List Literal) (j len : ℕ) (a b : Literal) → j < len → len ≤ length old → a ≡ get_or old 0 a → b ≡ get_or old j b → IsShuffle (take len old) (take len (set (set old 0 b) j a))
+pub swap_shuffle : (old : List Literal) (j len : ℕ) (a b : Literal) → j < len → len ≤ length old → a ≡ get_or old 0 a → b ≡ get_or old j b →
+    IsShuffle (take len old) (take len (set (set old 0 b) j a))
 swap_shuffle old j len a b lt le ea eb =
     let size1 = length-set old 0 b in
     let size2 = length-set (set old 0 b) j a in
@@ -135,11 +150,13 @@ swap_shuffle old j len a b lt le ea eb =
       again = λ i h. swap_again j i;
       same = λ i d h.
           let x = swap_inside j i len lt (omega arith) in
-          get_or-take len (set (set old 0 b) j a) i d (omega arith) ∙ swap_get old j i a b d (omega arith) (omega arith) ea eb ∙ sym (get_or-take len old (swap_of j i) d x);
+          get_or-take len (set (set old 0 b) j a) i d (omega arith) ∙ swap_get old j i a b d (omega arith) (omega arith) ea eb
+          ∙ sym (get_or-take len old (swap_of j i) d x);
     }
 
 -- the first has the latest level
-pub swap_back : (s : Sight) (old : List Literal) (j len : ℕ) (a b : Literal) (back : ℕ) → j < len → len ≤ length old → a ≡ get_or old 0 a → b ≡ get_or old j b → level_of s b ≡ back → ((i : ℕ) (d : Literal) → i < len → level_of s (get_or old i d) ≤ back) → IsBack s (take len (set (set old 0 b) j a)) back
+pub swap_back : (s : Sight) (old : List Literal) (j len : ℕ) (a b : Literal) (back : ℕ) → j < len → len ≤ length old → a ≡ get_or old 0 a → b ≡ get_or old j b →
+    level_of s b ≡ back → ((i : ℕ) (d : Literal) → i < len → level_of s (get_or old i d) ≤ back) → IsBack s (take len (set (set old 0 b) j a)) back
 swap_back s old j len a b back lt le ea eb e most =
     let size1 = length-set old 0 b in
     let size2 = length-set (set old 0 b) j a in
@@ -147,27 +164,35 @@ swap_back s old j len a b back lt le ea eb e most =
     record {
       first = λ l ls is.
           let read : get_or (take len (set (set old 0 b) j a)) 0 l ≡ l = ap (λ (xs : List Literal). get_or xs 0 l) is in
-          let same : l ≡ get_or old j l = sym read ∙ get_or-take len (set (set old 0 b) j a) 0 l (omega arith) ∙ swap_get old j 0 a b l (omega arith) (omega arith) ea eb ∙ ap (λ x. get_or old x l) (swap_first j) in
+          let same : l ≡ get_or old j l = sym read ∙ get_or-take len (set (set old 0 b) j a) 0 l (omega arith)
+          ∙ swap_get old j 0 a b l (omega arith) (omega arith) ea eb ∙ ap (λ x. get_or old x l) (swap_first j) in
           ap (level_of s) (same ∙ get_or_default old j l b (omega arith) ∙ sym eb) ∙ e;
       none = λ is. let z : length (take len (set (set old 0 b) j a)) ≡ 0 = ap length is in absurd (omega arith);
       latest = λ i d h.
           let x = swap_inside j i len lt (omega arith) in
           let m = most (swap_of j i) d x in
-          let same : get_or (take len (set (set old 0 b) j a)) i d ≡ get_or old (swap_of j i) d = get_or-take len (set (set old 0 b) j a) i d (omega arith) ∙ swap_get old j i a b d (omega arith) (omega arith) ea eb in
+          let same : get_or (take len (set (set old 0 b) j a)) i d ≡ get_or old (swap_of j i) d = get_or-take len (set (set old 0 b) j a) i d (omega arith)
+          ∙ swap_get old j i a b d (omega arith) (omega arith) ea eb in
           subst (λ (k : Literal). level_of s k ≤ back) (sym same) m;
     }
 
 pub shuffle_none : (xs : List Literal) → IsShuffle xs xs
 shuffle_none xs = record { size = refl; to = λ i. i; within = λ i h. h; again = λ i h. refl; same = λ i d h. refl }
 
-pub latest_at : (s : Sight) (items slice : List Literal) (len best : ℕ) (b : Literal) (back : ℕ) → slice ≡ items → IsLatest s.levels slice len best → best < len → len ≤ length items → b ≡ get_or items best b → level_of s b ≡ back → (i : ℕ) (d : Literal) → i < len → level_of s (get_or items i d) ≤ back
+pub latest_at : (s : Sight) (items slice : List Literal) (len best : ℕ) (b : Literal) (back : ℕ) → slice ≡ items → IsLatest s.levels slice len best →
+    best < len → len ≤ length items → b ≡ get_or items best b → level_of s b ≡ back → (i : ℕ) (d : Literal) → i < len → level_of s (get_or items i d) ≤ back
 latest_at s items slice len best b back same latest below le eb e i d lt =
-    let h : level_of s (get_or items i d) ≤ level_of s (get_or items best d) = subst (λ (ls : List Literal). level_of s (get_or ls i d) ≤ level_of s (get_or ls best d)) same (latest i d lt) in
+    let h : level_of s (get_or items i d) ≤ level_of s (get_or items best d) = subst
+    (λ (ls : List Literal). level_of s (get_or ls i d) ≤ level_of s (get_or ls best d)) same (latest i d lt) in
     let is : level_of s (get_or items best d) ≡ back = ap (level_of s) (get_or_default items best d b (omega arith) ∙ sym eb) ∙ e in
     omega arith
 
 pub back_none : (s : Sight) (rest : List Literal) → length rest ≡ 0 → IsBack s rest 0
-back_none s [] z = record { first = λ l ls e. absurd (let f : length (l ∷ ls) ≡ 0 = sym (ap length e) in omega arith); none = λ _. refl; latest = λ k d lt. absurd (omega arith) }
+back_none s [] z = record {
+  first = λ l ls e. absurd (let f : length (l ∷ ls) ≡ 0 = sym (ap length e) in omega arith);
+  none = λ _. refl;
+  latest = λ k d lt. absurd (omega arith);
+}
 back_none s (l ∷ ls) z = absurd (omega arith)
 
 -- the clause once the literal of the latest level was put first
@@ -175,4 +200,6 @@ pub learnt_shuffled : (s : Sight) (first : Literal) (old now : List Literal) →
 learnt_shuffled s first old now h l = learnt_same s first old now (shuffle_into old now h) (shuffle_from old now h) (shuffle_distinct old now h l.distinct.1) l
 
 pub learnt_vars : (s : Sight) (first : Literal) (rest : List Literal) → IsSound s → IsLearnt s first rest → All (λ k. k.var ≤ s.vars) rest
-learnt_vars s first rest r l = All-weaker (λ k. IsIn (has s.lits) (negate k)) (λ k. k.var ≤ s.vars) (λ k on. (there_contains s.vars s.lits (negate k) r.there (contains_from_has s.lits (negate k) on)).1) rest (All-tail (λ k. IsIn (has s.lits) (negate k)) first rest l.falsified)
+learnt_vars s first rest r l = All-weaker (λ k. IsIn (has s.lits) (negate k)) (λ k. k.var ≤ s.vars)
+    (λ k on. (there_contains s.vars s.lits (negate k) r.there (contains_from_has s.lits (negate k) on)).1) rest
+    (All-tail (λ k. IsIn (has s.lits) (negate k)) first rest l.falsified)

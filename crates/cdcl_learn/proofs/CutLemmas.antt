@@ -1,5 +1,6 @@
 -- The cut, with one more literal and with all of a clause.
-use Rattle.std.proofs.Common.{◌≡◌, ℕ, ◌+◌, ◌<◌, ◌≤◌, true, false, zero, suc, take, List, [], ◌∷◌, ◌++◌, length, get_or, set, refl, sym, ◌∙◌, ap, subst, inl, inr, arith, length-set}
+use Rattle.std.proofs.Common.{◌≡◌, ℕ, ◌+◌, ◌<◌, ◌≤◌, true, false, zero, suc, take, List, [], ◌∷◌, ◌++◌, length, get_or, set, refl, sym, ◌∙◌, ap, subst, inl}
+use Rattle.std.proofs.Common.{inr, arith, length-set}
 use Rattle.std.specs.Prelude.{All, Contains}
 use Rattle.std.proofs.lemmas.Bool.{both_ways, cases_eq, cases_Bool, eq-eqb, ne_eqb}
 use Rattle.std.proofs.lemmas.List.Elements.{All-contains, All-weaker, All-nil, All-cons, All-head, All-tail, All-push, Contains-push, Contains-append_left}
@@ -32,10 +33,12 @@ added_cases s w k P c = elim (cases_Bool (is_seen w.seen k.var)) [
   ]
 ]
 
-lower_more : (s : Sight) (w : Cut) (v : ℕ) (met : List ℕ) (rest : List Literal) (pending : ℕ) (k : Literal) → v < length w.seen → IsLower s w k → IsLower s (record { vars = w.vars; seen = set w.seen v true; met = met; rest = rest; pending = pending }) k
+lower_more : (s : Sight) (w : Cut) (v : ℕ) (met : List ℕ) (rest : List Literal) (pending : ℕ) (k : Literal) → v < length w.seen → IsLower s w k →
+    IsLower s (record { vars = w.vars; seen = set w.seen v true; met = met; rest = rest; pending = pending }) k
 lower_more s w v met rest pending k lt l = record { falsified = l.falsified; above = l.above; below = l.below; seen = seen_keeps w.seen v k.var lt l.seen }
 
-module _ (s : Sight) (r : IsSound s) (w : Cut) (end : ℕ) (le : end ≤ length s.lits) (c : IsCut s w end) (k : Literal) (there : IsThere s.vars k) (un : is_seen w.seen k.var ≡ false) (front : IsIn (has (take end s.lits)) (negate k)) (named : IsNamed (clauses_in s) k.var) where
+module _ (s : Sight) (r : IsSound s) (w : Cut) (end : ℕ) (le : end ≤ length s.lits) (c : IsCut s w end) (k : Literal) (there : IsThere s.vars k)
+    (un : is_seen w.seen k.var ≡ false) (front : IsIn (has (take end s.lits)) (negate k)) (named : IsNamed (clauses_in s) k.var) where
   var_within : k.var < length w.seen
   var_within = let t = there.1 in let size = c.size in omega arith
 
@@ -53,12 +56,15 @@ module _ (s : Sight) (r : IsSound s) (w : Cut) (end : ℕ) (le : end ≤ length 
   above_zero (suc n) h = omega arith
 
   now_above : (level_of s k ≡ 0 → ⊥) → (v : ℕ) → is_seen (set w.seen k.var true) v ≡ true → IsSetAbove s v
-  now_above nz v h = elim (seen_cases w.seen k.var v h) [ inl e ↦ record { lit = negate k; var = sym e; on = on_trail; above = above_zero (level_of s k) nz } | inr old ↦ c.above v old ]
+  now_above nz v h = elim (seen_cases w.seen k.var v h) [ inl e ↦ record {
+  lit = negate k; var = sym e; on = on_trail; above = above_zero (level_of s k) nz
+  } | inr old ↦ c.above v old ]
 
   pub cut_open : (level_of s k ≡ 0 → ⊥) → level_of s k ≡ s.level → IsCut s (with_open w k) end
   cut_open nz e = record {
     size = length-set w.seen k.var true ∙ c.size;
-    lower = All-weaker (IsLower s w) (IsLower s (with_open w k)) (λ m l. lower_more s w k.var (w.met ++ k.var ∷ []) w.rest (w.pending + 1) m var_within l) w.rest c.lower;
+    lower = All-weaker (IsLower s w) (IsLower s (with_open w k)) (λ m l. lower_more s w k.var (w.met ++ k.var ∷ []) w.rest (w.pending + 1) m var_within l)
+    w.rest c.lower;
     all = λ l on seen below. elim (seen_cases w.seen k.var l.var seen) [
       | inl same ↦ let lvl : level_of s l ≡ level_of s k = ap (λ v. get_or s.levels v 0) same in absurd (omega arith)
       | inr old ↦ c.all l on old below
@@ -70,7 +76,8 @@ module _ (s : Sight) (r : IsSound s) (w : Cut) (end : ℕ) (le : end ≤ length 
         let lvl : level_of s (nth s a.place) ≡ s.level = ap (λ v. get_or s.levels v 0) is ∙ e in
         let within : (nth s a.place).var < length w.seen = let b = var_within in omega arith in
         let more = open_more s w.seen a.place end r.distinct le a.below lvl (ap (is_seen w.seen) is ∙ un) within in
-        let same : open_below s (set w.seen (nth s a.place).var true) end ≡ open_below s (set w.seen k.var true) end = ap (λ v. open_below s (set w.seen v true) end) is in
+        let same : open_below s (set w.seen (nth s a.place).var true) end ≡ open_below s (set w.seen k.var true) end = ap
+        (λ v. open_below s (set w.seen v true) end) is in
         let old = c.count in
         omega arith;
     named = now_named;
@@ -81,7 +88,8 @@ module _ (s : Sight) (r : IsSound s) (w : Cut) (end : ℕ) (le : end ≤ length 
   cut_lower nz lt = record {
     size = length-set w.seen k.var true ∙ c.size;
     lower = All-push (IsLower s (with_lower w k)) w.rest k
-        (All-weaker (IsLower s w) (IsLower s (with_lower w k)) (λ m l. lower_more s w k.var (w.met ++ k.var ∷ []) (w.rest ++ k ∷ []) w.pending m var_within l) w.rest c.lower)
+        (All-weaker (IsLower s w) (IsLower s (with_lower w k)) (λ m l. lower_more s w k.var (w.met ++ k.var ∷ []) (w.rest ++ k ∷ []) w.pending m var_within l)
+        w.rest c.lower)
         (record { falsified = on_trail; above = above_zero (level_of s k) nz; below = lt; seen = seen_same w.seen k.var var_within });
     all = λ l on seen below. elim (seen_cases w.seen k.var l.var seen) [
       | inl same ↦
@@ -103,12 +111,14 @@ module _ (s : Sight) (r : IsSound s) (w : Cut) (end : ℕ) (le : end ≤ length 
 pub level_limit : (s : Sight) (l : Literal) → IsSound s → IsIn (has s.lits) l → level_of s l ≤ s.level
 level_limit s l r on = let p = placed_anywhere s l on in subst (λ (m : Literal). level_of s m ≤ s.level) p.is (r.present p.place p.within)
 
-pub cut_added : (s : Sight) → IsSound s → (w : Cut) (end : ℕ) → end ≤ length s.lits → (k : Literal) → IsThere s.vars k → IsNamed (clauses_in s) k.var → IsReached s w end k → IsCut s w end → IsCut s (cut_with s w k) end
+pub cut_added : (s : Sight) → IsSound s → (w : Cut) (end : ℕ) → end ≤ length s.lits → (k : Literal) → IsThere s.vars k → IsNamed (clauses_in s) k.var →
+    IsReached s w end k → IsCut s w end → IsCut s (cut_with s w k) end
 cut_added s r w end le k there named reached c = added_cases s w k (λ x. IsCut s x end) (record {
   old = λ _. c;
   root = λ _ _. c;
   present = λ un nz e. cut_open s r w end le c k there un (front un) named nz e;
-  lower = λ un nz ne. cut_lower s r w end le c k there un (front un) named nz (below (level_of s k) s.level (level_limit s (negate k) r (front_in s end (negate k) (front un))) ne);
+  lower = λ un nz ne. cut_lower s r w end le c k there un (front un) named nz (below (level_of s k) s.level
+  (level_limit s (negate k) r (front_in s end (negate k) (front un))) ne);
 })
   where
     front : is_seen w.seen k.var ≡ false → IsIn (has (take end s.lits)) (negate k)
@@ -119,18 +129,26 @@ cut_added s r w end le k there named reached c = added_cases s w k (λ x. IsCut 
 
 -- what was seen stays so, and the literal is of level 0 or seen
 pub added_size : (s : Sight) (w : Cut) (k : Literal) → length (cut_with s w k).seen ≡ length w.seen
-added_size s w k = added_cases s w k (λ x. length x.seen ≡ length w.seen) (record { old = λ _. refl; root = λ _ _. refl; present = λ _ _ _. length-set w.seen k.var true; lower = λ _ _ _. length-set w.seen k.var true })
+added_size s w k = added_cases s w k (λ x. length x.seen ≡ length w.seen) (record {
+    old = λ _. refl; root = λ _ _. refl; present = λ _ _ _. length-set w.seen k.var true; lower = λ _ _ _. length-set w.seen k.var true
+    })
 
 pub added_keeps : (s : Sight) (w : Cut) (k : Literal) (v : ℕ) → k.var < length w.seen → IsSeen w v → IsSeen (cut_with s w k) v
-added_keeps s w k v lt h = added_cases s w k (λ x. IsSeen x v) (record { old = λ _. h; root = λ _ _. h; present = λ _ _ _. seen_keeps w.seen k.var v lt h; lower = λ _ _ _. seen_keeps w.seen k.var v lt h })
+added_keeps s w k v lt h = added_cases s w k (λ x. IsSeen x v) (record {
+    old = λ _. h; root = λ _ _. h; present = λ _ _ _. seen_keeps w.seen k.var v lt h; lower = λ _ _ _. seen_keeps w.seen k.var v lt h
+    })
 
 pub added_covers : (s : Sight) (w : Cut) (k : Literal) → k.var < length w.seen → IsCovered s (cut_with s w k) k
-added_covers s w k lt = added_cases s w k (λ x. IsCovered s x k) (record { old = λ h. inr h; root = λ _ z. inl z; present = λ _ _ _. inr (seen_same w.seen k.var lt); lower = λ _ _ _. inr (seen_same w.seen k.var lt) })
+added_covers s w k lt = added_cases s w k (λ x. IsCovered s x k) (record {
+    old = λ h. inr h; root = λ _ z. inl z; present = λ _ _ _. inr (seen_same w.seen k.var lt); lower = λ _ _ _. inr (seen_same w.seen k.var lt)
+    })
 
 -- all literals of a clause
-pub gathered_keeps : (s : Sight) (w : Cut) (ks : List Literal) (v : ℕ) → AreThere s.vars ks → length w.seen ≡ s.vars + 1 → IsSeen w v → IsSeen (cut_with_all s w ks) v
+pub gathered_keeps : (s : Sight) (w : Cut) (ks : List Literal) (v : ℕ) → AreThere s.vars ks → length w.seen ≡ s.vars + 1 → IsSeen w v →
+    IsSeen (cut_with_all s w ks) v
 gathered_keeps s w [] v there size h = h
-gathered_keeps s w (k ∷ ks) v there size h = let t = there.0.1 in gathered_keeps s (cut_with s w k) ks v there.1 (added_size s w k ∙ size) (added_keeps s w k v (omega arith) h)
+gathered_keeps s w (k ∷ ks) v there size h = let t = there.0.1 in gathered_keeps s (cut_with s w k) ks v there.1
+    (added_size s w k ∙ size) (added_keeps s w k v (omega arith) h)
 
 pub gathered_covers : (s : Sight) (w : Cut) (ks : List Literal) → AreThere s.vars ks → length w.seen ≡ s.vars + 1 → All (IsCovered s (cut_with_all s w ks)) ks
 gathered_covers s w [] there size = All-nil (IsCovered s w)
@@ -141,14 +159,16 @@ gathered_covers s w (k ∷ ks) there size =
     (elim (added_covers s w k (omega arith)) [ inl z ↦ inl z | inr h ↦ inr (gathered_keeps s (cut_with s w k) ks k.var there.1 size2 h) ])
     (gathered_covers s (cut_with s w k) ks there.1 size2)
 
-pub cut_gathered : (s : Sight) → IsSound s → (w : Cut) (end : ℕ) → end ≤ length s.lits → (ks : List Literal) → AreThere s.vars ks → All (λ k. IsNamed (clauses_in s) k.var) ks → All (IsReached s w end) ks → IsCut s w end → IsCut s (cut_with_all s w ks) end
+pub cut_gathered : (s : Sight) → IsSound s → (w : Cut) (end : ℕ) → end ≤ length s.lits → (ks : List Literal) → AreThere s.vars ks →
+    All (λ k. IsNamed (clauses_in s) k.var) ks → All (IsReached s w end) ks → IsCut s w end → IsCut s (cut_with_all s w ks) end
 cut_gathered s r w end le [] there named reached c = c
 cut_gathered s r w end le (k ∷ ks) there named reached c =
     let t = there.0.1 in
     let size = c.size in
     let names : All (λ m. IsNamed (clauses_in s) m.var) ks = All-tail (λ m. IsNamed (clauses_in s) m.var) k ks named in
     cut_gathered s r (cut_with s w k) end le ks there.1 names
-    (All-weaker (IsReached s w end) (IsReached s (cut_with s w k) end) (λ m h. elim h [ inl seen ↦ inl (added_keeps s w k m.var (omega arith) seen) | inr f ↦ inr f ]) ks (All-tail (IsReached s w end) k ks reached))
+    (All-weaker (IsReached s w end) (IsReached s (cut_with s w k) end) (λ m h. elim h
+    [ inl seen ↦ inl (added_keeps s w k m.var (omega arith) seen) | inr f ↦ inr f ]) ks (All-tail (IsReached s w end) k ks reached))
     (cut_added s r w end le k there.0 (All-head (λ m. IsNamed (clauses_in s) m.var) k ks named) (All-head (IsReached s w end) k ks reached) c)
 
 pub added_vars : (s : Sight) (w : Cut) (k : Literal) → (cut_with s w k).vars ≡ w.vars

@@ -1,5 +1,6 @@
 -- The learnt clause follows by unit propagation, step by step of the walk down the trail.
-use Rattle.std.proofs.Common.{◌≡◌, ℕ, ◌+◌, ◌<◌, ◌≤◌, ◌⊎◌, Bool, true, false, cond, nat_eq, zero, suc, take, List, [], ◌∷◌, length, get_or, refl, sym, ◌∙◌, ap, subst, inl, inr, arith}
+use Rattle.std.proofs.Common.{◌≡◌, ℕ, ◌+◌, ◌<◌, ◌≤◌, ◌⊎◌, Bool, true, false, cond, nat_eq, zero, suc, take, List, [], ◌∷◌, length, get_or, refl, sym, ◌∙◌, ap}
+use Rattle.std.proofs.Common.{subst, inl, inr, arith}
 use Rattle.std.specs.Prelude.{All, Contains, map}
 use Rattle.std.proofs.lemmas.Bool.{both_ways, cases_eq, cases_lt, eq-eqb}
 use Rattle.std.proofs.lemmas.List.{take_all}
@@ -7,9 +8,11 @@ use Rattle.std.proofs.lemmas.List.Elements.{All-contains, All-contains_itself, A
 use Rattle.cnf_core.specs.Lit.{Literal, negate, has}
 use Rattle.cnf_core.specs.Clause.{Clauses, AreDistinct, AreThere, IsNamed}
 use Rattle.cnf_core.specs.Propagation.{LiteralSet, IsIn, Closure, Falsifies, negations, Rup}
-use Rattle.cnf_core.proofs.PropagationLemmas.{negate-negate, contains_from_has, has_from_contains, closure_start, closure_unit, falsifies_again, contains_first, contains_later}
+use Rattle.cnf_core.proofs.PropagationLemmas.{negate-negate, contains_from_has, has_from_contains, closure_start, closure_unit, falsifies_again}
+use Rattle.cnf_core.proofs.PropagationLemmas.{contains_first, contains_later}
 use Rattle.cdcl_learn.specs.Sight.{Sight, nth, level_of, reason_of, clause_in, clauses_in, IsReasonAt, IsSound, roots, known}
-use Rattle.cdcl_learn.specs.Cut.{Cut, is_seen, IsSeen, IsBlank, with_resolved, cut_with_all, open_below, weight_at, IsLower, IsCut, working, IsReached, IsCovered, IsLast, IsStage, IsResolving, IsConflict, IsLearnt}
+use Rattle.cdcl_learn.specs.Cut.{Cut, is_seen, IsSeen, IsBlank, with_resolved, cut_with_all, open_below, weight_at, IsLower, IsCut, working, IsReached}
+use Rattle.cdcl_learn.specs.Cut.{IsCovered, IsLast, IsStage, IsResolving, IsConflict, IsLearnt}
 use Rattle.cdcl_learn.proofs.LiteralLemmas.{avoids_all, placed, placed_anywhere, in_front, front_in, stands}
 use Rattle.cdcl_learn.proofs.CountLemmas.{weight_present, open_none, open_some, open_found, open_skip}
 use Rattle.cdcl_learn.proofs.CutLemmas.{level_limit, cut_gathered, gathered_keeps, gathered_covers}
@@ -53,40 +56,47 @@ from_working s w end l h = parts (has (take end s.lits) l) (is_seen w.seen l.var
     parts true b h = (refl, h)
     parts false b h = cc
 
-covered_follows : (s : Sight) (w : Cut) (end : ℕ) (k : Literal) → IsIn (has (take end s.lits)) (negate k) → IsCovered s w k → Closure (known s) (working s w end) (negate k)
+covered_follows : (s : Sight) (w : Cut) (end : ℕ) (k : Literal) → IsIn (has (take end s.lits)) (negate k) → IsCovered s w k →
+    Closure (known s) (working s w end) (negate k)
 covered_follows s w end k front covered = elim covered [
   | inl z ↦ root_follows s (working s w end) (negate k) (front_in s end (negate k) front) z
   | inr seen ↦ closure_start (known s) (working s w end) (negate k) (in_working s w end (negate k) front seen)
 ]
 
 -- at first: the falsified clause
-pub rup_start : (s : Sight) (w : Cut) (c : List Literal) → Contains (clauses_in s) c → All (λ k. IsIn (has s.lits) (negate k)) c → All (IsCovered s w) c → Falsifies (known s) (working s w (length s.lits))
+pub rup_start : (s : Sight) (w : Cut) (c : List Literal) → Contains (clauses_in s) c → All (λ k. IsIn (has s.lits) (negate k)) c → All (IsCovered s w) c →
+    Falsifies (known s) (working s w (length s.lits))
 rup_start s w c among false_all covered = record {
   clause = c;
   among = Contains-append_left (clauses_in s) (roots s s.lits) c among;
   each = All-weaker (Contains c) (λ k. Closure (known s) (working s w (length s.lits)) (negate k)) (λ k inside.
       covered_follows s w (length s.lits) k
-      (ap (λ (ls : List Literal). has ls (negate k)) (take_all (length s.lits) s.lits (omega arith)) ∙ All-contains (λ m. IsIn (has s.lits) (negate m)) c k false_all inside)
+      (ap (λ (ls : List Literal). has ls (negate k)) (take_all (length s.lits) s.lits (omega arith))
+      ∙ All-contains (λ m. IsIn (has s.lits) (negate m)) c k false_all inside)
       (All-contains (IsCovered s w) c k covered inside)) c (All-contains_itself c);
 }
 
 -- literals that aren't seen are passed over
-pub rup_skip : (s : Sight) (w : Cut) (i end : ℕ) → i ≤ end → end ≤ length s.lits → ((j : ℕ) → i ≤ j → j < end → is_seen w.seen (nth s j).var ≡ false) → Falsifies (known s) (working s w end) → Falsifies (known s) (working s w i)
+pub rup_skip : (s : Sight) (w : Cut) (i end : ℕ) → i ≤ end → end ≤ length s.lits → ((j : ℕ) → i ≤ j → j < end → is_seen w.seen (nth s j).var ≡ false) →
+    Falsifies (known s) (working s w end) → Falsifies (known s) (working s w i)
 rup_skip s w i end le within none f = falsifies_again (known s) (working s w i) (working s w end) (λ l h.
     let parts = from_working s w end l h in
     let p = placed s end l within parts.0 in
     elim (cases_lt p.place i) [
-      | inl front ↦ closure_start (known s) (working s w i) l (in_working s w i l (subst (λ (m : Literal). IsIn (has (take i s.lits)) m) p.is (in_front s i p.place front (omega arith))) parts.1)
+      | inl front ↦ closure_start (known s) (working s w i) l (in_working s w i l
+          (subst (λ (m : Literal). IsIn (has (take i s.lits)) m) p.is (in_front s i p.place front (omega arith))) parts.1)
       | inr behind ↦ absurd (both_ways (is_seen w.seen l.var) (ap (λ (m : Literal). is_seen w.seen m.var) (sym p.is) ∙ none p.place behind p.below) parts.1)
     ]) f
 
 -- a literal is resolved with its reason
-pub rup_resolve : (s : Sight) (w new : Cut) (i n : ℕ) → i < length s.lits → IsReasonAt s i n → ((v : ℕ) → IsSeen w v → IsSeen new v) → All (IsCovered s new) (clause_in s n) → Falsifies (known s) (working s w (i + 1)) → Falsifies (known s) (working s new i)
+pub rup_resolve : (s : Sight) (w new : Cut) (i n : ℕ) → i < length s.lits → IsReasonAt s i n → ((v : ℕ) → IsSeen w v → IsSeen new v) →
+    All (IsCovered s new) (clause_in s n) → Falsifies (known s) (working s w (i + 1)) → Falsifies (known s) (working s new i)
 rup_resolve s w new i n lt r keeps covered f = falsifies_again (known s) (working s new i) (working s w (i + 1)) (λ l h.
     let parts = from_working s w (i + 1) l h in
     let p = placed s (i + 1) l (omega arith) parts.0 in
     elim (cases_lt p.place i) [
-      | inl front ↦ closure_start (known s) (working s new i) l (in_working s new i l (subst (λ (m : Literal). IsIn (has (take i s.lits)) m) p.is (in_front s i p.place front (omega arith))) (keeps l.var parts.1))
+      | inl front ↦ closure_start (known s) (working s new i) l (in_working s new i l
+          (subst (λ (m : Literal). IsIn (has (take i s.lits)) m) p.is (in_front s i p.place front (omega arith))) (keeps l.var parts.1))
       | inr behind ↦
           let below = p.below in
           let same : i ≡ p.place = omega arith in
@@ -99,7 +109,8 @@ rup_resolve s w new i n lt r keeps covered f = falsifies_again (known s) (workin
     resolved : Closure (known s) (working s new i) (nth s i)
     resolved =
         let unit = r.unit in
-        closure_unit (known s) (working s new i) (clause_in s n) (nth s i) (Contains-append_left (clauses_in s) (roots s s.lits) (clause_in s n) (text_among s n r.place)) unit.among
+        closure_unit (known s) (working s new i) (clause_in s n) (nth s i) (Contains-append_left (clauses_in s) (roots s s.lits) (clause_in s n)
+        (text_among s n r.place)) unit.among
         (All-weaker (Contains (clause_in s n)) (λ k. (k ≡ nth s i) ⊎ Closure (known s) (working s new i) (negate k)) (λ k inside.
         elim (All-contains (λ m. (m ≡ nth s i) ⊎ IsIn (has (take i s.lits)) (negate m)) (clause_in s n) k unit.others inside) [
           | inl e ↦ inl e
@@ -111,7 +122,13 @@ pub clause_there : (s : Sight) (p : ℕ) → IsSound s → Contains s.places p �
 clause_there s p r at = r.clauses p at
 
 clause_named : (s : Sight) (n : ℕ) → Contains s.places n → All (λ k. IsNamed (clauses_in s) k.var) (clause_in s n)
-clause_named s n lt = All-weaker (Contains (clause_in s n)) (λ k. IsNamed (clauses_in s) k.var) (λ k inside. record { clause = clause_in s n; among = text_among s n lt; lit = k; inside = inside; var = refl }) (clause_in s n) (All-contains_itself (clause_in s n))
+clause_named s n lt = All-weaker (Contains (clause_in s n)) (λ k. IsNamed (clauses_in s) k.var) (λ k inside. record {
+  clause = clause_in s n;
+  among = text_among s n lt;
+  lit = k;
+  inside = inside;
+  var = refl;
+}) (clause_in s n) (All-contains_itself (clause_in s n))
 
 -- the cut before anything is seen
 open_blank : (s : Sight) (w : Cut) (end : ℕ) → IsBlank w → open_below s w.seen end ≡ 0
@@ -129,12 +146,15 @@ cut_blank s w end size blank none zero_pending = record {
 }
 
 -- the falsified clause is taken in
-pub ready_start : (s : Sight) (w : Cut) (n : ℕ) → IsSound s → IsConflict s n → length w.seen ≡ s.vars + 1 → IsBlank w → w.rest ≡ [] → w.pending ≡ 0 → IsResolving s (cut_with_all s w (clause_in s n)) (length s.lits)
+pub ready_start : (s : Sight) (w : Cut) (n : ℕ) → IsSound s → IsConflict s n → length w.seen ≡ s.vars + 1 → IsBlank w → w.rest ≡ [] → w.pending ≡ 0 →
+    IsResolving s (cut_with_all s w (clause_in s n)) (length s.lits)
 ready_start s w n r clash size blank none zero_pending =
     let there = clause_there s n r clash.place in
     let covered = gathered_covers s w (clause_in s n) there size in
-    let cut : IsCut s (cut_with_all s w (clause_in s n)) (length s.lits) = cut_gathered s r w (length s.lits) (omega arith) (clause_in s n) there (clause_named s n clash.place)
-    (All-weaker (λ k. IsIn (has s.lits) (negate k)) (IsReached s w (length s.lits)) (λ k h. inr (ap (λ (ls : List Literal). has ls (negate k)) (take_all (length s.lits) s.lits (omega arith)) ∙ h)) (clause_in s n) clash.falsified)
+    let cut : IsCut s (cut_with_all s w (clause_in s n)) (length s.lits) = cut_gathered s r w (length s.lits) (omega arith) (clause_in s n) there
+    (clause_named s n clash.place)
+    (All-weaker (λ k. IsIn (has s.lits) (negate k)) (IsReached s w (length s.lits))
+    (λ k h. inr (ap (λ (ls : List Literal). has ls (negate k)) (take_all (length s.lits) s.lits (omega arith)) ∙ h)) (clause_in s n) clash.falsified)
     (cut_blank s w (length s.lits) size blank none zero_pending) in
     record {
       cut = cut;
@@ -142,8 +162,10 @@ ready_start s w n r clash size blank none zero_pending =
       some =
           let k = clash.lit in
           let p = placed_anywhere s (negate k) (All-contains (λ m. IsIn (has s.lits) (negate m)) (clause_in s n) k clash.falsified clash.among) in
-          let seen : IsSeen (cut_with_all s w (clause_in s n)) k.var = elim (All-contains (IsCovered s (cut_with_all s w (clause_in s n))) (clause_in s n) k covered clash.among) [ inl z ↦ let e = clash.present in let a = clash.above in absurd (omega arith) | inr h ↦ h ] in
-          let more = open_some s (cut_with_all s w (clause_in s n)).seen p.place (length s.lits) p.below (ap (level_of s) p.is ∙ clash.present) (ap (λ (m : Literal). is_seen (cut_with_all s w (clause_in s n)).seen m.var) p.is ∙ seen) in
+          let seen : IsSeen (cut_with_all s w (clause_in s n)) k.var = elim (All-contains (IsCovered s (cut_with_all s w (clause_in s n))) (clause_in s n) k
+          covered clash.among) [ inl z ↦ let e = clash.present in let a = clash.above in absurd (omega arith) | inr h ↦ h ] in
+          let more = open_some s (cut_with_all s w (clause_in s n)).seen p.place (length s.lits) p.below
+          (ap (level_of s) p.is ∙ clash.present) (ap (λ (m : Literal). is_seen (cut_with_all s w (clause_in s n)).seen m.var) p.is ∙ seen) in
           let count = cut.count in
           omega arith;
       rup = rup_start s (cut_with_all s w (clause_in s n)) (clause_in s n) (text_among s n clash.place) clash.falsified covered;
@@ -161,7 +183,15 @@ stage_from s w end i r ready last =
     let count = cut.count in
     let found = open_found s w.seen (i + 1) (omega arith) in
     record {
-      cut = record { size = cut.size; lower = cut.lower; all = cut.all; distinct = cut.distinct; count = cut.count ∙ skip; named = cut.named; above = cut.above };
+      cut = record {
+        size = cut.size;
+        lower = cut.lower;
+        all = cut.all;
+        distinct = cut.distinct;
+        count = cut.count ∙ skip;
+        named = cut.named;
+        above = cut.above;
+      };
       below = omega arith;
       seen = last.seen;
       present =
@@ -182,7 +212,8 @@ stage_count s w i t =
     let cut = t.cut in
     let count = cut.count in
     let here = weight_present s w.seen i true t.present t.seen in
-    let step : open_below s w.seen (i + 1) ≡ open_below s w.seen i + weight_at s w.seen i = let next : i + 1 ≡ suc i = omega arith in ap (open_below s w.seen) next in
+    let step : open_below s w.seen (i + 1) ≡ open_below s w.seen i + weight_at s w.seen i = let next : i + 1 ≡ suc i = omega arith in ap (open_below s w.seen)
+    next in
     omega arith
 
 pub stage_reason : (s : Sight) (w : Cut) (i : ℕ) → IsSound s → 0 < s.level → IsStage s w i → 1 < w.pending → 1 ≤ reason_of s (nth s i)
@@ -193,7 +224,8 @@ stage_reason s w i r above t more =
     r.decided f.place i f.below t.below (f.present ∙ sym e) (omega arith)
 
 -- and is resolved with it
-pub stage_resolve : (s : Sight) (w : Cut) (i n : ℕ) → IsSound s → IsStage s w i → 1 < w.pending → IsReasonAt s i n → IsResolving s (cut_with_all s (with_resolved w) (clause_in s n)) i
+pub stage_resolve : (s : Sight) (w : Cut) (i n : ℕ) → IsSound s → IsStage s w i → 1 < w.pending → IsReasonAt s i n →
+    IsResolving s (cut_with_all s (with_resolved w) (clause_in s n)) i
 stage_resolve s w i n r t more reason =
     let cut = t.cut in
     let below = t.below in
@@ -203,16 +235,25 @@ stage_resolve s w i n r t more reason =
     let there = clause_there s n r reason.place in
     let before : IsCut s (with_resolved w) i = record {
       size = cut.size;
-      lower = All-weaker (IsLower s w) (IsLower s (with_resolved w)) (λ k l. record { falsified = l.falsified; above = l.above; below = l.below; seen = l.seen }) w.rest cut.lower;
+      lower = All-weaker (IsLower s w) (IsLower s (with_resolved w)) (λ k l. record {
+        falsified = l.falsified;
+        above = l.above;
+        below = l.below;
+        seen = l.seen;
+      }) w.rest cut.lower;
       all = cut.all;
       distinct = cut.distinct;
       count = omega arith;
       named = cut.named;
       above = cut.above;
     } in
-    let reached : All (IsReached s (with_resolved w) i) (clause_in s n) = All-weaker (λ k. (k ≡ nth s i) ⊎ IsIn (has (take i s.lits)) (negate k)) (IsReached s (with_resolved w) i) (λ k h. elim h [ inl e ↦ inl (ap (λ (m : Literal). is_seen w.seen m.var) e ∙ t.seen) | inr front ↦ inr front ]) (clause_in s n) unit.others in
-    let now : IsCut s (cut_with_all s (with_resolved w) (clause_in s n)) i = cut_gathered s r (with_resolved w) i (omega arith) (clause_in s n) there (clause_named s n reason.place) reached before in
-    let keeps : (v : ℕ) → IsSeen w v → IsSeen (cut_with_all s (with_resolved w) (clause_in s n)) v = λ v h. gathered_keeps s (with_resolved w) (clause_in s n) v there size h in
+    let reached : All (IsReached s (with_resolved w) i) (clause_in s n) = All-weaker (λ k. (k ≡ nth s i) ⊎ IsIn (has (take i s.lits)) (negate k))
+    (IsReached s (with_resolved w) i) (λ k h. elim h [ inl e ↦ inl (ap (λ (m : Literal). is_seen w.seen m.var) e ∙ t.seen) | inr front ↦ inr front ])
+    (clause_in s n) unit.others in
+    let now : IsCut s (cut_with_all s (with_resolved w) (clause_in s n)) i = cut_gathered s r (with_resolved w) i (omega arith) (clause_in s n) there
+    (clause_named s n reason.place) reached before in
+    let keeps : (v : ℕ) → IsSeen w v → IsSeen (cut_with_all s (with_resolved w) (clause_in s n)) v = λ v h. gathered_keeps s (with_resolved w) (clause_in s n) v
+    there size h in
     record {
       cut = now;
       within = omega arith;
@@ -221,7 +262,8 @@ stage_resolve s w i n r t more reason =
           let seen = open_some s (cut_with_all s (with_resolved w) (clause_in s n)).seen f.place i f.below f.present (keeps (nth s f.place).var f.marked) in
           let total = now.count in
           omega arith;
-      rup = rup_resolve s w (cut_with_all s (with_resolved w) (clause_in s n)) i n below reason keeps (gathered_covers s (with_resolved w) (clause_in s n) there size) t.rup;
+      rup = rup_resolve s w (cut_with_all s (with_resolved w) (clause_in s n)) i n below reason keeps
+          (gathered_covers s (with_resolved w) (clause_in s n) there size) t.rup;
     }
 
 -- the first unique implication point
@@ -232,8 +274,11 @@ stage_learnt s w i r above t one =
     let count = stage_count s w i t in
     let e : level_of s u ≡ s.level = t.present in
     record {
-      falsified = All-cons (λ k. IsIn (has s.lits) (negate k)) (negate u) w.rest (ap (has s.lits) (negate-negate u) ∙ has_from_contains s.lits u (stands s i t.below)) (All-weaker (IsLower s w) (λ k. IsIn (has s.lits) (negate k)) (λ k l. l.falsified) w.rest cut.lower);
-      above = All-cons (λ k. 0 < level_of s k) (negate u) w.rest (omega arith) (All-weaker (IsLower s w) (λ k. 0 < level_of s k) (λ k l. l.above) w.rest cut.lower);
+      falsified = All-cons (λ k. IsIn (has s.lits) (negate k)) (negate u) w.rest (ap (has s.lits) (negate-negate u)
+          ∙ has_from_contains s.lits u (stands s i t.below)) (All-weaker (IsLower s w) (λ k. IsIn (has s.lits) (negate k)) (λ k l. l.falsified) w.rest
+          cut.lower);
+      above = All-cons (λ k. 0 < level_of s k) (negate u) w.rest (omega arith) (All-weaker (IsLower s w) (λ k. 0 < level_of s k) (λ k l. l.above) w.rest
+          cut.lower);
       present = e;
       lower = All-weaker (IsLower s w) (λ k. level_of s k < s.level) (λ k l. l.below) w.rest cut.lower;
       distinct = (
@@ -244,8 +289,10 @@ stage_learnt s w i r above t one =
             absurd (omega arith)),
         cut.distinct,
       );
-      named = All-cons (λ k. IsNamed (clauses_in s) k.var) (negate u) w.rest (cut.named u.var t.seen) (All-weaker (IsLower s w) (λ k. IsNamed (clauses_in s) k.var) (λ k l. cut.named k.var l.seen) w.rest cut.lower);
-      rup = falsifies_again (known s) (negations (negate u ∷ w.rest)) (working s w (i + 1)) (λ l h. closure_start (known s) (negations (negate u ∷ w.rest)) l (inside l h)) t.rup;
+      named = All-cons (λ k. IsNamed (clauses_in s) k.var) (negate u) w.rest (cut.named u.var t.seen)
+          (All-weaker (IsLower s w) (λ k. IsNamed (clauses_in s) k.var) (λ k l. cut.named k.var l.seen) w.rest cut.lower);
+      rup = falsifies_again (known s) (negations (negate u ∷ w.rest)) (working s w (i + 1))
+          (λ l h. closure_start (known s) (negations (negate u ∷ w.rest)) l (inside l h)) t.rup;
     }
   where
     inside : (l : Literal) → IsIn (working s w (i + 1)) l → has (negate (nth s i) ∷ w.rest) (negate l) ≡ true
@@ -256,7 +303,8 @@ stage_learnt s w i r above t one =
         let p = placed s (i + 1) l (omega arith) parts.0 in
         has_from_contains (negate (nth s i) ∷ w.rest) (negate l) (elim (cases_lt p.place i) [
           | inl front ↦ elim (cases_eq (level_of s l) s.level) [
-            | inl e ↦ absurd (open_none s w.seen p.place i (omega arith) front (ap (level_of s) p.is ∙ e) (ap (λ (m : Literal). is_seen w.seen m.var) p.is ∙ parts.1))
+            | inl e ↦ absurd (open_none s w.seen p.place i (omega arith) front (ap (level_of s) p.is ∙ e) (ap (λ (m : Literal). is_seen w.seen m.var) p.is
+                ∙ parts.1))
             | inr ne ↦
                 let most = level_limit s l r (front_in s (i + 1) l parts.0) in
                 let cut = t.cut in
@@ -282,5 +330,7 @@ pub root_rup : (s : Sight) (l : Literal) → IsIn (has s.lits) l → level_of s 
 root_rup s l on z = record {
   clause = l ∷ [];
   among = Contains-append_right (clauses_in s) (roots s s.lits) (l ∷ []) (roots_has s s.lits l (contains_from_has s.lits l on) z);
-  each = All-cons (λ k. Closure (known s) (negations (l ∷ [])) (negate k)) l [] (closure_start (known s) (negations (l ∷ [])) (negate l) (has_from_contains (l ∷ []) (negate (negate l)) (subst (λ (m : Literal). Contains (l ∷ []) m) (sym (negate-negate l)) (contains_first l [])))) (λ k d lt. absurd (omega arith));
+  each = All-cons (λ k. Closure (known s) (negations (l ∷ [])) (negate k)) l [] (closure_start (known s) (negations (l ∷ [])) (negate l)
+      (has_from_contains (l ∷ []) (negate (negate l)) (subst (λ (m : Literal). Contains (l ∷ []) m) (sym (negate-negate l)) (contains_first l []))))
+      (λ k d lt. absurd (omega arith));
 }

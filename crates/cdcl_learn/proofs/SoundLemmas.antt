@@ -25,7 +25,8 @@ stands_there : (m : Marks) (i : ℕ) → i < length m.lits → get_or m.lits i (
 stands_there m i lt = sym (get_or_default m.lits i (literal 0 true) (get_or m.lits i (literal 0 true)) lt)
 
 -- the levels, reasons and clauses are sound
-pub sound_texts : (a : Attached) (m : Marks) → ((p : ℕ) → Contains a.places p → AreThere m.vars (attached_at a p)) → IsMarks m → AreReasoned a m → IsSound (sight a m)
+pub sound_texts : (a : Attached) (m : Marks) → ((p : ℕ) → Contains a.places p → AreThere m.vars (attached_at a p)) → IsMarks m → AreReasoned a m →
+    IsSound (sight a m)
 sound_texts a m texts marks reasoned = record {
   distinct = marks.distinct;
   there = marks.there;
@@ -48,7 +49,8 @@ sound_texts a m texts marks reasoned = record {
             let there = marks.levels j (literal 0 true) within in
             let z : get_or m.reasons (get_or m.lits j (literal 0 true)).var 0 ≡ 0 = omega arith in
             elim (reasoned.decided j (get_or m.lits j (literal 0 true)) within (stands_there m j within) z) [
-              | inl begins ↦ let up = level_step m.cuts j i j begins lt (omega arith) in absurd (differ (trail_level m.cuts i) (trail_level m.cuts j) up (sym here ∙ same ∙ there))
+              | inl begins ↦ let up = level_step m.cuts j i j begins lt (omega arith) in absurd
+                  (differ (trail_level m.cuts i) (trail_level m.cuts j) up (sym here ∙ same ∙ there))
               | inr later ↦ absurd (differ 0 (trail_level m.cuts j) (subst (λ n. 0 < n) there above) (sym (level_zero m.cuts j later)))
             ]
       ];
@@ -58,10 +60,12 @@ sound_texts a m texts marks reasoned = record {
     differ p q lt e = absurd (omega arith)
 
 pub sound_sight : (a : Attached) (m : Marks) → a.vars ≡ m.vars → AreAttached a → IsMarks m → AreReasoned a m → IsSound (sight a m)
-sound_sight a m vars attached marks reasoned = sound_texts a m (λ p at. let c = attached p at in subst (λ n. AreThere n (attached_at a p)) vars c.there) marks reasoned
+sound_sight a m vars attached marks reasoned = sound_texts a m (λ p at. let c = attached p at in subst (λ n. AreThere n (attached_at a p)) vars c.there) marks
+    reasoned
 
 -- the reason of a false literal is a clause
-pub reason_place : (a : Attached) (m : Marks) (l : Literal) (p : ℕ) → AreReasoned a m → IsIn (has m.lits) (negate l) → get_or m.reasons l.var 0 ≡ p → 1 ≤ p → Contains a.places p
+pub reason_place : (a : Attached) (m : Marks) (l : Literal) (p : ℕ) → AreReasoned a m → IsIn (has m.lits) (negate l) → get_or m.reasons l.var 0 ≡ p → 1 ≤ p →
+    Contains a.places p
 reason_place a m l p reasoned on e some =
     let c = contains_from_has m.lits (negate l) on in
     let r = reasoned.reason c.0 (negate l) c.1 c.2 (λ z. not_zero p some (sym e ∙ z)) in

@@ -13,12 +13,14 @@ use Rattle.cdcl_learn.proofs.RupLemmas.{stage_reason}
 pub clause_lit_there : (vars : ℕ) (c : List Literal) (i : ℕ) (k : Literal) → AreThere vars c → i < length c → get_or c i k ≡ k → IsThere vars k
 clause_lit_there vars c i k there lt e = there_contains vars c k there (i, lt, e)
 
-pub gathered_step : (s : Sight) (w : Cut) (c : List Literal) (i : ℕ) (k : Literal) → i < length c → get_or c i k ≡ k → cut_with_all s (cut_with s w k) (drop (i + 1) c) ≡ cut_with_all s w (drop i c)
+pub gathered_step : (s : Sight) (w : Cut) (c : List Literal) (i : ℕ) (k : Literal) → i < length c → get_or c i k ≡ k →
+    cut_with_all s (cut_with s w k) (drop (i + 1) c) ≡ cut_with_all s w (drop i c)
 gathered_step s w c i k lt e =
     let at : drop i c ≡ k ∷ drop (i + 1) c = drop_more c i k lt ∙ ap (λ (m : Literal). m ∷ drop (i + 1) c) (e) in
     sym (ap (cut_with_all s w) at)
 
-pub more_left : (s : Sight) (w : Cut) (end i : ℕ) → IsResolving s w end → i < end → ((j : ℕ) → i < j → j < end → is_seen w.seen (nth s j).var ≡ false) → is_seen w.seen (nth s i).var ≡ false → 1 ≤ i
+pub more_left : (s : Sight) (w : Cut) (end i : ℕ) → IsResolving s w end → i < end → ((j : ℕ) → i < j → j < end → is_seen w.seen (nth s j).var ≡ false) →
+    is_seen w.seen (nth s i).var ≡ false → 1 ≤ i
 more_left s w end i ready lt none un = elim (cases_lt 0 i) [
   | inl some ↦ omega arith
   | inr first ↦
@@ -32,7 +34,8 @@ more_left s w end i ready lt none un = elim (cases_lt 0 i) [
       absurd (omega arith)
 ]
 
-pub reason_at : (s : Sight) (i v p : ℕ) → IsSound s → i < length s.lits → v ≡ (nth s i).var → get_or s.reasons v 0 ≡ p → 1 ≤ get_or s.reasons v 0 → IsReasonAt s i p
+pub reason_at : (s : Sight) (i v p : ℕ) → IsSound s → i < length s.lits → v ≡ (nth s i).var → get_or s.reasons v 0 ≡ p → 1 ≤ get_or s.reasons v 0 →
+    IsReasonAt s i p
 reason_at s i v p r lt var e some = r.reason i p lt (ap (λ x. get_or s.reasons x 0) (sym var) ∙ e) (subst (λ n. 1 ≤ n) e some)
 
 pub reason_none : (s : Sight) (w : Cut) (i v : ℕ) → IsSound s → 0 < s.level → IsStage s w i → 1 < w.pending → v ≡ (nth s i).var → get_or s.reasons v 0 ≡ 0 → ⊥

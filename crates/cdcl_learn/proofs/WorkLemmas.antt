@@ -1,5 +1,6 @@
 -- The tables of the working clause.
-use Rattle.std.proofs.Common.{◌≡◌, ℕ, ◌+◌, ◌<◌, ◌≤◌, ◌*◌, Bool, true, false, suc, take, List, [], ◌∷◌, ◌++◌, length, get_or, set, refl, sym, ◌∙◌, ap, subst, inl, inr, arith, length-set, length-take-le, length-append, replicate}
+use Rattle.std.proofs.Common.{◌≡◌, ℕ, ◌+◌, ◌<◌, ◌≤◌, ◌*◌, Bool, true, false, suc, take, List, [], ◌∷◌, ◌++◌, length, get_or, set, refl, sym, ◌∙◌, ap, subst}
+use Rattle.std.proofs.Common.{inl, inr, arith, length-set, length-take-le, length-append, replicate}
 use Rattle.std.specs.Prelude.{All, Contains}
 use Rattle.cnf_core.specs.declared.limits.TheConstants.{VARS}
 use Rattle.watch_arena.proofs.TrailLemmas.{get_padded}
@@ -24,7 +25,8 @@ marks_more seen v lt un =
     let one : weight true ≡ 1 = refl in
     omega (arith, now, was, one)
 
-pub work_short : (vars : ℕ) (seen : List Bool) (touched : List ℕ) (count : ℕ) (rest : List Literal) (len pending v : ℕ) → IsWork vars seen touched count rest len pending → v ≤ vars → is_seen seen v ≡ false → count < vars + 1
+pub work_short : (vars : ℕ) (seen : List Bool) (touched : List ℕ) (count : ℕ) (rest : List Literal) (len pending v : ℕ) →
+    IsWork vars seen touched count rest len pending → v ≤ vars → is_seen seen v ≡ false → count < vars + 1
 work_short vars seen touched count rest len pending v w le un =
     let size = w.seen_size in
     let more = marks_more seen v (omega arith) un in
@@ -33,7 +35,9 @@ work_short vars seen touched count rest len pending v w le un =
     let marks = w.marks in
     omega arith
 
-pub work_more : (vars : ℕ) (seen : List Bool) (touched : List ℕ) (count : ℕ) (rest : List Literal) (len pending v : ℕ) (now : List Literal) (more some : ℕ) → IsWork vars seen touched count rest len pending → v ≤ vars → is_seen seen v ≡ false → length now ≡ vars + 1 → more ≤ count + 1 → some ≤ count + 1 → IsWork vars (set seen v true) (set touched count v) (count + 1) now more some
+pub work_more : (vars : ℕ) (seen : List Bool) (touched : List ℕ) (count : ℕ) (rest : List Literal) (len pending v : ℕ) (now : List Literal) (more some : ℕ) →
+    IsWork vars seen touched count rest len pending → v ≤ vars → is_seen seen v ≡ false → length now ≡ vars + 1 → more ≤ count + 1 → some ≤ count + 1 →
+    IsWork vars (set seen v true) (set touched count v) (count + 1) now more some
 work_more vars seen touched count rest len pending v now more some w le un size short few =
     let seen_size = w.seen_size in
     let touched_size = w.touched_size in
@@ -50,11 +54,14 @@ work_more vars seen touched count rest len pending v now more some w le un size 
       ];
       within = λ i lt. elim (cases_lt i count) [
         | inl below ↦ let b = w.within i below in let e = get_or-set_other touched count i v 0 (λ e. absurd (omega arith)) in omega arith
-        | inr last ↦ let is : count ≡ i = omega arith in subst (λ n. get_or (set touched count v) n 0 ≤ vars) is (let e = get_or-set_same touched count v 0 (omega arith) in omega arith)
+        | inr last ↦ let is : count ≡ i = omega arith in subst (λ n. get_or (set touched count v) n 0 ≤ vars) is
+            (let e = get_or-set_same touched count v 0 (omega arith) in omega arith)
       ];
       marked = λ i lt. elim (cases_lt i count) [
-        | inl below ↦ subst (λ x. is_seen (set seen v true) x ≡ true) (sym (get_or-set_other touched count i v 0 (λ e. absurd (omega arith)))) (seen_keeps seen v (get_or touched i 0) (omega arith) (w.marked i below))
-        | inr last ↦ let is : count ≡ i = omega arith in subst (λ n. is_seen (set seen v true) (get_or (set touched count v) n 0) ≡ true) is (subst (λ x. is_seen (set seen v true) x ≡ true) (sym (get_or-set_same touched count v 0 (omega arith))) (seen_same seen v (omega arith)))
+        | inl below ↦ subst (λ x. is_seen (set seen v true) x ≡ true) (sym (get_or-set_other touched count i v 0 (λ e. absurd (omega arith))))
+            (seen_keeps seen v (get_or touched i 0) (omega arith) (w.marked i below))
+        | inr last ↦ let is : count ≡ i = omega arith in subst (λ n. is_seen (set seen v true) (get_or (set touched count v) n 0) ≡ true) is
+            (subst (λ x. is_seen (set seen v true) x ≡ true) (sym (get_or-set_same touched count v 0 (omega arith))) (seen_same seen v (omega arith)))
       ];
       apart = λ i j lt within e.
           let here : get_or (set touched count v) i 0 ≡ get_or touched i 0 = get_or-set_other touched count i v 0 (λ e. absurd (omega arith)) in
@@ -62,24 +69,59 @@ work_more vars seen touched count rest len pending v now more some w le un size 
             | inl below ↦ w.apart i j lt below (sym here ∙ e ∙ get_or-set_other touched count j v 0 (λ e. absurd (omega arith)))
             | inr last ↦
                 let is : j ≡ count = omega arith in
-                let v_is : get_or (set touched count v) j 0 ≡ v = ap (λ n. get_or (set touched count v) n 0) is ∙ get_or-set_same touched count v 0 (omega arith) in
+                let v_is : get_or (set touched count v) j 0 ≡ v = ap (λ n. get_or (set touched count v) n 0) is
+                ∙ get_or-set_same touched count v 0 (omega arith) in
                 both_ways (is_seen seen (get_or touched i 0)) (ap (is_seen seen) (sym here ∙ e ∙ v_is) ∙ un) (w.marked i (omega arith))
           ];
       short = short;
       few = few;
     }
 
-pub open_view : (vars : ℕ) (seen : List Bool) (touched : List ℕ) (count : ℕ) (rest : List Literal) (len pending v : ℕ) (k : Literal) (w : Cut) → working_cut vars seen touched count rest len pending ≡ w → v ≡ k.var → count < length touched → working_cut vars (set seen v true) (set touched count v) (count + 1) rest len (pending + 1) ≡ with_open w k
+pub open_view : (vars : ℕ) (seen : List Bool) (touched : List ℕ) (count : ℕ) (rest : List Literal) (len pending v : ℕ) (k : Literal) (w : Cut) →
+    working_cut vars seen touched count rest len pending ≡ w → v ≡ k.var → count < length touched →
+    working_cut vars (set seen v true) (set touched count v) (count + 1) rest len (pending + 1) ≡ with_open w k
 open_view vars seen touched count rest len pending v k w e same lt =
-    ap (λ (ns : List ℕ). let c : Cut = record { vars = vars; seen = set seen v true; met = ns; rest = take len rest; pending = pending + 1 } in c) (take_more_set touched count v lt)
-    ∙ ap (λ x. let c : Cut = record { vars = vars; seen = set seen x true; met = take count touched ++ x ∷ []; rest = take len rest; pending = pending + 1 } in c) same
+    ap (λ (ns : List ℕ). let c : Cut = record {
+      vars = vars;
+      seen = set seen v true;
+      met = ns;
+      rest = take len rest;
+      pending = pending + 1;
+    } in c) (take_more_set touched count v lt)
+    ∙ ap (λ x. let c : Cut = record {
+      vars = vars;
+      seen = set seen x true;
+      met = take count touched ++ x ∷ [];
+      rest = take len rest;
+      pending = pending + 1;
+    } in c) same
     ∙ ap (λ (c : Cut). with_open c k) e
 
-pub lower_view : (vars : ℕ) (seen : List Bool) (touched : List ℕ) (count : ℕ) (rest : List Literal) (len pending v : ℕ) (k : Literal) (w : Cut) → working_cut vars seen touched count rest len pending ≡ w → v ≡ k.var → count < length touched → len < length rest → working_cut vars (set seen v true) (set touched count v) (count + 1) (set rest len k) (len + 1) pending ≡ with_lower w k
+pub lower_view : (vars : ℕ) (seen : List Bool) (touched : List ℕ) (count : ℕ) (rest : List Literal) (len pending v : ℕ) (k : Literal) (w : Cut) →
+    working_cut vars seen touched count rest len pending ≡ w → v ≡ k.var → count < length touched → len < length rest →
+    working_cut vars (set seen v true) (set touched count v) (count + 1) (set rest len k) (len + 1) pending ≡ with_lower w k
 lower_view vars seen touched count rest len pending v k w e same met lt =
-    ap (λ (ls : List Literal). let c : Cut = record { vars = vars; seen = set seen v true; met = take (count + 1) (set touched count v); rest = ls; pending = pending } in c) (take_more_set rest len k lt)
-    ∙ ap (λ (ns : List ℕ). let c : Cut = record { vars = vars; seen = set seen v true; met = ns; rest = take len rest ++ k ∷ []; pending = pending } in c) (take_more_set touched count v met)
-    ∙ ap (λ x. let c : Cut = record { vars = vars; seen = set seen x true; met = take count touched ++ x ∷ []; rest = take len rest ++ k ∷ []; pending = pending } in c) same
+    ap (λ (ls : List Literal). let c : Cut = record {
+      vars = vars;
+      seen = set seen v true;
+      met = take (count + 1) (set touched count v);
+      rest = ls;
+      pending = pending;
+    } in c) (take_more_set rest len k lt)
+    ∙ ap (λ (ns : List ℕ). let c : Cut = record {
+      vars = vars;
+      seen = set seen v true;
+      met = ns;
+      rest = take len rest ++ k ∷ [];
+      pending = pending;
+    } in c) (take_more_set touched count v met)
+    ∙ ap (λ x. let c : Cut = record {
+      vars = vars;
+      seen = set seen x true;
+      met = take count touched ++ x ∷ [];
+      rest = take len rest ++ k ∷ [];
+      pending = pending;
+    } in c) same
     ∙ ap (λ (c : Cut). with_lower c k) e
 
 -- marks are taken away
@@ -99,7 +141,8 @@ marks_none (b ∷ seen) h =
     let rest = marks_none seen (λ v. h (suc v)) in
     omega (arith, sum_by-cons weight b seen)
 
-pub work_clear : (vars : ℕ) (seen now : List Bool) (touched : List ℕ) (count : ℕ) (rest : List Literal) (len pending : ℕ) → IsWork vars seen touched count rest len pending → length now ≡ length seen → ((v : ℕ) → is_seen now v ≡ false) → IsWork vars now touched 0 rest 0 0
+pub work_clear : (vars : ℕ) (seen now : List Bool) (touched : List ℕ) (count : ℕ) (rest : List Literal) (len pending : ℕ) →
+    IsWork vars seen touched count rest len pending → length now ≡ length seen → ((v : ℕ) → is_seen now v ≡ false) → IsWork vars now touched 0 rest 0 0
 work_clear vars seen now touched count rest len pending w size blank = record {
   limit = w.limit;
   seen_size = size ∙ w.seen_size;
@@ -114,26 +157,30 @@ work_clear vars seen now touched count rest len pending w size blank = record {
   few = omega arith;
 }
 
-pub work_few : (vars : ℕ) (seen : List Bool) (touched : List ℕ) (count : ℕ) (rest : List Literal) (len pending : ℕ) → IsWork vars seen touched count rest len pending → count ≤ vars + 1
+pub work_few : (vars : ℕ) (seen : List Bool) (touched : List ℕ) (count : ℕ) (rest : List Literal) (len pending : ℕ) →
+    IsWork vars seen touched count rest len pending → count ≤ vars + 1
 work_few vars seen touched count rest len pending w =
     let size = w.seen_size in
     let most = sum_by-le weight 1 seen (λ k d within. weight_small (get_or seen k d)) in
     let marks = w.marks in
     omega arith
 
-pub rest_short : (vars : ℕ) (seen : List Bool) (touched : List ℕ) (count : ℕ) (rest : List Literal) (len pending : ℕ) → IsWork vars seen touched count rest len pending → len ≤ length rest
+pub rest_short : (vars : ℕ) (seen : List Bool) (touched : List ℕ) (count : ℕ) (rest : List Literal) (len pending : ℕ) →
+    IsWork vars seen touched count rest len pending → len ≤ length rest
 rest_short vars seen touched count rest len pending w =
     let few = work_few vars seen touched count rest len pending w in
     let short = w.short in
     let size = w.rest_size in
     omega arith
 
-pub rest_all : (P : Literal → Type 0) (rest now : List Literal) (len : ℕ) → take len rest ≡ now → len ≤ length rest → All P now → (i : ℕ) (d : Literal) → i < len → P (get_or rest i d)
+pub rest_all : (P : Literal → Type 0) (rest now : List Literal) (len : ℕ) → take len rest ≡ now → len ≤ length rest → All P now → (i : ℕ) (d : Literal) →
+    i < len → P (get_or rest i d)
 rest_all P rest now len e le h = λ i d lt.
     let size = length-take-le len rest le in
     subst P (get_or-take len rest i d lt) (subst (λ (ls : List Literal). All P ls) (sym e) h i d (omega arith))
 
-pub view_short : (vars : ℕ) (seen : List Bool) (touched : List ℕ) (count : ℕ) (rest : List Literal) (len pending : ℕ) → IsWork vars seen touched count rest len pending → length (take len rest) ≤ vars + 1
+pub view_short : (vars : ℕ) (seen : List Bool) (touched : List ℕ) (count : ℕ) (rest : List Literal) (len pending : ℕ) →
+    IsWork vars seen touched count rest len pending → length (take len rest) ≤ vars + 1
 view_short vars seen touched count rest len pending w =
     let few = work_few vars seen touched count rest len pending w in
     let short = w.short in
@@ -148,7 +195,8 @@ pub record MetFacts (w : Cut) (count : ℕ) : Type 0 where
   pub all : (v : ℕ) → is_seen w.seen v ≡ true → Contains w.met v
   pub apart : (i j : ℕ) → i < j → j < length w.met → get_or w.met i 0 ≡ get_or w.met j 0 → ⊥
 
-pub met_facts : (vars : ℕ) (seen : List Bool) (touched : List ℕ) (count : ℕ) (rest : List Literal) (len pending : ℕ) (w : Cut) → working_cut vars seen touched count rest len pending ≡ w → IsWork vars seen touched count rest len pending → MetFacts w count
+pub met_facts : (vars : ℕ) (seen : List Bool) (touched : List ℕ) (count : ℕ) (rest : List Literal) (len pending : ℕ) (w : Cut) →
+    working_cut vars seen touched count rest len pending ≡ w → IsWork vars seen touched count rest len pending → MetFacts w count
 met_facts vars seen touched count rest len pending w e k = subst (λ (c : Cut). MetFacts c count) e facts
   where
     size : length (take count touched) ≡ count
@@ -170,11 +218,14 @@ met_facts vars seen touched count rest len pending w e k = subst (λ (c : Cut). 
               let lt = a.1 in
               let short : a.0 < length touched = let t = k.touched_size in omega arith in
               (a.0, omega arith, get_or-take count touched a.0 v lt ∙ get_or_default touched a.0 v 0 short ∙ a.2);
-          apart = λ i j lt within same. k.apart i j lt (omega arith) (sym (get_or-take count touched i 0 (omega arith)) ∙ same ∙ get_or-take count touched j 0 (omega arith));
+          apart = λ i j lt within same. k.apart i j lt (omega arith) (sym (get_or-take count touched i 0 (omega arith)) ∙ same
+              ∙ get_or-take count touched j 0 (omega arith));
         }
 
 -- further variables
-pub work_wide : (vars : ℕ) (seen : List Bool) (touched : List ℕ) (count : ℕ) (rest : List Literal) (len pending n : ℕ) (x : Literal) → vars + n ≤ VARS → IsWork vars seen touched count rest len pending → IsWork (vars + n) (seen ++ replicate n false) (touched ++ replicate n 0) count (rest ++ replicate n x) len pending
+pub work_wide : (vars : ℕ) (seen : List Bool) (touched : List ℕ) (count : ℕ) (rest : List Literal) (len pending n : ℕ) (x : Literal) → vars + n ≤ VARS →
+    IsWork vars seen touched count rest len pending → IsWork (vars + n) (seen ++ replicate n false) (touched ++ replicate n 0) count (rest ++ replicate n x) len
+    pending
 work_wide vars seen touched count rest len pending n x limit w =
     let few = work_few vars seen touched count rest len pending w in
     let size = w.touched_size in
@@ -212,15 +263,19 @@ work_new vars x limit = record {
   few = omega arith;
 }
 
-pub met_wide : (vars : ℕ) (seen : List Bool) (touched : List ℕ) (count : ℕ) (rest : List Literal) (len pending n : ℕ) → IsWork vars seen touched count rest len pending → take count (touched ++ replicate n 0) ≡ take count touched
+pub met_wide : (vars : ℕ) (seen : List Bool) (touched : List ℕ) (count : ℕ) (rest : List Literal) (len pending n : ℕ) →
+    IsWork vars seen touched count rest len pending → take count (touched ++ replicate n 0) ≡ take count touched
 met_wide vars seen touched count rest len pending n w =
     let few = work_few vars seen touched count rest len pending w in
     let size = w.touched_size in
     take-append-le count touched (replicate n 0) (omega arith)
 
-pub rest_wide : (vars : ℕ) (seen : List Bool) (touched : List ℕ) (count : ℕ) (rest : List Literal) (len pending n : ℕ) (x : Literal) → IsWork vars seen touched count rest len pending → take len (rest ++ replicate n x) ≡ take len rest
+pub rest_wide : (vars : ℕ) (seen : List Bool) (touched : List ℕ) (count : ℕ) (rest : List Literal) (len pending n : ℕ) (x : Literal) →
+    IsWork vars seen touched count rest len pending → take len (rest ++ replicate n x) ≡ take len rest
 rest_wide vars seen touched count rest len pending n x w = take-append-le len rest (replicate n x) (rest_short vars seen touched count rest len pending w)
 
 -- how many literals of lower levels there are
-pub rest_len : (vars : ℕ) (seen : List Bool) (touched : List ℕ) (count : ℕ) (rest : List Literal) (len pending : ℕ) (w : Cut) → working_cut vars seen touched count rest len pending ≡ w → IsWork vars seen touched count rest len pending → len ≡ length w.rest
-rest_len vars seen touched count rest len pending w e k = sym (ap (λ (c : Cut). length c.rest) (sym e) ∙ length-take-le len rest (rest_short vars seen touched count rest len pending k))
+pub rest_len : (vars : ℕ) (seen : List Bool) (touched : List ℕ) (count : ℕ) (rest : List Literal) (len pending : ℕ) (w : Cut) →
+    working_cut vars seen touched count rest len pending ≡ w → IsWork vars seen touched count rest len pending → len ≡ length w.rest
+rest_len vars seen touched count rest len pending w e k = sym (ap (λ (c : Cut). length c.rest) (sym e)
+    ∙ length-take-le len rest (rest_short vars seen touched count rest len pending k))

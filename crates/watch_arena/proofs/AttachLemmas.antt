@@ -1,5 +1,6 @@
 -- One more clause behind the words.
-use Rattle.std.proofs.Common.{◌≡◌, ◌≢◌, ℕ, ◌+◌, ◌*◌, ◌/◌, ◌%◌, ◌<◌, ◌≤◌, ◌⊎◌, Bool, true, false, zero, suc, List, [], ◌∷◌, ◌++◌, length, get_or, refl, sym, ◌∙◌, ap, subst, inl, inr, arith, length-append}
+use Rattle.std.proofs.Common.{◌≡◌, ◌≢◌, ℕ, ◌+◌, ◌*◌, ◌/◌, ◌%◌, ◌<◌, ◌≤◌, ◌⊎◌, Bool, true, false, zero, suc, List, [], ◌∷◌, ◌++◌, length, get_or, refl, sym}
+use Rattle.std.proofs.Common.{◌∙◌, ap, subst, inl, inr, arith, length-append}
 use Rattle.std.specs.Prelude.{Contains, ◌^◌, map}
 use Rattle.std.proofs.lemmas.Bool.{cases_lt, cases_eq}
 use Rattle.std.proofs.lemmas.List.{get_or_append_left, get_or-append_right, length-map}
@@ -27,7 +28,9 @@ both_of t p e = elim (cases_eq (2 * p) t) [
 pub not_both_of : (t p : ℕ) → t / 2 ≢ p → times ((2 * p) ∷ (2 * p + 1) ∷ []) t ≡ 0
 not_both_of t p ne = times_tail (2 * p) t ((2 * p + 1) ∷ []) (λ e. ne (omega arith)) ∙ times_tail (2 * p + 1) t [] (λ e. ne (omega arith))
 
-module _ (vars : ℕ) (ws new heads places : List ℕ) (p : ℕ) (h : IsStore vars ws places) (is : p ≡ length ws) (small : length new < 2 ^ 30) (same : (i : ℕ) → i < length ws → arena_word new i ≡ arena_word ws i) (longer : length ws ≤ length new) (block : IsBlock vars new p) (size : length heads ≡ 2 * vars + 2) where
+module _ (vars : ℕ) (ws new heads places : List ℕ) (p : ℕ) (h : IsStore vars ws places) (is : p ≡ length ws) (small : length new < 2 ^ 30)
+    (same : (i : ℕ) → i < length ws → arena_word new i ≡ arena_word ws i) (longer : length ws ≤ length new) (block : IsBlock vars new p)
+    (size : length heads ≡ 2 * vars + 2) where
   old_block : (q : ℕ) → Contains places q → IsBlock vars new q
   old_block q c =
       let b = h.block q c in
@@ -39,7 +42,8 @@ module _ (vars : ℕ) (ws new heads places : List ℕ) (p : ℕ) (h : IsStore va
         two = omega arith;
         within = omega arith;
         lits = λ k lt. subst (λ n. IsLitWord vars n) (sym (same (q + 3 + k) (omega arith))) (b.lits k (omega arith));
-        distinct = λ j k lj lk ne e. b.distinct j k (omega arith) (omega arith) ne (ap (λ n. n / 2) (sym (same (q + 3 + j) (omega arith))) ∙ e ∙ ap (λ n. n / 2) (same (q + 3 + k) (omega arith)));
+        distinct = λ j k lj lk ne e. b.distinct j k (omega arith) (omega arith) ne
+        (ap (λ n. n / 2) (sym (same (q + 3 + j) (omega arith))) ∙ e ∙ ap (λ n. n / 2) (same (q + 3 + k) (omega arith)));
       }
 
   pub attach_store : IsStore vars new (places ++ p ∷ [])
@@ -64,7 +68,8 @@ module _ (vars : ℕ) (ws new heads places : List ℕ) (p : ℕ) (h : IsStore va
     ];
   }
 
-  old_lit : (t : ℕ) → Contains places (t / 2) → (arena_word new (lit_of t) ≡ arena_word ws (lit_of t)) × (arena_word new (link_of t) ≡ arena_word ws (link_of t)) × (arena_word new (other_of t) ≡ arena_word ws (other_of t)) × (t / 2 < p)
+  old_lit : (t : ℕ) → Contains places (t / 2) → (arena_word new (lit_of t) ≡ arena_word ws (lit_of t)) ×
+  (arena_word new (link_of t) ≡ arena_word ws (link_of t)) × (arena_word new (other_of t) ≡ arena_word ws (other_of t)) × (t / 2 < p)
   old_lit t c =
       let b = h.block (t / 2) c in
       let two = b.two in
@@ -75,7 +80,9 @@ module _ (vars : ℕ) (ws new heads places : List ℕ) (p : ℕ) (h : IsStore va
   attach_chains c = record {
     chains = c.chains;
     paths = λ w l. path_stays ws new (arena_word heads w) (c.chains w) (λ t m. let x = c.own w t l m in let o = old_lit t x.place in o.1) (c.paths w l);
-    own = λ w t l m. let x = c.own w t l m in let o = old_lit t x.place in record { place = Contains-append_left places (p ∷ []) (t / 2) x.place; lit = o.0 ∙ x.lit };
+    own = λ w t l m. let x = c.own w t l m in let o = old_lit t x.place in record {
+    place = Contains-append_left places (p ∷ []) (t / 2) x.place; lit = o.0 ∙ x.lit
+    };
     once = λ t m. elim (Contains-push_cases places p (t / 2) m) [
       | inl old ↦
           let o = old_lit t old in
@@ -89,9 +96,12 @@ module _ (vars : ℕ) (ws new heads places : List ℕ) (p : ℕ) (h : IsStore va
       gone : (t : ℕ) → p ≡ t / 2 → times (c.chains (arena_word new (lit_of t))) t ≡ 0
       gone t e = gone_by (cases_lt (arena_word new (lit_of t)) (length heads)) (cases_lt 0 (times (c.chains (arena_word new (lit_of t))) t))
         where
-          gone_by : (arena_word new (lit_of t) < length heads) ⊎ (length heads ≤ arena_word new (lit_of t)) → (0 < times (c.chains (arena_word new (lit_of t))) t) ⊎ (times (c.chains (arena_word new (lit_of t))) t ≤ 0) → times (c.chains (arena_word new (lit_of t))) t ≡ 0
+          gone_by : (arena_word new (lit_of t) < length heads) ⊎ (length heads ≤ arena_word new (lit_of t)) →
+          (0 < times (c.chains (arena_word new (lit_of t))) t) ⊎ (times (c.chains (arena_word new (lit_of t))) t ≤ 0) →
+          times (c.chains (arena_word new (lit_of t))) t ≡ 0
           gone_by l (inr z) = omega arith
-          gone_by (inl l) (inl some) = let x = c.own (arena_word new (lit_of t)) t l (in_times (c.chains (arena_word new (lit_of t))) t (omega arith)) in let o = old_lit t x.place in let lt = o.3 in absurd (omega arith)
+          gone_by (inl l) (inl some) = let x = c.own (arena_word new (lit_of t)) t l (in_times (c.chains (arena_word new (lit_of t))) t (omega arith)) in let
+          o = old_lit t x.place in let lt = o.3 in absurd (omega arith)
           gone_by (inr g) (inl some) =
               let two = block.two in
               let l = block.lits (t % 2) (omega arith) in
@@ -114,7 +124,8 @@ word_from l from = by_sign l.var l.positive from
     by_sign x true h = omega arith
     by_sign x false h = omega arith
 
-module _ (vars : ℕ) (ws : List ℕ) (lits : List Literal) (from : 1 ≤ length ws) (two : 2 ≤ length lits) (there : AreThere vars lits) (distinct : AreDistinct lits) where
+module _ (vars : ℕ) (ws : List ℕ) (lits : List Literal) (from : 1 ≤ length ws) (two : 2 ≤ length lits) (there : AreThere vars lits)
+    (distinct : AreDistinct lits) where
   pub behind : (i : ℕ) → arena_word (ws ++ block_of lits) (length ws + i) ≡ arena_word (block_of lits) i
   behind i = get_or-append_right ws (block_of lits) (length ws) (length ws + i) 0 refl (omega arith) ∙ ap (arena_word (block_of lits)) (omega arith)
 
@@ -147,12 +158,15 @@ module _ (vars : ℕ) (ws : List ℕ) (lits : List Literal) (from : 1 ≤ length
         two = omega arith;
         within = omega arith;
         lits = λ k lt. subst (λ n. IsLitWord vars n) (sym (behind_lit k (literal 0 true) (omega arith)))
-            (let x = there_get vars lits k (literal 0 true) (omega arith) there in record { from = word_from (get_or lits k (literal 0 true)) x.0; below = word_below vars (get_or lits k (literal 0 true)) x });
+            (let x = there_get vars lits k (literal 0 true) (omega arith) there in record {
+            from = word_from (get_or lits k (literal 0 true)) x.0; below = word_below vars (get_or lits k (literal 0 true)) x
+            });
         distinct = λ j k lj lk ne e.
             let lj2 : j < length lits = omega arith in
             let lk2 : k < length lits = omega arith in
             let vars_same : (get_or lits j (literal 0 true)).var ≡ (get_or lits k (literal 0 true)).var =
-            sym (half (get_or lits j (literal 0 true))) ∙ ap (λ n. n / 2) (sym (behind_lit j (literal 0 true) lj2)) ∙ e ∙ ap (λ n. n / 2) (behind_lit k (literal 0 true) lk2) ∙ half (get_or lits k (literal 0 true)) in
+            sym (half (get_or lits j (literal 0 true))) ∙ ap (λ n. n / 2) (sym (behind_lit j (literal 0 true) lj2)) ∙ e
+            ∙ ap (λ n. n / 2) (behind_lit k (literal 0 true) lk2) ∙ half (get_or lits k (literal 0 true)) in
             elim (cases_lt j k) [
               | inl l ↦ pairs_from_distinct lits distinct j k (literal 0 true) l lk2 vars_same
               | inr g ↦ pairs_from_distinct lits distinct k j (literal 0 true) (omega arith) lj2 (sym vars_same)
@@ -160,7 +174,8 @@ module _ (vars : ℕ) (ws : List ℕ) (lits : List Literal) (from : 1 ≤ length
       }
 
 -- both watches are put into their chains
-pub linked : (vars : ℕ) (ws mid new heads next then places : List ℕ) (p a b : ℕ) → IsUnlinked vars ws heads places p a b → Pushed ws mid heads next (2 * p) a → Pushed mid new next then (2 * p + 1) b → IsLinked vars new then places
+pub linked : (vars : ℕ) (ws mid new heads next then places : List ℕ) (p a b : ℕ) → IsUnlinked vars ws heads places p a b → Pushed ws mid heads next (2 * p) a →
+    Pushed mid new next then (2 * p + 1) b → IsLinked vars new then places
 linked vars ws mid new heads next then places p a b k d e =
     let h = k.store in
     let place = k.place in
@@ -188,7 +203,8 @@ linked vars ws mid new heads next then places p a b k d e =
     record {
       store = link_store vars mid new places (2 * p + 1) (arena_word next b) h2 here2 link2;
       size = omega arith;
-      chains = push_chains vars mid new next then places [] (2 * p + 1) b h2 here2 lb (omega arith) (push_chains vars ws mid heads next places ((2 * p + 1) ∷ []) (2 * p) a h here la (omega arith) k.chains d) e;
+      chains = push_chains vars mid new next then places [] (2 * p + 1) b h2 here2 lb (omega arith)
+      (push_chains vars ws mid heads next places ((2 * p + 1) ∷ []) (2 * p) a h here la (omega arith) k.chains d) e;
     }
 
 -- what the writes of its links need
@@ -213,8 +229,10 @@ both_ready vars ws heads places p a b k =
     let second = k.second in
     record { within = omega arith; limit = h.room_limit; first = omega arith; second = omega arith }
 
-pub unlinked : (vars : ℕ) (ws heads places : List ℕ) (lits : List Literal) → IsLinked vars ws heads places → 1 ≤ length ws → length ws + 3 + length lits < 2 ^ 30 → 2 ≤ length lits → AreThere vars lits → AreDistinct lits →
-    (x y : Literal) → get_or lits 0 x ≡ x → get_or lits 1 y ≡ y → IsUnlinked vars (ws ++ block_of lits) heads (places ++ length ws ∷ []) (length ws) (word_of x) (word_of y)
+pub unlinked : (vars : ℕ) (ws heads places : List ℕ) (lits : List Literal) → IsLinked vars ws heads places → 1 ≤ length ws →
+    length ws + 3 + length lits < 2 ^ 30 → 2 ≤ length lits → AreThere vars lits → AreDistinct lits →
+    (x y : Literal) → get_or lits 0 x ≡ x → get_or lits 1 y ≡ y →
+    IsUnlinked vars (ws ++ block_of lits) heads (places ++ length ws ∷ []) (length ws) (word_of x) (word_of y)
 unlinked vars ws heads places lits k from small two there distinct x y ex ey =
     let h = k.store in
     let size = behind_length vars ws lits from two there distinct in
@@ -230,7 +248,8 @@ unlinked vars ws heads places lits k from small two there distinct x y ex ey =
     }
 
 -- the links of a new clause change no literal
-pub linked_lits : (vars : ℕ) (ws mid new heads next then places : List ℕ) (p a b : ℕ) → IsUnlinked vars ws heads places p a b → Pushed ws mid heads next (2 * p) a → Pushed mid new next then (2 * p + 1) b → KeepsLits places ws new
+pub linked_lits : (vars : ℕ) (ws mid new heads next then places : List ℕ) (p a b : ℕ) → IsUnlinked vars ws heads places p a b →
+    Pushed ws mid heads next (2 * p) a → Pushed mid new next then (2 * p + 1) b → KeepsLits places ws new
 linked_lits vars ws mid new heads next then places p a b k d e =
     let place = k.place in
     let here : Contains places ((2 * p) / 2) = subst (λ n. Contains places n) (omega arith) place in
@@ -238,11 +257,14 @@ linked_lits vars ws mid new heads next then places p a b k d e =
     let link : Wrote ws mid (link_of (2 * p)) (arena_word heads a) = d.link in
     let link2 : Wrote mid new (link_of (2 * p + 1)) (arena_word next b) = e.link in
     let h2 = link_store vars ws mid places (2 * p) (arena_word heads a) k.store here link in
-    keeps_lits_push vars ws mid new places (2 * p + 1) (arena_word next b) h2 here2 link2 (keeps_lits_push vars ws ws mid places (2 * p) (arena_word heads a) k.store here link (keeps_lits_none places ws))
+    keeps_lits_push vars ws mid new places (2 * p + 1) (arena_word next b) h2 here2 link2
+    (keeps_lits_push vars ws ws mid places (2 * p) (arena_word heads a) k.store here link (keeps_lits_none places ws))
 
 -- the words behind the others hold the clause
-pub behind_lits : (vars : ℕ) (ws : List ℕ) (lits : List Literal) (from : 1 ≤ length ws) (two : 2 ≤ length lits) (there : AreThere vars lits) (distinct : AreDistinct lits) → lits_at (ws ++ block_of lits) (length ws) ≡ lits
-behind_lits vars ws lits from two there distinct = lits_are (ws ++ block_of lits) (length ws) lits len (λ k d lt. ap literal_at (behind_lit vars ws lits from two there distinct k d lt) ∙ literal_word (get_or lits k d))
+pub behind_lits : (vars : ℕ) (ws : List ℕ) (lits : List Literal) (from : 1 ≤ length ws) (two : 2 ≤ length lits) (there : AreThere vars lits)
+    (distinct : AreDistinct lits) → lits_at (ws ++ block_of lits) (length ws) ≡ lits
+behind_lits vars ws lits from two there distinct = lits_are (ws ++ block_of lits) (length ws) lits len
+    (λ k d lt. ap literal_at (behind_lit vars ws lits from two there distinct k d lt) ∙ literal_word (get_or lits k d))
   where
     len : arena_word (ws ++ block_of lits) (length ws) ≡ length lits
     len = ap (arena_word (ws ++ block_of lits)) (omega arith) ∙ behind vars ws lits from two there distinct 0

@@ -11,15 +11,25 @@ use Rattle.cnf_core.proofs.TrailLemmas.{distinct_consistent}
 use Rattle.watch_arena.specs.Words.{arena_word, lit_of, other_of, IsStore}
 use Rattle.watch_arena.specs.Trail.{Marks, IsMarks, IsLonger, advanced}
 use Rattle.cnf_core.specs.Trail.{Grows}
-use Rattle.watch_arena.specs.Walk.{lit_at, past_of, IsTrueNoLater, IsClauseAt, HoldsClauses, KeepsClauses, AreGuarded, HasWalked, IsClash, KeepsLits, Closes, Clashes, IsReasoned}
+use Rattle.watch_arena.specs.Walk.{lit_at, past_of, IsTrueNoLater, IsClauseAt, HoldsClauses, KeepsClauses, AreGuarded, HasWalked, IsClash, KeepsLits, Closes}
+use Rattle.watch_arena.specs.Walk.{Clashes, IsReasoned}
 use Rattle.watch_arena.proofs.ReasonLemmas.{text_kept, reasoned_text, reason_kept, reason_grown, none_because}
 use Rattle.cnf_core.proofs.GrowthLemmas.{grows_none, grows_more}
 use Rattle.watch_arena.proofs.WalkLemmas.{longer_none, longer_more}
 
 pub made_none : (m : Marks) (ws places : List ℕ) → HasWalked m m ws ws places
-made_none m ws places = record { longer = longer_none m; propagated = omega arith; because = none_because m ws places; grows = λ clauses t. grows_none clauses m.lits; text = λ p c d is. is; reasoned = λ r. r; reasons = λ i d lt. refl }
+made_none m ws places = record {
+  longer = longer_none m;
+  propagated = omega arith;
+  because = none_because m ws places;
+  grows = λ clauses t. grows_none clauses m.lits;
+  text = λ p c d is. is;
+  reasoned = λ r. r;
+  reasons = λ i d lt. refl;
+}
 
-pub made_more : (old mid new : Marks) (ws then now places : List ℕ) → HasWalked old mid ws then places → HasWalked mid new then now places → HasWalked old new ws now places
+pub made_more : (old mid new : Marks) (ws then now places : List ℕ) → HasWalked old mid ws then places → HasWalked mid new then now places →
+    HasWalked old new ws now places
 made_more old mid new ws then now places a b = record {
   longer = longer_more old mid new a.longer b.longer;
   propagated = let x = a.propagated in let y = b.propagated in omega arith;
@@ -33,13 +43,17 @@ made_more old mid new ws then now places a b = record {
   reasons = λ i d lt.
       let l = a.longer in
       let longer = l.longer in
-      let at : get_or old.lits i d ≡ get_or mid.lits i d = ap (λ (ls : List Literal). get_or ls i d) (sym l.front) ∙ get_or-take (length old.lits) mid.lits i d lt in
-      ap (λ (m : Literal). get_or new.reasons m.var 0) at ∙ b.reasons i d (omega arith) ∙ ap (λ (m : Literal). get_or mid.reasons m.var 0) (sym at) ∙ a.reasons i d lt;
+      let at : get_or old.lits i d ≡ get_or mid.lits i d = ap (λ (ls : List Literal). get_or ls i d) (sym l.front)
+      ∙ get_or-take (length old.lits) mid.lits i d lt in
+      ap (λ (m : Literal). get_or new.reasons m.var 0) at ∙ b.reasons i d (omega arith) ∙ ap (λ (m : Literal). get_or mid.reasons m.var 0) (sym at)
+      ∙ a.reasons i d lt;
 }
 
 -- one clause of which each watch is true where the other is false
-module _ (set : LiteralSet) (ws : List ℕ) (p : ℕ) (c : List Literal) (is : IsClauseAt ws p c) (two : 2 ≤ arena_word ws p) (differ : arena_word ws (p + 3 + 0) / 2 ≢ arena_word ws (p + 3 + 1) / 2) (consistent : IsConsistent set)
-    (first : IsIn set (negate (lit_at ws (p + 3 + 0))) → IsIn set (lit_at ws (p + 3 + 1))) (second : IsIn set (negate (lit_at ws (p + 3 + 1))) → IsIn set (lit_at ws (p + 3 + 0))) where
+module _ (set : LiteralSet) (ws : List ℕ) (p : ℕ) (c : List Literal) (is : IsClauseAt ws p c) (two : 2 ≤ arena_word ws p)
+    (differ : arena_word ws (p + 3 + 0) / 2 ≢ arena_word ws (p + 3 + 1) / 2) (consistent : IsConsistent set)
+    (first : IsIn set (negate (lit_at ws (p + 3 + 0))) → IsIn set (lit_at ws (p + 3 + 1)))
+    (second : IsIn set (negate (lit_at ws (p + 3 + 1))) → IsIn set (lit_at ws (p + 3 + 0))) where
   first_in : Contains c (lit_at ws (p + 3 + 0))
   first_in = (is (lit_at ws (p + 3 + 0))).1 (0, omega arith, refl)
 
@@ -61,9 +75,11 @@ module _ (set : LiteralSet) (ws : List ℕ) (p : ℕ) (c : List Literal) (is : I
 
   pub clause_unfalsified : All (λ k. IsIn set (negate k)) c → ⊥
   clause_unfalsified all =
-      consistent (lit_at ws (p + 3 + 1)) (first (All-contains (λ k. IsIn set (negate k)) c (lit_at ws (p + 3 + 0)) all first_in)) (All-contains (λ k. IsIn set (negate k)) c (lit_at ws (p + 3 + 1)) all second_in)
+      consistent (lit_at ws (p + 3 + 1)) (first (All-contains (λ k. IsIn set (negate k)) c (lit_at ws (p + 3 + 0)) all first_in))
+      (All-contains (λ k. IsIn set (negate k)) c (lit_at ws (p + 3 + 1)) all second_in)
 
-module _ (m : Marks) (ws places : List ℕ) (marks : IsMarks m) (store : IsStore m.vars ws places) (quiet : AreGuarded ws places (past_of m) m []) (all : m.front ≡ length m.lits) where
+module _ (m : Marks) (ws places : List ℕ) (marks : IsMarks m) (store : IsStore m.vars ws places) (quiet : AreGuarded ws places (past_of m) m [])
+    (all : m.front ≡ length m.lits) where
   past_all : past_of m ≡ has m.lits
   past_all = ap has (take_all m.front m.lits (omega arith))
 
@@ -72,7 +88,8 @@ module _ (m : Marks) (ws places : List ℕ) (marks : IsMarks m) (store : IsStore
       let lit : lit_of (2 * p) ≡ p + 3 + 0 = omega arith in
       let other : other_of (2 * p) ≡ p + 3 + 1 = omega arith in
       let here : Contains places ((2 * p) / 2) = subst (λ n. Contains places n) (omega arith) c in
-      let f2 : IsIn (past_of m) (negate (lit_at ws (lit_of (2 * p)))) = subst (λ (s : LiteralSet). IsIn s (negate (lit_at ws (lit_of (2 * p))))) (sym past_all) (subst (λ n. IsIn (has m.lits) (negate (lit_at ws n))) (sym lit) f) in
+      let f2 : IsIn (past_of m) (negate (lit_at ws (lit_of (2 * p)))) = subst (λ (s : LiteralSet). IsIn s (negate (lit_at ws (lit_of (2 * p))))) (sym past_all)
+      (subst (λ n. IsIn (has m.lits) (negate (lit_at ws n))) (sym lit) f) in
       let held : IsTrueNoLater m (negate (lit_at ws (lit_of (2 * p)))) (lit_at ws (other_of (2 * p))) = quiet (2 * p) here refl f2 in
       subst (λ n. IsIn (has m.lits) (lit_at ws n)) other held.now
 
@@ -81,7 +98,8 @@ module _ (m : Marks) (ws places : List ℕ) (marks : IsMarks m) (store : IsStore
       let lit : lit_of (2 * p + 1) ≡ p + 3 + 1 = omega arith in
       let other : other_of (2 * p + 1) ≡ p + 3 + 0 = omega arith in
       let here : Contains places ((2 * p + 1) / 2) = subst (λ n. Contains places n) (omega arith) c in
-      let f2 : IsIn (past_of m) (negate (lit_at ws (lit_of (2 * p + 1)))) = subst (λ (s : LiteralSet). IsIn s (negate (lit_at ws (lit_of (2 * p + 1))))) (sym past_all) (subst (λ n. IsIn (has m.lits) (negate (lit_at ws n))) (sym lit) f) in
+      let f2 : IsIn (past_of m) (negate (lit_at ws (lit_of (2 * p + 1)))) = subst (λ (s : LiteralSet). IsIn s (negate (lit_at ws (lit_of (2 * p + 1)))))
+      (sym past_all) (subst (λ n. IsIn (has m.lits) (negate (lit_at ws n))) (sym lit) f) in
       let held : IsTrueNoLater m (negate (lit_at ws (lit_of (2 * p + 1)))) (lit_at ws (other_of (2 * p + 1))) = quiet (2 * p + 1) here refl f2 in
       subst (λ n. IsIn (has m.lits) (lit_at ws n)) other held.now
 
@@ -91,7 +109,8 @@ module _ (m : Marks) (ws places : List ℕ) (marks : IsMarks m) (store : IsStore
       let h = store in
       let b = h.block d.0 d.1 in
       let two = b.two in
-      clause_closed (has m.lits) ws d.0 c d.2 two (b.distinct 0 1 (omega arith) (omega arith) (omega arith)) (distinct_consistent m.lits marks.distinct) (first_true d.0 d.1) (second_true d.0 d.1) l unit
+      clause_closed (has m.lits) ws d.0 c d.2 two (b.distinct 0 1 (omega arith) (omega arith) (omega arith)) (distinct_consistent m.lits marks.distinct)
+      (first_true d.0 d.1) (second_true d.0 d.1) l unit
 
   pub watched_unfalsified : (clauses : Clauses) → HoldsClauses clauses ws places → Falsified clauses (has m.lits) → ⊥
   watched_unfalsified clauses t f =
@@ -99,9 +118,11 @@ module _ (m : Marks) (ws places : List ℕ) (marks : IsMarks m) (store : IsStore
       let h = store in
       let b = h.block d.0 d.1 in
       let two = b.two in
-      clause_unfalsified (has m.lits) ws d.0 f.clause d.2 two (b.distinct 0 1 (omega arith) (omega arith) (omega arith)) (distinct_consistent m.lits marks.distinct) (first_true d.0 d.1) (second_true d.0 d.1) f.each
+      clause_unfalsified (has m.lits) ws d.0 f.clause d.2 two (b.distinct 0 1 (omega arith) (omega arith) (omega arith))
+      (distinct_consistent m.lits marks.distinct) (first_true d.0 d.1) (second_true d.0 d.1) f.each
 
-pub watched_closes : (old new : Marks) (start ws places : List ℕ) → IsMarks new → HasWalked old new start ws places → IsStore new.vars ws places → AreGuarded ws places (past_of new) new [] → new.front ≡ length new.lits → Closes places start old.lits new.lits
+pub watched_closes : (old new : Marks) (start ws places : List ℕ) → IsMarks new → HasWalked old new start ws places → IsStore new.vars ws places →
+    AreGuarded ws places (past_of new) new [] → new.front ≡ length new.lits → Closes places start old.lits new.lits
 watched_closes old new start ws places marks made store quiet all = λ clauses t.
     let now = text_kept clauses start ws places made.text t in
     let grown = made.grows clauses t in
@@ -113,7 +134,8 @@ watched_closes old new start ws places marks made store quiet all = λ clauses t
       unfalsified = watched_unfalsified new ws places marks store quiet all clauses now;
     }
 
-pub clash_clashes : (old new : Marks) (start ws places : List ℕ) (p : ℕ) → HasWalked old new start ws places → IsClash ws places (has new.lits) p → Clashes places start old.lits
+pub clash_clashes : (old new : Marks) (start ws places : List ℕ) (p : ℕ) → HasWalked old new start ws places → IsClash ws places (has new.lits) p →
+    Clashes places start old.lits
 clash_clashes old new start ws places p made clash = λ clauses t.
     let now = text_kept clauses start ws places made.text t in
     let grown : Grows clauses old.lits new.lits = made.grows clauses t in
@@ -123,17 +145,20 @@ clash_clashes old new start ws places p made clash = λ clauses t.
     record {
       clause = c;
       among = held.1;
-      each = All-weaker (Contains c) (λ k. Closure clauses (has old.lits) (negate k)) (λ k among. grown.within (negate k) (falsified k ((is k).0 among))) c (All-contains_itself c);
+      each = All-weaker (Contains c) (λ k. Closure clauses (has old.lits) (negate k)) (λ k among. grown.within (negate k) (falsified k ((is k).0 among))) c
+          (All-contains_itself c);
     }
   where
     falsified : (k : Literal) → (n : ℕ) × (n < arena_word ws p) × (lit_at ws (p + 3 + n) ≡ k) → IsIn (has new.lits) (negate k)
     falsified k n = subst (λ (l : Literal). IsIn (has new.lits) (negate l)) n.2 (clash.false_all n.0 n.1)
 
-pub made_text : (old new : Marks) (ws then now places : List ℕ) → HasWalked old new ws then places → KeepsClauses places then now → HasWalked old new ws now places
+pub made_text : (old new : Marks) (ws then now places : List ℕ) → HasWalked old new ws then places → KeepsClauses places then now →
+    HasWalked old new ws now places
 made_text old new ws then now places a t = record {
   longer = a.longer;
   propagated = a.propagated;
-  because = λ i d from lt. reason_kept then now places (take i new.lits) (get_or new.lits i d) (get_or new.reasons (get_or new.lits i d).var 0) t (a.because i d from lt);
+  because = λ i d from lt. reason_kept then now places (take i new.lits) (get_or new.lits i d) (get_or new.reasons (get_or new.lits i d).var 0) t
+      (a.because i d from lt);
   grows = a.grows;
   text = λ p c d is. t p c d (a.text p c d is);
   reasoned = λ r. reasoned_text new then now places t (a.reasoned r);
@@ -143,10 +168,26 @@ made_text old new ws then now places a t = record {
 pub made_advanced : (old new : Marks) (ws now places : List ℕ) → HasWalked old new ws now places → HasWalked old (advanced new) ws now places
 made_advanced old new ws now places a =
     let l : IsLonger old new = a.longer in
-    record { longer = record { vars = l.vars; cuts = l.cuts; front = l.front; longer = l.longer; keeps = l.keeps }; propagated = let x = a.propagated in omega arith; because = a.because; grows = a.grows; text = a.text; reasoned = λ r. let x : IsReasoned new now places = a.reasoned r in record { reason = x.reason; decided = x.decided; begins = x.begins }; reasons = a.reasons }
+    record {
+      longer = record {
+        vars = l.vars;
+        cuts = l.cuts;
+        front = l.front;
+        longer = l.longer;
+        keeps = l.keeps;
+      };
+      propagated = let x = a.propagated in omega arith;
+      because = a.because;
+      grows = a.grows;
+      text = a.text;
+      reasoned = λ r. let x : IsReasoned new now
+          places = a.reasoned r in record { reason = x.reason; decided = x.decided; begins = x.begins };
+      reasons = a.reasons;
+    }
 
 pub clash_kept : (ws now places : List ℕ) (set : LiteralSet) (p : ℕ) → IsClash ws places set p → KeepsLits places ws now → IsClash now places set p
 clash_kept ws now places set p x k = record {
   place = x.place;
-  false_all = λ j lt. let size = k.size p x.place in let lt2 : j < arena_word ws p = omega arith in subst (λ n. IsIn set (negate (literal_at n))) (sym (k.lits p j x.place lt2)) (x.false_all j lt2);
+  false_all = λ j lt. let size = k.size p x.place in let lt2 : j < arena_word ws p = omega arith in subst (λ n. IsIn set (negate (literal_at n)))
+      (sym (k.lits p j x.place lt2)) (x.false_all j lt2);
 }

@@ -31,7 +31,8 @@ level_of_new [] n i le = let one = one_from n i le in omega arith
 level_of_new (m ∷ cuts) n i le = let rest = level_of_new cuts n i le in omega arith
 
 -- the levels that begin later don't matter
-pub level_take : (cuts : List ℕ) (level i : ℕ) → ((k : ℕ) → level ≤ k → k < length cuts → i < get_or cuts k 0) → trail_level (take level cuts) i ≡ trail_level cuts i
+pub level_take : (cuts : List ℕ) (level i : ℕ) → ((k : ℕ) → level ≤ k → k < length cuts → i < get_or cuts k 0) →
+    trail_level (take level cuts) i ≡ trail_level cuts i
 level_take [] zero i h = refl
 level_take [] (suc level) i h = refl
 level_take (n ∷ cuts) zero i h =

@@ -29,7 +29,8 @@ module _ (vars : ℕ) (ws new places : List ℕ) (h : IsStore vars ws places) (f
     lits = λ q k c lt. let b = h.block q c in let within = b.within in front (q + 3 + k) (omega arith);
   }
 
-  front_watch : (t : ℕ) → Contains places (t / 2) → (arena_word new (lit_of t) ≡ arena_word ws (lit_of t)) × (arena_word new (link_of t) ≡ arena_word ws (link_of t)) × (arena_word new (other_of t) ≡ arena_word ws (other_of t))
+  front_watch : (t : ℕ) → Contains places (t / 2) → (arena_word new (lit_of t) ≡ arena_word ws (lit_of t)) ×
+  (arena_word new (link_of t) ≡ arena_word ws (link_of t)) × (arena_word new (other_of t) ≡ arena_word ws (other_of t))
   front_watch t c =
       let b = h.block (t / 2) c in
       let two = b.two in
@@ -40,7 +41,8 @@ module _ (vars : ℕ) (ws new places : List ℕ) (h : IsStore vars ws places) (f
   front_chains : (heads longs : List ℕ) → ((q : ℕ) → Contains longs q → Contains places q) → HasChains ws heads longs [] → HasChains new heads longs []
   front_chains heads longs among c = record {
     chains = c.chains;
-    paths = λ w lt. path_stays ws new (arena_word heads w) (c.chains w) (λ t m. let x = c.own w t lt m in let f = front_watch t (among (t / 2) x.place) in f.1) (c.paths w lt);
+    paths = λ w lt. path_stays ws new (arena_word heads w) (c.chains w) (λ t m. let x = c.own w t lt m in let f = front_watch t (among (t / 2) x.place) in f.1)
+    (c.paths w lt);
     own = λ w t lt m. let x = c.own w t lt m in let f = front_watch t (among (t / 2) x.place) in record { place = x.place; lit = f.0 ∙ x.lit };
     once = λ t m. let f = front_watch t (among (t / 2) m) in subst (λ v. times (c.chains v) t + times [] t ≡ 1) (sym f.0) (c.once t m);
   }
@@ -57,8 +59,10 @@ module _ (vars : ℕ) (ws new places : List ℕ) (h : IsStore vars ws places) (f
         clause = y.clause;
       }
 
-  front_right : (p : ℕ) (lists : List (List Pair)) → HasPairs ws places lists → (v : ℕ) → v < length lists → All (IsEntry new (places ++ p ∷ []) v) (get_or lists v [])
-  front_right p lists x v lt = All-weaker (IsEntry ws places v) (IsEntry new (places ++ p ∷ []) v) (λ pair y. front_pair p v pair y) (get_or lists v []) (x.right v lt)
+  front_right : (p : ℕ) (lists : List (List Pair)) → HasPairs ws places lists → (v : ℕ) → v < length lists →
+  All (IsEntry new (places ++ p ∷ []) v) (get_or lists v [])
+  front_right p lists x v lt = All-weaker (IsEntry ws places v) (IsEntry new (places ++ p ∷ []) v) (λ pair y. front_pair p v pair y) (get_or lists v [])
+  (x.right v lt)
 
   front_all : (lists : List (List Pair)) → HasPairs ws places lists → (s : ℕ) → Contains places (s / 2) → arena_word new (s / 2) ≡ 2 →
       (pair : Pair) × Contains (get_or lists (arena_word new (lit_of s)) []) pair × (pair.other ≡ lit_at new (other_of s))
@@ -107,7 +111,8 @@ module _ (vars : ℕ) (ws new places : List ℕ) (h : IsStore vars ws places) (f
     }
 
     -- the entry of one of its watches
-    own_pair : (s : ℕ) (o : Literal) → s / 2 ≡ clause.0 → lit_at new (other_of s) ≡ o → IsEntry new (places ++ clause.0 ∷ []) (arena_word new (lit_of s)) (record { other = o; clause = clause })
+    own_pair : (s : ℕ) (o : Literal) → s / 2 ≡ clause.0 → lit_at new (other_of s) ≡ o →
+    IsEntry new (places ++ clause.0 ∷ []) (arena_word new (lit_of s)) (record { other = o; clause = clause })
     own_pair s o e is = record {
       watch = s;
       is = record { place = subst (Contains (places ++ clause.0 ∷ [])) (sym e) (Contains-push places clause.0); two = ap (arena_word new) e ∙ two };
@@ -116,7 +121,8 @@ module _ (vars : ℕ) (ws new places : List ℕ) (h : IsStore vars ws places) (f
       clause = sym e;
     }
 
-    module _ (lists : List (List Pair)) (a b : Literal) (first : arena_word new (clause.0 + 3 + 0) ≡ word_of a) (second : arena_word new (clause.0 + 3 + 1) ≡ word_of b) (below_a : word_of a < length lists) (below_b : word_of b < length lists) where
+    module _ (lists : List (List Pair)) (a b : Literal) (first : arena_word new (clause.0 + 3 + 0) ≡ word_of a)
+    (second : arena_word new (clause.0 + 3 + 1) ≡ word_of b) (below_a : word_of a < length lists) (below_b : word_of b < length lists) where
       abbrev one : Pair
       one = record { other = b; clause = clause }
 
@@ -142,28 +148,34 @@ module _ (vars : ℕ) (ws new places : List ℕ) (h : IsStore vars ws places) (f
       other_other = omega arith
 
       is_one : IsEntry new (places ++ clause.0 ∷ []) (word_of a) one
-      is_one = subst (λ v. IsEntry new (places ++ clause.0 ∷ []) v one) (ap (arena_word new) lit_one ∙ first) (own_pair (2 * clause.0) b (omega arith) (ap (lit_at new) other_one ∙ ap literal_at second ∙ literal_word b))
+      is_one = subst (λ v. IsEntry new (places ++ clause.0 ∷ []) v one) (ap (arena_word new) lit_one
+      ∙ first) (own_pair (2 * clause.0) b (omega arith) (ap (lit_at new) other_one ∙ ap literal_at second ∙ literal_word b))
 
       is_other : IsEntry new (places ++ clause.0 ∷ []) (word_of b) other
-      is_other = subst (λ v. IsEntry new (places ++ clause.0 ∷ []) v other) (ap (arena_word new) lit_other ∙ second) (own_pair (2 * clause.0 + 1) a (omega arith) (ap (lit_at new) other_other ∙ ap literal_at first ∙ literal_word a))
+      is_other = subst (λ v. IsEntry new (places ++ clause.0 ∷ []) v other) (ap (arena_word new) lit_other
+      ∙ second) (own_pair (2 * clause.0 + 1) a (omega arith) (ap (lit_at new) other_other ∙ ap literal_at first ∙ literal_word a))
 
       kept : (v : ℕ) (x : Pair) → Contains (get_or lists v []) x → Contains (get_or (both_listed lists clause a b) v []) x
       kept v x c = listed_keeps mid (word_of b) other v x (omega (arith, size)) (listed_keeps lists (word_of a) one v x below_a c)
 
-      new_all : (s : ℕ) → clause.0 ≡ s / 2 → (pair : Pair) × Contains (get_or (both_listed lists clause a b) (arena_word new (lit_of s)) []) pair × (pair.other ≡ lit_at new (other_of s))
+      new_all : (s : ℕ) → clause.0 ≡ s / 2 → (pair : Pair) × Contains (get_or (both_listed lists clause a b) (arena_word new (lit_of s)) []) pair ×
+      (pair.other ≡ lit_at new (other_of s))
       new_all s e = elim (cases_eq (s % 2) 0) [
         | inl z ↦
             let at : lit_of s ≡ clause.0 + 3 + 0 = omega arith in
             let at_other : other_of s ≡ clause.0 + 3 + 1 = omega arith in (
               one,
-              subst (λ v. Contains (get_or (both_listed lists clause a b) v []) one) (sym (ap (arena_word new) at ∙ first)) (listed_keeps mid (word_of b) other (word_of a) one (omega (arith, size)) (listed_here lists (word_of a) one below_a)),
+              subst (λ v. Contains (get_or (both_listed lists clause a b) v []) one)
+              (sym (ap (arena_word new) at ∙ first)) (listed_keeps mid (word_of b) other (word_of a) one (omega (arith, size))
+              (listed_here lists (word_of a) one below_a)),
               sym (ap (lit_at new) at_other ∙ ap literal_at second ∙ literal_word b),
             )
         | inr n ↦
             let at : lit_of s ≡ clause.0 + 3 + 1 = omega arith in
             let at_other : other_of s ≡ clause.0 + 3 + 0 = omega arith in (
               other,
-              subst (λ v. Contains (get_or (both_listed lists clause a b) v []) other) (sym (ap (arena_word new) at ∙ second)) (listed_here mid (word_of b) other (omega (arith, size))),
+              subst (λ v. Contains (get_or (both_listed lists clause a b) v []) other)
+              (sym (ap (arena_word new) at ∙ second)) (listed_here mid (word_of b) other (omega (arith, size))),
               sym (ap (lit_at new) at_other ∙ ap literal_at first ∙ literal_word a),
             )
       ]
@@ -180,7 +192,8 @@ module _ (vars : ℕ) (ws new places : List ℕ) (h : IsStore vars ws places) (f
       }
 
 -- a clause of three literals or more is filed
-pub filed_long : (vars : ℕ) (ws new heads then places longs : List ℕ) (lists : List (List Pair)) (lits : List Literal) → AreFiled vars ws heads places longs lists → IsLinked vars new then (longs ++ length ws ∷ []) → KeepsFront ws new →
+pub filed_long : (vars : ℕ) (ws new heads then places longs : List ℕ) (lists : List (List Pair)) (lits : List Literal) →
+    AreFiled vars ws heads places longs lists → IsLinked vars new then (longs ++ length ws ∷ []) → KeepsFront ws new →
     lits_at new (length ws) ≡ lits → 3 ≤ length lits → AreFiled vars new then (places ++ length ws ∷ []) (longs ++ length ws ∷ []) lists
 filed_long vars ws new heads then places longs lists lits f linked front is three =
     let store = linked.store in
@@ -199,18 +212,23 @@ filed_long vars ws new heads then places longs lists lits f linked front is thre
     }
 
 -- what stands in chains is linked
-pub filed_linked : (vars : ℕ) (ws heads places longs : List ℕ) (lists : List (List Pair)) → AreFiled vars ws heads places longs lists → IsLinked vars ws heads longs
+pub filed_linked : (vars : ℕ) (ws heads places longs : List ℕ) (lists : List (List Pair)) → AreFiled vars ws heads places longs lists →
+    IsLinked vars ws heads longs
 filed_linked vars ws heads places longs lists f =
     let h = f.store in
     let split = f.split in
     record {
-      store = record { vars_limit = h.vars_limit; room_limit = h.room_limit; block = λ p c. h.block p (split.among p c); apart = λ p q c d lt. h.apart p q (split.among p c) (split.among q d) lt };
+      store = record {
+      vars_limit = h.vars_limit; room_limit = h.room_limit; block = λ p c. h.block p (split.among p c); apart = λ p q c d lt. h.apart p q (split.among p c)
+      (split.among q d) lt
+      };
       size = f.size;
       chains = f.chains;
     }
 
 -- a clause of two literals is filed
-pub filed_pair : (vars : ℕ) (ws heads places longs : List ℕ) (lists : List (List Pair)) (lits : List Literal) (clause : ClauseRef) (a b : Literal) → AreFiled vars ws heads places longs lists → clause.0 ≡ length ws →
+pub filed_pair : (vars : ℕ) (ws heads places longs : List ℕ) (lists : List (List Pair)) (lits : List Literal) (clause : ClauseRef) (a b : Literal) →
+    AreFiled vars ws heads places longs lists → clause.0 ≡ length ws →
     length ws + length lits + 3 < 2 ^ 30 → length lits ≡ 2 → AreThere vars lits → AreDistinct lits → get_or lits 0 a ≡ a → get_or lits 1 b ≡ b →
     AreFiled vars (ws ++ block_of lits) heads (places ++ clause.0 ∷ []) longs (both_listed lists clause a b)
 filed_pair vars ws heads places longs lists lits clause a b f is small two there distinct at_a at_b =
@@ -223,7 +241,8 @@ filed_pair vars ws heads places longs lists lits clause a b f is small two there
     let block_here : IsBlock vars new clause.0 = subst (IsBlock vars new) (sym is) block in
     let lists_size = f.lists_size in
     let len : arena_word new clause.0 ≡ 2 =
-    sym (upto_length new clause.0 (arena_word new clause.0)) ∙ ap (λ n. length (lits_at new n)) is ∙ ap length (behind_lits vars ws lits some two_more there distinct) ∙ two in
+    sym (upto_length new clause.0 (arena_word new clause.0)) ∙ ap (λ n. length (lits_at new n)) is
+    ∙ ap length (behind_lits vars ws lits some two_more there distinct) ∙ two in
     let first : arena_word new (clause.0 + 3 + 0) ≡ word_of a =
     ap (λ n. arena_word new (n + 3 + 0)) is ∙ behind_lit vars ws lits some two_more there distinct 0 a (omega arith) ∙ ap word_of at_a in
     let second : arena_word new (clause.0 + 3 + 1) ≡ word_of b =
@@ -238,6 +257,8 @@ filed_pair vars ws heads places longs lists lits clause a b f is small two there
       split = pair_split vars ws new places f.store front clause len longs f.split;
       size = f.size;
       chains = let split = f.split in front_chains vars ws new places f.store front heads longs split.among f.chains;
-      lists_size = listed_length (listed lists (word_of a) (record { other = b; clause = clause })) (word_of b) (record { other = a; clause = clause }) ∙ listed_length lists (word_of a) (record { other = b; clause = clause }) ∙ lists_size;
+      lists_size = listed_length (listed lists (word_of a) (record {
+      other = b; clause = clause
+      })) (word_of b) (record { other = a; clause = clause }) ∙ listed_length lists (word_of a) (record { other = b; clause = clause }) ∙ lists_size;
       pairs = pair_pairs vars ws new places f.store front clause len lists a b first second (omega arith) (omega arith) f.pairs;
     }

@@ -1,5 +1,6 @@
 -- What levels say of a trail, and which literals may be watched.
-use Rattle.std.proofs.Common.{◌≡◌, ℕ, ◌+◌, ◌<◌, ◌≤◌, ◌⊎◌, zero, suc, List, [], ◌∷◌, length, take, get_or, true, false, sym, ◌∙◌, ap, subst, inl, inr, arith, length-take-le}
+use Rattle.std.proofs.Common.{◌≡◌, ℕ, ◌+◌, ◌<◌, ◌≤◌, ◌⊎◌, zero, suc, List, [], ◌∷◌, length, take, get_or, true, false, sym, ◌∙◌, ap, subst, inl, inr, arith}
+use Rattle.std.proofs.Common.{length-take-le}
 use Rattle.std.specs.Prelude.{◌↔◌}
 use Rattle.std.proofs.lemmas.Bool.{cases_lt}
 use Rattle.std.proofs.lemmas.List.{get_or-take, get_or_past, get_or_default}
@@ -13,7 +14,8 @@ use Rattle.watch_arena.specs.Arena.{AreOpen, MayBeWatched, IsHeldBy, IsAsserting
 use Rattle.watch_arena.proofs.CutLemmas.{level_rise, level_most, level_past, level_take}
 use Rattle.watch_arena.proofs.LevelLemmas.{end_within, right_open, right_other, right_held, right_set, held_by_level, late_by_level}
 
-pub never_fall : (m : Marks) (i j : ℕ) (d : Literal) → IsMarks m → i ≤ j → j < length m.lits → get_or m.levels (get_or m.lits i d).var 0 ≤ get_or m.levels (get_or m.lits j d).var 0
+pub never_fall : (m : Marks) (i j : ℕ) (d : Literal) → IsMarks m → i ≤ j → j < length m.lits →
+    get_or m.levels (get_or m.lits i d).var 0 ≤ get_or m.levels (get_or m.lits j d).var 0
 never_fall m i j d marks le lt =
     let here = marks.levels i d (omega arith) in
     let there = marks.levels j d lt in
@@ -90,7 +92,8 @@ module _ (m : Marks) (level : ℕ) (marks : IsMarks m) (le : level ≤ length m.
         | inr big ↦ let high = level_after c.0 big lt in absurd (omega arith)
       ]
 
-pub undone_low : (m : Marks) (level : ℕ) (l : Literal) → IsMarks m → level ≤ length m.cuts → (IsIn (has (undone m level).lits) l ↔ (IsIn (has m.lits) l × (get_or m.levels l.var 0 ≤ level)))
+pub undone_low : (m : Marks) (level : ℕ) (l : Literal) → IsMarks m → level ≤ length m.cuts →
+    (IsIn (has (undone m level).lits) l ↔ (IsIn (has m.lits) l × (get_or m.levels l.var 0 ≤ level)))
 undone_low m level l marks le = (left_is_low m level marks le l, λ h. low_is_left m level marks le l h.0 h.1)
 
 pub may_open : (m : Marks) (k l : Literal) → AreOpen m k l → AreRight m k l

@@ -77,9 +77,11 @@ module _ (m : Marks) (level : ℕ) (marks : IsMarks m) (le : level ≤ length m.
       was_past : (l : Literal) → IsIn (past_of (undone m level)) l → IsIn (past_of m) l
       was_past l f =
           let least : min m.front (level_end m level) ≤ level_end m level = omega arith in
-          let cut : take (min m.front (level_end m level)) (take (level_end m level) m.lits) ≡ take (min m.front (level_end m level)) m.lits = take-take (min m.front (level_end m level)) (level_end m level) m.lits least in
+          let cut : take (min m.front (level_end m level)) (take (level_end m level) m.lits) ≡ take (min m.front (level_end m level)) m.lits = take-take
+          (min m.front (level_end m level)) (level_end m level) m.lits least in
           let g : IsIn (has (take (min m.front (level_end m level)) m.lits)) l = subst (λ (ls : List Literal). IsIn (has ls) l) cut f in
-          front_includes (take m.front m.lits) (min m.front (level_end m level)) l (subst (λ (ls : List Literal). IsIn (has ls) l) (sym (take-take (min m.front (level_end m level)) m.front m.lits (omega arith))) g)
+          front_includes (take m.front m.lits) (min m.front (level_end m level)) l
+          (subst (λ (ls : List Literal). IsIn (has ls) l) (sym (take-take (min m.front (level_end m level)) m.front m.lits (omega arith))) g)
 
       is_left : (l : Literal) → IsIn (past_of (undone m level)) l → IsIn (has (take (level_end m level) m.lits)) l
       is_left l f = front_includes (take (level_end m level) m.lits) (min m.front (level_end m level)) l f
@@ -119,9 +121,11 @@ module _ (m : Marks) (level : ℕ) (marks : IsMarks m) (le : level ≤ length m.
       old_place i lt = let size = length-take-le (level_end m level) m.lits (end_within m level marks le) in let e = end_within m level marks le in omega arith
 
       old_lit : (i : ℕ) (k : Literal) → i < length (take (level_end m level) m.lits) → get_or m.lits i k ≡ get_or (take (level_end m level) m.lits) i k
-      old_lit i k lt = let size = length-take-le (level_end m level) m.lits (end_within m level marks le) in sym (get_or-take (level_end m level) m.lits i k (omega arith))
+      old_lit i k lt = let size = length-take-le (level_end m level) m.lits (end_within m level marks le) in sym
+      (get_or-take (level_end m level) m.lits i k (omega arith))
 
-      still : (i : ℕ) → i < length (take (level_end m level) m.lits) → Contains m.cuts i → Contains (take level m.cuts) i ⊎ ((n : ℕ) → Contains (take level m.cuts) n → i < n)
+      still : (i : ℕ) → i < length (take (level_end m level) m.lits) → Contains m.cuts i →
+      Contains (take level m.cuts) i ⊎ ((n : ℕ) → Contains (take level m.cuts) n → i < n)
       still i lt c = elim (cases_lt c.0 level) [
         | inl small ↦
             let size = length-take-le level m.cuts le in
@@ -161,9 +165,11 @@ pub right_held : (m : Marks) (a b : Literal) → IsMarks m → IsTrueNoLater m (
 right_held m a b marks h = record { first = λ _. h; second = λ f. absurd (distinct_consistent m.lits marks.distinct b h.now (past_within m (negate b) f)) }
 
 -- the first is unset and set at once, and the second is false since the present level began
-pub right_set : (m : Marks) (a b : Literal) (reason : ℕ) → IsMarks m → IsUnset m.lits a → ((n : ℕ) → Contains m.cuts n → IsIn (has (take n m.lits)) (negate b) → ⊥) → AreRight (with_lit m a reason) a b
+pub right_set : (m : Marks) (a b : Literal) (reason : ℕ) → IsMarks m → IsUnset m.lits a →
+    ((n : ℕ) → Contains m.cuts n → IsIn (has (take n m.lits)) (negate b) → ⊥) → AreRight (with_lit m a reason) a b
 right_set m a b reason marks unset late = record {
-  first = λ f. let g : IsIn (has m.lits) (negate a) = past_within m (negate a) (subst (λ (s : LiteralSet). IsIn s (negate a)) (past_with m a reason marks) f) in absurd (both_ways (has m.lits (negate a)) unset.1 g);
+  first = λ f. let g : IsIn (has m.lits) (negate a) = past_within m (negate a) (subst (λ (s : LiteralSet). IsIn s (negate a)) (past_with m a reason marks) f) in
+  absurd (both_ways (has m.lits (negate a)) unset.1 g);
   second = λ _. record {
     now = has_last m.lits a;
     back = λ n c g.
@@ -210,7 +216,9 @@ pub right_other : (m : Marks) (a b : Literal) → AreRight m b a → AreRight m 
 right_other m a b r = record { first = r.second; second = r.first }
 
 pub held_by_level : (m : Marks) (a b : Literal) → IsMarks m → IsHeldBy m a b → IsTrueNoLater m (negate a) b
-held_by_level m a b marks h = record { now = h.second; back = λ n c g. back n c (contains_from_has (take n m.lits) (negate a) g) (contains_from_has m.lits b h.second) }
+held_by_level m a b marks h = record {
+    now = h.second; back = λ n c g. back n c (contains_from_has (take n m.lits) (negate a) g) (contains_from_has m.lits b h.second)
+    }
   where
     back : (n : ℕ) → Contains m.cuts n → Contains (take n m.lits) (negate a) → Contains m.lits b → IsIn (has (take n m.lits)) b
     back n c x y =
@@ -221,7 +229,8 @@ held_by_level m a b marks h = record { now = h.second; back = λ n c g. back n c
         let lt = x.1 in
         let ltb = y.1 in
         let at_a : get_or m.lits x.0 (negate a) ≡ negate a = sym (get_or-take n m.lits x.0 (negate a) (omega arith)) ∙ x.2 in
-        let of_a : get_or m.levels a.var 0 ≡ trail_level m.cuts x.0 = ap (λ (l : Literal). get_or m.levels l.var 0) (sym at_a) ∙ marks.levels x.0 (negate a) (omega arith) in
+        let of_a : get_or m.levels a.var 0 ≡ trail_level m.cuts x.0 = ap (λ (l : Literal). get_or m.levels l.var 0) (sym at_a)
+        ∙ marks.levels x.0 (negate a) (omega arith) in
         let of_b : get_or m.levels b.var 0 ≡ trail_level m.cuts y.0 = ap (λ (l : Literal). get_or m.levels l.var 0) (sym y.2) ∙ marks.levels y.0 b ltb in
         elim (cases_lt y.0 n) [
           | inl small ↦ has_from_contains (take n m.lits) b (y.0, omega arith, get_or-take n m.lits y.0 b small ∙ y.2)
@@ -229,7 +238,8 @@ held_by_level m a b marks h = record { now = h.second; back = λ n c g. back n c
         ]
 
 -- what is false at the present level wasn't so before it began
-pub late_by_level : (m : Marks) (b : Literal) → IsMarks m → get_or m.levels b.var 0 ≡ length m.cuts → (n : ℕ) → Contains m.cuts n → IsIn (has (take n m.lits)) (negate b) → ⊥
+pub late_by_level : (m : Marks) (b : Literal) → IsMarks m → get_or m.levels b.var 0 ≡ length m.cuts → (n : ℕ) → Contains m.cuts n →
+    IsIn (has (take n m.lits)) (negate b) → ⊥
 late_by_level m b marks level n c g =
     let x = contains_from_has (take n m.lits) (negate b) g in
     let cuts = marks.cuts in
@@ -238,14 +248,16 @@ late_by_level m b marks level n c g =
     let size = length-take-le n m.lits (omega arith) in
     let lt = x.1 in
     let at_b : get_or m.lits x.0 (negate b) ≡ negate b = sym (get_or-take n m.lits x.0 (negate b) (omega arith)) ∙ x.2 in
-    let of_b : get_or m.levels b.var 0 ≡ trail_level m.cuts x.0 = ap (λ (l : Literal). get_or m.levels l.var 0) (sym at_b) ∙ marks.levels x.0 (negate b) (omega arith) in
+    let of_b : get_or m.levels b.var 0 ≡ trail_level m.cuts x.0 = ap (λ (l : Literal). get_or m.levels l.var 0) (sym at_b)
+    ∙ marks.levels x.0 (negate b) (omega arith) in
     let rise = level_step m.cuts n x.0 n c (omega arith) (omega arith) in
     let most = level_most m.cuts n in
     omega arith
 
 pub reasoned_widened : (m : Marks) (n : ℕ) (ws places : List ℕ) → IsReasoned m ws places → IsReasoned (widened m n) ws places
 reasoned_widened m n ws places r = record {
-  reason = λ i l lt is some. subst (λ p. IsReasonFor ws places (take i m.lits) l p) (sym (get_padded m.reasons n 0 l.var)) (r.reason i l lt is (λ e. some (get_padded m.reasons n 0 l.var ∙ e)));
+  reason = λ i l lt is some. subst (λ p. IsReasonFor ws places (take i m.lits) l p) (sym (get_padded m.reasons n 0 l.var))
+  (r.reason i l lt is (λ e. some (get_padded m.reasons n 0 l.var ∙ e)));
   decided = λ i l lt is none. r.decided i l lt is (sym (get_padded m.reasons n 0 l.var) ∙ none);
   begins = λ i l c is. get_padded m.reasons n 0 l.var ∙ r.begins i l c is;
 }
@@ -263,6 +275,7 @@ watched_undone a m level marks le w = record { right = λ p c. right_undone m le
 pub watched_widened : (a : Attached) (m : Marks) (n : ℕ) → AreWatched a m → AreWatched a (widened m n)
 watched_widened a m n w = record { right = λ p c. right_widened m n (watch_at a p 0) (watch_at a p 1) (w.right p c) }
 
-pub reasoned_set : (a : Attached) (m : Marks) (l : Literal) (r : Option ClauseRef) → IsMarks m → IsThere m.vars l → IsUnset m.lits l → MayBeSet a m l r → AreReasoned a m → AreReasoned a (with_lit m l (place_of r))
+pub reasoned_set : (a : Attached) (m : Marks) (l : Literal) (r : Option ClauseRef) → IsMarks m → IsThere m.vars l → IsUnset m.lits l → MayBeSet a m l r →
+    AreReasoned a m → AreReasoned a (with_lit m l (place_of r))
 reasoned_set a m l None marks there unset root r = reasoned_root m l 0 marks there unset a.words a.places r refl root
 reasoned_set a m l (Some c) marks there unset why r = reasoned_unit m l c.0 marks there unset a.words a.places r why.from why.unit

@@ -1,5 +1,6 @@
 -- Entries at the ends of lists.
-use Rattle.std.proofs.Common.{◌≡◌, ℕ, ◌+◌, ◌-◌, ◌<◌, List, [], ◌∷◌, ◌++◌, length, take, get_or, set, sym, ◌∙◌, ap, subst, inl, inr, arith, length-append, length-set}
+use Rattle.std.proofs.Common.{◌≡◌, ℕ, ◌+◌, ◌-◌, ◌<◌, List, [], ◌∷◌, ◌++◌, length, take, get_or, set, sym, ◌∙◌, ap, subst, inl, inr, arith, length-append}
+use Rattle.std.proofs.Common.{length-set}
 use Rattle.std.specs.Prelude.{All, Contains}
 use Rattle.std.proofs.lemmas.Bool.{cases_eq}
 use Rattle.std.proofs.lemmas.List.{take_at, set-set, set-get_or, get_or-set_same, get_or-set_other}
@@ -29,7 +30,8 @@ module _ (lists : List (List Pair)) (w : ℕ) (pair : Pair) where
   listed_length = length-set lists w (get_or lists w [] ++ pair ∷ [])
 
   pub listed_here : w < length lists → Contains (get_or (listed lists w pair) w []) pair
-  listed_here lt = subst (λ (ps : List Pair). Contains ps pair) (sym (get_or-set_same lists w (get_or lists w [] ++ pair ∷ []) [] lt)) (Contains-push (get_or lists w []) pair)
+  listed_here lt = subst (λ (ps : List Pair). Contains ps pair) (sym (get_or-set_same lists w (get_or lists w [] ++ pair ∷ []) [] lt))
+  (Contains-push (get_or lists w []) pair)
 
   pub listed_keeps : (v : ℕ) (x : Pair) → w < length lists → Contains (get_or lists v []) x → Contains (get_or (listed lists w pair) v []) x
   listed_keeps v x lt c = elim (cases_eq v w) [
@@ -39,10 +41,12 @@ module _ (lists : List (List Pair)) (w : ℕ) (pair : Pair) where
     | inr ne ↦ subst (λ (ps : List Pair). Contains ps x) (sym (get_or-set_other lists w v (get_or lists w [] ++ pair ∷ []) [] ne)) c
   ]
 
-  pub listed_right : (ws places : List ℕ) → w < length lists → IsEntry ws places w pair → ((v : ℕ) → v < length lists → All (IsEntry ws places v) (get_or lists v [])) →
+  pub listed_right : (ws places : List ℕ) → w < length lists → IsEntry ws places w pair →
+  ((v : ℕ) → v < length lists → All (IsEntry ws places v) (get_or lists v [])) →
       (v : ℕ) → v < length lists → All (IsEntry ws places v) (get_or (listed lists w pair) v [])
   listed_right ws places lt is right v below = elim (cases_eq v w) [
     | inl e ↦ subst (λ n. All (IsEntry ws places n) (get_or (listed lists w pair) n [])) (sym e)
-        (subst (All (IsEntry ws places w)) (sym (get_or-set_same lists w (get_or lists w [] ++ pair ∷ []) [] lt)) (All-push (IsEntry ws places w) (get_or lists w []) pair (right w lt) is))
+        (subst (All (IsEntry ws places w)) (sym (get_or-set_same lists w (get_or lists w [] ++ pair ∷ []) [] lt))
+        (All-push (IsEntry ws places w) (get_or lists w []) pair (right w lt) is))
     | inr ne ↦ subst (All (IsEntry ws places v)) (sym (get_or-set_other lists w v (get_or lists w [] ++ pair ∷ []) [] ne)) (right v below)
   ]

@@ -31,7 +31,8 @@ held_longer m n f o marks longer h = record {
 pub fresh_with : (m : Marks) (l k : Literal) (reason : ℕ) → IsMarks m → past_of m k ≡ false → past_of (with_lit m l reason) k ≡ false
 fresh_with m l k reason marks fresh = ap (λ (ls : List Literal). has ls k) (take-append-le m.front m.lits (l ∷ []) marks.front) ∙ fresh
 
-module _ (m : Marks) (ws places : List ℕ) (w : ℕ) (pair : Pair) (h : IsStore m.vars ws places) (x : IsEntry ws places w pair) (marks : IsMarks m) (false_now : IsIn (has m.lits) (negate (literal_at w))) where
+module _ (m : Marks) (ws places : List ℕ) (w : ℕ) (pair : Pair) (h : IsStore m.vars ws places) (x : IsEntry ws places w pair) (marks : IsMarks m)
+    (false_now : IsIn (has m.lits) (negate (literal_at w))) where
   pub pair_there : IsThere m.vars pair.other
   pair_there =
       let two = x.is.two in
@@ -43,7 +44,8 @@ module _ (m : Marks) (ws places : List ℕ) (w : ℕ) (pair : Pair) (h : IsStore
   reason : IsUnset m.lits pair.other → IsReasonFor ws places m.lits pair.other pair.clause.0
   reason unset =
       let two = x.is.two in
-      subst (λ p. IsReasonFor ws places m.lits pair.other p) (sym x.clause) (alone_reason ws places m.lits w x.watch pair.other x.is.place (omega arith) x.lit false_now (alone unset))
+      subst (λ p. IsReasonFor ws places m.lits pair.other p) (sym x.clause) (alone_reason ws places m.lits w x.watch pair.other x.is.place (omega arith) x.lit
+      false_now (alone unset))
 
   pub pair_made : IsUnset m.lits pair.other → HasWalked m (with_lit m pair.other pair.clause.0) ws ws places
   pair_made unset =

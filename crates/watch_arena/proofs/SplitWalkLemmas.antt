@@ -16,7 +16,8 @@ use Rattle.watch_arena.proofs.ReasonLemmas.{text_kept, reason_kept}
 use Rattle.watch_arena.proofs.SplitLemmas.{split_text}
 
 -- a trail grows by literals that have reasons
-module _ (clauses : Clauses) (m n : Marks) (ws places : List ℕ) (t : HoldsClauses clauses ws places) (longer : IsLonger m n) (because : AddsReasons m n ws places) where
+module _ (clauses : Clauses) (m n : Marks) (ws places : List ℕ) (t : HoldsClauses clauses ws places) (longer : IsLonger m n)
+    (because : AddsReasons m n ws places) where
   step : (i : ℕ) → length m.lits ≤ i → i < length n.lits → Grows clauses (take i n.lits) (take (i + 1) n.lits)
   step i from lt =
       let d = literal 0 true in
@@ -24,7 +25,8 @@ module _ (clauses : Clauses) (m n : Marks) (ws places : List ℕ) (t : HoldsClau
       let p = get_or n.reasons (get_or n.lits i d).var 0 in
       let held = t.held p r.place in
       subst (λ (ls : List Literal). Grows clauses (take i n.lits) ls) (sym (take_more n.lits i d lt))
-      (grows_unit clauses (take i n.lits) held.0 (get_or n.lits i d) held.1 (unit_at ws p (has (take i n.lits)) (lits_at ws p) held.0 (get_or n.lits i d) (is_clause ws p) held.2 r.unit))
+      (grows_unit clauses (take i n.lits) held.0 (get_or n.lits i d) held.1 (unit_at ws p (has (take i n.lits)) (lits_at ws p) held.0 (get_or n.lits i d)
+      (is_clause ws p) held.2 r.unit))
 
   upto : (k : ℕ) → length m.lits + k ≤ length n.lits → Grows clauses m.lits (take (length m.lits + k) n.lits)
   upto zero le =
@@ -34,23 +36,27 @@ module _ (clauses : Clauses) (m n : Marks) (ws places : List ℕ) (t : HoldsClau
   upto (suc k) le =
       let more : (length m.lits + k) + 1 ≡ length m.lits + suc k = omega arith in
       subst (λ j. Grows clauses m.lits (take j n.lits)) more
-      (grows_more clauses m.lits (take (length m.lits + k) n.lits) (take ((length m.lits + k) + 1) n.lits) (upto k (omega arith)) (step (length m.lits + k) (omega arith) (omega arith)))
+      (grows_more clauses m.lits (take (length m.lits + k) n.lits) (take ((length m.lits + k) + 1) n.lits) (upto k (omega arith))
+      (step (length m.lits + k) (omega arith) (omega arith)))
 
   pub grows_because : Grows clauses m.lits n.lits
   grows_because =
       let more = longer.longer in
       let all : length m.lits + (length n.lits - length m.lits) ≡ length n.lits = omega arith in
-      subst (λ (ls : List Literal). Grows clauses m.lits ls) (ap (λ j. take j n.lits) all ∙ take_all (length n.lits) n.lits (omega arith)) (upto (length n.lits - length m.lits) (omega arith))
+      subst (λ (ls : List Literal). Grows clauses m.lits ls) (ap (λ j. take j n.lits) all ∙ take_all (length n.lits) n.lits (omega arith))
+      (upto (length n.lits - length m.lits) (omega arith))
 
 -- and it stays reasoned
-module _ (m n : Marks) (ws now places : List ℕ) (marks : IsMarks m) (from : (p : ℕ) → Contains places p → 1 ≤ p) (longer : IsLonger m n) (text : KeepsClauses places ws now) (reasons : KeepsReasons m n) (because : AddsReasons m n now places) (r : IsReasoned m ws places) where
+module _ (m n : Marks) (ws now places : List ℕ) (marks : IsMarks m) (from : (p : ℕ) → Contains places p → 1 ≤ p) (longer : IsLonger m n)
+    (text : KeepsClauses places ws now) (reasons : KeepsReasons m n) (because : AddsReasons m n now places) (r : IsReasoned m ws places) where
   old_lit : (i : ℕ) (l : Literal) → i < length m.lits → get_or n.lits i l ≡ l → get_or m.lits i l ≡ l
   old_lit i l small is = ap (λ (ls : List Literal). get_or ls i l) (sym longer.front) ∙ get_or-take (length m.lits) n.lits i l small ∙ is
 
   old_reason : (i : ℕ) (l : Literal) → i < length m.lits → get_or n.lits i l ≡ l → get_or n.reasons l.var 0 ≡ get_or m.reasons l.var 0
   old_reason i l small is = subst (λ (k : Literal). get_or n.reasons k.var 0 ≡ get_or m.reasons k.var 0) (old_lit i l small is) (reasons i l small)
 
-  new_reason : (i : ℕ) (l : Literal) → length m.lits ≤ i → i < length n.lits → get_or n.lits i l ≡ l → IsReasonFor now places (take i n.lits) l (get_or n.reasons l.var 0)
+  new_reason : (i : ℕ) (l : Literal) → length m.lits ≤ i → i < length n.lits → get_or n.lits i l ≡ l →
+  IsReasonFor now places (take i n.lits) l (get_or n.reasons l.var 0)
   new_reason i l big lt is = subst (λ (k : Literal). IsReasonFor now places (take i n.lits) k (get_or n.reasons k.var 0)) is (because i l big lt)
 
   pub reasoned_because : IsReasoned n now places
@@ -81,10 +87,13 @@ module _ (m n : Marks) (ws now places : List ℕ) (marks : IsMarks m) (from : (p
   }
 
 -- what a walk of a chain does, said of all clauses
-pub made_split : (m n : Marks) (ws now places longs : List ℕ) → IsMarks m → IsStore m.vars ws places → IsSplit ws places longs → LeavesOthers longs ws now → HasWalked m n ws now longs → HasWalked m n ws now places
+pub made_split : (m n : Marks) (ws now places longs : List ℕ) → IsMarks m → IsStore m.vars ws places → IsSplit ws places longs → LeavesOthers longs ws now →
+    HasWalked m n ws now longs → HasWalked m n ws now places
 made_split m n ws now places longs marks h split leaves a =
     let text = split_text m.vars ws now places longs h split leaves a.text in
-    let because : AddsReasons m n now places = λ i d from lt. let x = a.because i d from lt in record { place = split.among (get_or n.reasons (get_or n.lits i d).var 0) x.place; unit = x.unit } in
+    let because : AddsReasons m n now places = λ i d from lt. let x = a.because i d from lt in record {
+    place = split.among (get_or n.reasons (get_or n.lits i d).var 0) x.place; unit = x.unit
+    } in
     record {
       longer = a.longer;
       propagated = a.propagated;

@@ -1,5 +1,6 @@
 -- Trails: tables that mark the literals of a list.
-use Rattle.std.proofs.Common.{◌≡◌, ◌≢◌, ℕ, ◌+◌, ◌*◌, ◌<◌, ◌≤◌, Bool, true, false, zero, suc, take, List, [], ◌∷◌, ◌++◌, length, get_or, set, replicate, refl, sym, ◌∙◌, ap, subst, inl, inr, arith, length-set, length-append, length-take-le}
+use Rattle.std.proofs.Common.{◌≡◌, ◌≢◌, ℕ, ◌+◌, ◌*◌, ◌<◌, ◌≤◌, Bool, true, false, zero, suc, take, List, [], ◌∷◌, ◌++◌, length, get_or, set, replicate, refl}
+use Rattle.std.proofs.Common.{sym, ◌∙◌, ap, subst, inl, inr, arith, length-set, length-append, length-take-le}
 use Rattle.std.specs.Prelude.{Contains}
 use Rattle.std.proofs.lemmas.Bool.{both_ways, cases_lt}
 use Rattle.std.proofs.lemmas.List.{take-append-le, length-replicate, get_or-set_other, get_or-set_same, get_or_append_left, get_or_push, get_or-take}
@@ -25,10 +26,15 @@ cuts_more cuts len front a e =
     let count = a.count in
     record {
       count = omega arith;
-      from = λ k lt. elim (cases_lt k (length cuts)) [ inl l ↦ let s = same k l in let f = a.from k l in omega arith | inr g ↦ let s = last k (omega arith) in omega arith ];
-      below = λ k lt. elim (cases_lt k (length cuts)) [ inl l ↦ let s = same k l in let f = a.below k l in omega arith | inr g ↦ let s = last k (omega arith) in omega arith ];
-      propagated = λ k lt. elim (cases_lt k (length cuts)) [ inl l ↦ let s = same k l in let f = a.propagated k l in omega arith | inr g ↦ let s = last k (omega arith) in omega arith ];
-      rise = λ j k lt lk. let sj = same j (omega arith) in elim (cases_lt k (length cuts)) [ inl l ↦ let s = same k l in let f = a.rise j k lt l in omega arith | inr g ↦ let s = last k (omega arith) in let b = a.below j (omega arith) in omega arith ];
+      from = λ k lt. elim (cases_lt k (length cuts)) [ inl l ↦ let s = same k l in let f = a.from k l in omega arith | inr g ↦ let s = last k (omega arith) in
+      omega arith ];
+      below = λ k lt. elim (cases_lt k (length cuts)) [ inl l ↦ let s = same k l in let f = a.below k l in omega arith | inr g ↦ let s = last k (omega arith) in
+      omega arith ];
+      propagated = λ k lt. elim (cases_lt k (length cuts)) [ inl l ↦ let s = same k l in let f = a.propagated k l in omega arith | inr g ↦ let s = last k
+      (omega arith) in omega arith ];
+      rise = λ j k lt lk. let sj = same j (omega arith) in elim (cases_lt k (length cuts))
+      [ inl l ↦ let s = same k l in let f = a.rise j k lt l in omega arith | inr g ↦ let s = last k (omega arith) in let b = a.below j (omega arith) in omega
+      arith ];
     }
   where
     same : (k : ℕ) → k < length cuts → get_or (cuts ++ len ∷ []) k 0 ≡ get_or cuts k 0
@@ -45,7 +51,8 @@ other_var lits l k unset among e = elim (same_or_negated k l e) [
 ]
 
 -- levels of one more literal
-levels_more : (vars : ℕ) (cuts : List ℕ) (lits : List Literal) (levels : List ℕ) (l : Literal) (n : ℕ) → HasLevels cuts lits levels → length levels ≡ vars + 1 → IsThere vars l → IsUnset lits l → n ≡ trail_level cuts (length lits) → HasLevels cuts (lits ++ l ∷ []) (set levels l.var n)
+levels_more : (vars : ℕ) (cuts : List ℕ) (lits : List Literal) (levels : List ℕ) (l : Literal) (n : ℕ) → HasLevels cuts lits levels → length levels ≡ vars + 1 →
+    IsThere vars l → IsUnset lits l → n ≡ trail_level cuts (length lits) → HasLevels cuts (lits ++ l ∷ []) (set levels l.var n)
 levels_more vars cuts lits levels l n h size there unset e = λ i d lt. elim (cases_lt i (length lits)) [
   | inl small ↦
       let at : get_or (lits ++ l ∷ []) i d ≡ get_or lits i d = get_or_append_left lits (l ∷ []) d i small in
@@ -87,7 +94,9 @@ trail_widened vars n truth trail t = record {
 
 -- two views of the same parts
 pub marks_same : (vars : ℕ) (a b : List Literal) (f g : ℕ) (c d r s t u : List ℕ) → a ≡ b → f ≡ g → c ≡ d → r ≡ s → t ≡ u →
-    let m : Marks = record { vars = vars; lits = a; front = f; cuts = c; reasons = r; levels = t } in let n : Marks = record { vars = vars; lits = b; front = g; cuts = d; reasons = s; levels = u } in m ≡ n
+    let m : Marks = record {
+    vars = vars; lits = a; front = f; cuts = c; reasons = r; levels = t
+    } in let n : Marks = record { vars = vars; lits = b; front = g; cuts = d; reasons = s; levels = u } in m ≡ n
 marks_same vars a b f g c d r s t u e h i j k =
     ap (λ (x : List Literal). let m : Marks = record { vars = vars; lits = x; front = f; cuts = c; reasons = r; levels = t } in m) e
     ∙ ap (λ x. let m : Marks = record { vars = vars; lits = b; front = x; cuts = c; reasons = r; levels = t } in m) h
@@ -96,14 +105,16 @@ marks_same vars a b f g c d r s t u e h i j k =
     ∙ ap (λ (x : List ℕ). let m : Marks = record { vars = vars; lits = b; front = g; cuts = d; reasons = s; levels = x } in m) k
 
 -- the front of a table is the trail
-module _ (vars : ℕ) (truth : List Bool) (order : List Literal) (len front : ℕ) (starts : List ℕ) (level : ℕ) (reasons levels : List ℕ) (k : IsStoredTrail vars truth order len front starts level reasons levels) where
+module _ (vars : ℕ) (truth : List Bool) (order : List Literal) (len front : ℕ) (starts : List ℕ) (level : ℕ) (reasons levels : List ℕ)
+    (k : IsStoredTrail vars truth order len front starts level reasons levels) where
   pub kept_short : (l : Literal) → IsThere vars l → IsUnset (take len order) l → len < length order
   kept_short l there unset =
       let table = k.table in
       let size = k.size in
       let within = k.within in
       let more = trail_more vars truth (take len order) l table there (table.marks l ∙ unset.0) (table.marks (negate l) ∙ unset.1) in
-      omega (arith, trail_short vars (set truth (word_of l) true) (take len order ++ l ∷ []) more, length-append (take len order) (l ∷ []), length-take-le len order within)
+      omega (arith, trail_short vars (set truth (word_of l) true) (take len order ++ l ∷ []) more, length-append (take len order) (l ∷ []), length-take-le len
+      order within)
 
   pub kept_lits : (l : Literal) → IsThere vars l → IsUnset (take len order) l → take (len + 1) (set order len l) ≡ take len order ++ l ∷ []
   kept_lits l there unset = take-set_at order len (len + 1) l refl (kept_short l there unset)
@@ -112,22 +123,28 @@ module _ (vars : ℕ) (truth : List Bool) (order : List Literal) (len front : �
   kept_level_is : trail_level (take level starts) (length (take len order)) ≡ level
   kept_level_is =
       let size = length-take-le len order k.within in
-      level_past (take level starts) (length (take len order)) (λ j lt. let cuts = k.cuts in let b = cuts.below j lt in omega arith) ∙ length-take-le level starts k.level_within
+      level_past (take level starts) (length (take len order)) (λ j lt. let cuts = k.cuts in let b = cuts.below j lt in omega arith)
+      ∙ length-take-le level starts k.level_within
 
-  pub kept_set : (l : Literal) (reason : ℕ) → IsThere vars l → IsUnset (take len order) l → IsStoredTrail vars (set truth (word_of l) true) (set order len l) (len + 1) front starts level (set reasons l.var reason) (set levels l.var level)
+  pub kept_set : (l : Literal) (reason : ℕ) → IsThere vars l → IsUnset (take len order) l →
+  IsStoredTrail vars (set truth (word_of l) true) (set order len l) (len + 1) front starts level (set reasons l.var reason) (set levels l.var level)
   kept_set l reason there unset =
       let table = k.table in
       let short = kept_short l there unset in
       let cuts = k.cuts in
       record {
         limit = k.limit;
-        table = subst (λ (ls : List Literal). IsTrail vars (set truth (word_of l) true) ls) (sym (kept_lits l there unset)) (trail_more vars truth (take len order) l table there (table.marks l ∙ unset.0) (table.marks (negate l) ∙ unset.1));
+        table = subst (λ (ls : List Literal). IsTrail vars (set truth (word_of l) true) ls) (sym (kept_lits l there unset))
+        (trail_more vars truth (take len order) l table there (table.marks l ∙ unset.0) (table.marks (negate l) ∙ unset.1));
         size = length-set order len l ∙ k.size;
         within = omega (arith, length-set order len l);
         front_within = let f = k.front_within in omega arith;
         starts_size = k.starts_size;
         level_within = k.level_within;
-        cuts = record { count = let n = cuts.count in omega arith; from = cuts.from; below = λ j lt. let b = cuts.below j lt in omega arith; propagated = cuts.propagated; rise = cuts.rise };
+        cuts = record {
+        count = let n = cuts.count in omega arith; from = cuts.from; below = λ j lt. let b = cuts.below j lt in omega arith; propagated = cuts.propagated;
+        rise = cuts.rise
+        };
         reasons_size = length-set reasons l.var reason ∙ k.reasons_size;
         levels_size = length-set levels l.var level ∙ k.levels_size;
         level_of = subst (λ (ls : List Literal). HasLevels (take level starts) ls (set levels l.var level)) (sym (kept_lits l there unset))
@@ -158,10 +175,14 @@ module _ (vars : ℕ) (truth : List Bool) (order : List Literal) (len front : �
         levels = k.level_of;
       }
 
-  pub set_view : (m : Marks) (l : Literal) (v reason : ℕ) → marks_of vars order len front starts level reasons levels ≡ m → IsThere vars l → IsUnset (take len order) l → v ≡ l.var → marks_of vars (set order len l) (len + 1) front starts level (set reasons v reason) (set levels v level) ≡ with_lit m l reason
+  pub set_view : (m : Marks) (l : Literal) (v reason : ℕ) → marks_of vars order len front starts level reasons levels ≡ m → IsThere vars l →
+  IsUnset (take len order) l → v ≡ l.var → marks_of vars (set order len l) (len + 1) front starts level (set reasons v reason) (set levels v level) ≡ with_lit m
+  l reason
   set_view m l v reason e there unset same =
-      marks_same vars (take (len + 1) (set order len l)) (take len order ++ l ∷ []) front front (take level starts) (take level starts) (set reasons v reason) (set reasons l.var reason) (set levels v level) (set levels l.var (length (take level starts)))
-      (kept_lits l there unset) refl refl (ap (λ w. set reasons w reason) same) (ap (λ w. set levels w level) same ∙ ap (set levels l.var) (sym (length-take-le level starts k.level_within)))
+      marks_same vars (take (len + 1) (set order len l)) (take len order ++ l ∷ []) front front (take level starts) (take level starts) (set reasons v reason)
+      (set reasons l.var reason) (set levels v level) (set levels l.var (length (take level starts)))
+      (kept_lits l there unset) refl refl (ap (λ w. set reasons w reason) same) (ap (λ w. set levels w level) same
+      ∙ ap (set levels l.var) (sym (length-take-le level starts k.level_within)))
       ∙ ap (λ (n : Marks). with_lit n l reason) e
 
   pub kept_level : (l : Literal) → IsThere vars l → IsUnset (take len order) l → level < length starts
@@ -183,7 +204,9 @@ module _ (vars : ℕ) (truth : List Bool) (order : List Literal) (len front : �
       let size = length-take-le len order k.within in
       level_of_new (take level starts) len (length (take len order)) (omega arith) ∙ ap (λ n. n + 1) kept_level_is
 
-  pub kept_decide : (l : Literal) (reason : ℕ) → front ≡ len → IsThere vars l → IsUnset (take len order) l → IsStoredTrail vars (set truth (word_of l) true) (set order len l) (len + 1) front (set starts level len) (level + 1) (set reasons l.var reason) (set levels l.var (level + 1))
+  pub kept_decide : (l : Literal) (reason : ℕ) → front ≡ len → IsThere vars l → IsUnset (take len order) l →
+  IsStoredTrail vars (set truth (word_of l) true) (set order len l) (len + 1) front (set starts level len) (level + 1) (set reasons l.var reason)
+  (set levels l.var (level + 1))
   kept_decide l reason e there unset =
       let s = kept_set l reason there unset in
       let lt = kept_level l there unset in
@@ -201,19 +224,28 @@ module _ (vars : ℕ) (truth : List Bool) (order : List Literal) (len front : �
         levels_size = length-set levels l.var (level + 1) ∙ k.levels_size;
         level_of = subst (λ (cs : List ℕ). HasLevels cs (take (len + 1) (set order len l)) (set levels l.var (level + 1))) (sym (kept_starts lt))
             (subst (λ (ls : List Literal). HasLevels (take level starts ++ len ∷ []) ls (set levels l.var (level + 1))) (sym (kept_lits l there unset))
-            (levels_more vars (take level starts ++ len ∷ []) (take len order) levels l (level + 1) (λ i d below. k.level_of i d below ∙ sym (level_push_before (take level starts) len i (omega arith))) k.levels_size there unset (sym (kept_next_is lt))));
+            (levels_more vars (take level starts ++ len ∷ []) (take len order) levels l (level + 1)
+            (λ i d below. k.level_of i d below ∙ sym (level_push_before (take level starts) len i (omega arith))) k.levels_size there unset
+            (sym (kept_next_is lt))));
       }
 
-  pub decide_view : (m : Marks) (l : Literal) (v reason : ℕ) → marks_of vars order len front starts level reasons levels ≡ m → IsThere vars l → IsUnset (take len order) l → v ≡ l.var → marks_of vars (set order len l) (len + 1) front (set starts level len) (level + 1) (set reasons v reason) (set levels v (level + 1)) ≡ with_lit (opened m) l reason
+  pub decide_view : (m : Marks) (l : Literal) (v reason : ℕ) → marks_of vars order len front starts level reasons levels ≡ m → IsThere vars l →
+  IsUnset (take len order) l → v ≡ l.var → marks_of vars (set order len l) (len + 1) front (set starts level len) (level + 1) (set reasons v reason)
+  (set levels v (level + 1)) ≡ with_lit (opened m) l reason
   decide_view m l v reason e there unset same =
       let size : len ≡ length (take len order) = sym (length-take-le len order k.within) in
-      let count : level + 1 ≡ length (take level starts ++ length (take len order) ∷ []) = omega (arith, length-append (take level starts) (length (take len order) ∷ []), length-take-le level starts k.level_within) in
-      marks_same vars (take (len + 1) (set order len l)) (take len order ++ l ∷ []) front front (take (level + 1) (set starts level len)) (take level starts ++ length (take len order) ∷ []) (set reasons v reason) (set reasons l.var reason) (set levels v (level + 1)) (set levels l.var (length (take level starts ++ length (take len order) ∷ [])))
-      (kept_lits l there unset) refl (kept_starts (kept_level l there unset) ∙ ap (λ i. take level starts ++ i ∷ []) size) (ap (λ w. set reasons w reason) same) (ap (λ w. set levels w (level + 1)) same ∙ ap (set levels l.var) count)
+      let count : level + 1 ≡ length (take level starts ++ length (take len order) ∷ []) = omega
+      (arith, length-append (take level starts) (length (take len order) ∷ []), length-take-le level starts k.level_within) in
+      marks_same vars (take (len + 1) (set order len l)) (take len order ++ l ∷ []) front front (take (level + 1) (set starts level len))
+      (take level starts ++ length (take len order) ∷ []) (set reasons v reason) (set reasons l.var reason) (set levels v (level + 1))
+      (set levels l.var (length (take level starts ++ length (take len order) ∷ [])))
+      (kept_lits l there unset) refl (kept_starts (kept_level l there unset) ∙ ap (λ i. take level starts ++ i ∷ []) size) (ap (λ w. set reasons w reason) same)
+      (ap (λ w. set levels w (level + 1)) same ∙ ap (set levels l.var) count)
       ∙ ap (λ (n : Marks). with_lit (opened n) l reason) e
 
   -- further variables
-  pub kept_widened : (n : ℕ) (x : Literal) → vars + n ≤ VARS → IsStoredTrail (vars + n) (truth ++ replicate (2 * n) false) (order ++ replicate (2 * n) x) len front (starts ++ replicate (2 * n) 0) level (reasons ++ replicate n 0) (levels ++ replicate n 0)
+  pub kept_widened : (n : ℕ) (x : Literal) → vars + n ≤ VARS → IsStoredTrail (vars + n) (truth ++ replicate (2 * n) false) (order ++ replicate (2 * n) x) len
+  front (starts ++ replicate (2 * n) 0) level (reasons ++ replicate n 0) (levels ++ replicate n 0)
   kept_widened n x limit =
       let within = k.within in
       let level_in = k.level_within in
@@ -221,7 +253,8 @@ module _ (vars : ℕ) (truth : List Bool) (order : List Literal) (len front : �
       let cuts : take level (starts ++ replicate (2 * n) 0) ≡ take level starts = take-append-le level starts (replicate (2 * n) 0) level_in in
       record {
         limit = limit;
-        table = subst (λ (ls : List Literal). IsTrail (vars + n) (truth ++ replicate (2 * n) false) ls) (sym lits) (trail_widened vars n truth (take len order) k.table);
+        table = subst (λ (ls : List Literal). IsTrail (vars + n) (truth ++ replicate (2 * n) false) ls) (sym lits)
+        (trail_widened vars n truth (take len order) k.table);
         size = omega (arith, k.size, length-append order (replicate (2 * n) x), length-replicate {A = Literal} (2 * n) x);
         within = omega (arith, length-append order (replicate (2 * n) x));
         front_within = k.front_within;
@@ -235,8 +268,11 @@ module _ (vars : ℕ) (truth : List Bool) (order : List Literal) (len front : �
             (λ i d lt. get_padded levels n 0 (get_or (take len order) i d).var ∙ k.level_of i d lt));
       }
 
-  pub widened_view : (n : ℕ) (x : Literal) (m : Marks) → marks_of vars order len front starts level reasons levels ≡ m → marks_of (vars + n) (order ++ replicate (2 * n) x) len front (starts ++ replicate (2 * n) 0) level (reasons ++ replicate n 0) (levels ++ replicate n 0) ≡ widened m n
+  pub widened_view : (n : ℕ) (x : Literal) (m : Marks) → marks_of vars order len front starts level reasons levels ≡ m →
+  marks_of (vars + n) (order ++ replicate (2 * n) x) len front (starts ++ replicate (2 * n) 0) level (reasons ++ replicate n 0) (levels ++ replicate n 0)
+  ≡ widened m n
   widened_view n x m e =
-      marks_same (vars + n) (take len (order ++ replicate (2 * n) x)) (take len order) front front (take level (starts ++ replicate (2 * n) 0)) (take level starts) (reasons ++ replicate n 0) (reasons ++ replicate n 0) (levels ++ replicate n 0) (levels ++ replicate n 0)
+      marks_same (vars + n) (take len (order ++ replicate (2 * n) x)) (take len order) front front (take level (starts ++ replicate (2 * n) 0))
+      (take level starts) (reasons ++ replicate n 0) (reasons ++ replicate n 0) (levels ++ replicate n 0) (levels ++ replicate n 0)
       (take-append-le len order (replicate (2 * n) x) k.within) refl (take-append-le level starts (replicate (2 * n) 0) k.level_within) refl refl
       ∙ ap (λ (y : Marks). widened y n) e

@@ -22,9 +22,9 @@ use plan_core::OutOfMemory;
 use std::alloc::Global;
 use std::marker::Model;
 
-/// Clauses. The words hold for each its length, two links and its literals. One of two literals is whole in the lists of
-/// both. A longer one is in the chains of its two watches, which are its first two literals. Each literal has a chain,
-/// which leads from its head through the links of the watches to 0.
+/// Clauses. The words hold for each its length, two links and its literals. One of two literals is whole in the lists
+/// of both. A longer one is in the chains of its two watches, which are its first two literals. Each literal has a
+/// chain, which leads from its head through the links of the watches to 0.
 #[derive(Drop)]
 pub struct Arena {
     vars: u32,

@@ -11,4 +11,5 @@ all_named : (old new : Kept) (c : List Literal) → IsGivenOne old new c → All
 all_named old new c given = λ k d lt. named_given old new c (slice_index_or c k d) given (All-contains_itself c k d lt)
 
 pub returns : goal.returns
-returns c = all_named c.args.solver.now c.add_clause.new.self c.in_ok-lits.lits.items (subst (λ (ls : List Literal). IsGivenOne c.args.solver.now c.add_clause.new.self ls) c.deref.ensures.value c.in_ok-add_clause.ensures.more)
+returns c = all_named c.args.solver.now c.add_clause.new.self c.in_ok-lits.lits.items
+    (subst (λ (ls : List Literal). IsGivenOne c.args.solver.now c.add_clause.new.self ls) c.deref.ensures.value c.in_ok-add_clause.ensures.more)

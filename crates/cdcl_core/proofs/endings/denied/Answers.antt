@@ -11,5 +11,6 @@ loop-i-preserved c = c.in_ok-push_denied.ensures c.loop-i.invariant
 
 pub returns : goal.returns
 returns c =
-    let end : c.loop-i.i ≡ length c.args.trail.now.lits = let a = c.loop-i.auto.i-end in let b = c.loop-i-test.false in let e = c.len-i-end.ensures.value in omega arith in
+    let end : c.loop-i.i ≡ length c.args.trail.now.lits = let a = c.loop-i.auto.i-end in let b = c.loop-i-test.false in let e = c.len-i-end.ensures.value in
+    omega arith in
     subst (λ n. DeniedUpto c.args.trail.now n c.loop-i.lits.items) end c.loop-i.invariant

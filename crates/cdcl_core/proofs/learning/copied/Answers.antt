@@ -6,7 +6,8 @@ use Rattle.cdcl_core.proofs.learning.copied.Goals as goal
 pub loop-i-preserved : goal.loop-i-preserved
 loop-i-preserved c =
     let within : c.loop-i.i < length c.args.analyser.now.clause = let t = c.loop-i-test.true in let n = c.len-len.ensures in omega arith in
-    copied_more c.args.analyser.now.clause c.loop-i.lits.items c.push.new.self.items c.loop-i.i c.lit.result within c.lit.ensures c.loop-i.invariant c.in_ok-push.ensures.items
+    copied_more c.args.analyser.now.clause c.loop-i.lits.items c.push.new.self.items c.loop-i.i c.lit.result within c.lit.ensures c.loop-i.invariant
+    c.in_ok-push.ensures.items
 
 pub returns : goal.returns
 returns c =

@@ -6,4 +6,7 @@ use Rattle.cnf_core.specs.Propagation.{IsIn}
 use Rattle.cdcl_core.proofs.models.truths_of.Given as goal
 
 abbrev pub invariant-loop-i : goal.invariant-loop-i
-invariant-loop-i l = record { vars : length l.truths ≡ l.trail.vars; so_far : (k : Literal) → IsIn (has (take l.i l.trail.lits)) k → truth (assignment l.truths) k ≡ true }
+invariant-loop-i l = record {
+  vars : length l.truths ≡ l.trail.vars;
+  so_far : (k : Literal) → IsIn (has (take l.i l.trail.lits)) k → truth (assignment l.truths) k ≡ true;
+}

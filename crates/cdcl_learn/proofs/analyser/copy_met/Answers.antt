@@ -9,7 +9,8 @@ loop-i-preserved c =
     let room = c.requires in
     let size = c.loop-i.auto.side in
     let lt : c.loop-i.i < length c.args.work.now.met = omega arith in
-    take_more_set c.loop-i.side c.loop-i.i c.met.result (omega arith) ∙ ap (λ (ns : List ℕ). ns ++ c.met.result ∷ []) c.loop-i.invariant ∙ ap (λ v. take c.loop-i.i c.args.work.now.met ++ v ∷ []) c.met.ensures ∙ sym (take_more c.args.work.now.met c.loop-i.i 0 lt)
+    take_more_set c.loop-i.side c.loop-i.i c.met.result (omega arith) ∙ ap (λ (ns : List ℕ). ns ++ c.met.result ∷ []) c.loop-i.invariant
+    ∙ ap (λ v. take c.loop-i.i c.args.work.now.met ++ v ∷ []) c.met.ensures ∙ sym (take_more c.args.work.now.met c.loop-i.i 0 lt)
 
 pub returns-clause-same : goal.returns-clause-same
 returns-clause-same c =

@@ -14,8 +14,11 @@ pub loop-i-preserved : goal.loop-i-preserved
 loop-i-preserved c =
     let lt : c.loop-i.i < length (clause_in (sight c.args.arena.now c.args.trail.now) c.args.c.0) = omega arith in
     record {
-      vars = ap (λ (w : Cut). w.vars) c.add.ensures ∙ added_vars (sight c.args.arena.now c.args.trail.now) c.loop-i.work c.lit_of.result ∙ c.loop-i.invariant.vars;
-      rest = ap (λ (w : Cut). cut_with_all (sight c.args.arena.now c.args.trail.now) w (drop (c.loop-i.i + 1) (clause_in (sight c.args.arena.now c.args.trail.now) c.args.c.0))) c.add.ensures
-          ∙ gathered_step (sight c.args.arena.now c.args.trail.now) c.loop-i.work (clause_in (sight c.args.arena.now c.args.trail.now) c.args.c.0) c.loop-i.i c.lit_of.result lt c.lit_of.ensures
+      vars = ap (λ (w : Cut). w.vars) c.add.ensures ∙ added_vars (sight c.args.arena.now c.args.trail.now) c.loop-i.work c.lit_of.result
+          ∙ c.loop-i.invariant.vars;
+      rest = ap (λ (w : Cut). cut_with_all (sight c.args.arena.now c.args.trail.now) w
+          (drop (c.loop-i.i + 1) (clause_in (sight c.args.arena.now c.args.trail.now) c.args.c.0))) c.add.ensures
+          ∙ gathered_step (sight c.args.arena.now c.args.trail.now) c.loop-i.work (clause_in (sight c.args.arena.now c.args.trail.now) c.args.c.0) c.loop-i.i
+          c.lit_of.result lt c.lit_of.ensures
           ∙ c.loop-i.invariant.rest;
     }

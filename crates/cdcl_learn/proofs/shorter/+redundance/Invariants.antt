@@ -14,5 +14,6 @@ abbrev pub invariant-is_redundant-loop-i : goal.invariant-is_redundant-loop-i
 invariant-is_redundant-loop-i l = record {
   implied : AreImplied (sight l.arena l.trail) l.seen l.found;
   keeps : KeepsImplied l.fn.found l.found;
-  met : (j : ℕ) (d : Literal) → j < l.i → ((get_or (clause_in (sight l.arena l.trail) l.c.0) j d).var ≡ l.fn.k.var) ⊎ IsFounded l.seen l.found l.trail.levels (get_or (clause_in (sight l.arena l.trail) l.c.0) j d).var;
+  met : (j : ℕ) (d : Literal) → j < l.i → ((get_or (clause_in (sight l.arena l.trail) l.c.0) j d).var ≡ l.fn.k.var) ⊎ IsFounded l.seen l.found l.trail.levels
+      (get_or (clause_in (sight l.arena l.trail) l.c.0) j d).var;
 }

@@ -23,7 +23,9 @@ is_redundant-requires c =
       sound = c.requires.sound;
       size = c.requires.size;
       tables = omega arith;
-      falsified = subst (IsFalseBelow (sight c.args.arena.now c.args.trail.now)) (sym (c.index-rest-i.is ∙ c.loop-i.invariant.same c.loop-i.i c.index-rest-i.result (omega arith))) (c.requires.falsified c.loop-i.i c.index-rest-i.result c.loop-i-test.true);
+      falsified = subst (IsFalseBelow (sight c.args.arena.now c.args.trail.now)) (sym
+          (c.index-rest-i.is ∙ c.loop-i.invariant.same c.loop-i.i c.index-rest-i.result (omega arith)))
+          (c.requires.falsified c.loop-i.i c.index-rest-i.result c.loop-i-test.true);
       implied = c.loop-i.invariant.implied;
     }
 
@@ -38,17 +40,20 @@ loop-i-preserved c =
     elim c.if-not-is_redundant.branch [
       | then-not-is_redundant w ↦ record {
         fewer = omega arith;
-        same = λ j d le. subst (λ (ls : List Literal). get_or ls j d ≡ get_or c.args.rest.now j d) (sym w.rest-is) (keep_same c.args.rest.now c.loop-i.rest c.loop-i.i c.loop-i.left c.index-rest-i.result fewer c.loop-i.invariant.same j d le);
+        same = λ j d le. subst (λ (ls : List Literal). get_or ls j d ≡ get_or c.args.rest.now j d) (sym w.rest-is)
+            (keep_same c.args.rest.now c.loop-i.rest c.loop-i.i c.loop-i.left c.index-rest-i.result fewer c.loop-i.invariant.same j d le);
         tables = tables;
         implied = c.is_redundant.ensures.implied;
-        shortened = rw (w.rest-is, w.left-is) (keep_step s c.args.seen.now found c.args.rest.now c.loop-i.rest c.loop-i.i c.loop-i.left c.args.len c.index-rest-i.result c.loop-i-test.true within c.loop-i.auto.rest fewer c.requires.distinct c.index-rest-i.is c.loop-i.invariant.same before);
+        shortened = rw (w.rest-is, w.left-is) (keep_step s c.args.seen.now found c.args.rest.now c.loop-i.rest c.loop-i.i c.loop-i.left c.args.len
+            c.index-rest-i.result c.loop-i-test.true within c.loop-i.auto.rest fewer c.requires.distinct c.index-rest-i.is c.loop-i.invariant.same before);
       }
       | else-not-is_redundant w ↦ record {
         fewer = omega arith;
         same = λ j d le. subst (λ (ls : List Literal). get_or ls j d ≡ get_or c.args.rest.now j d) (sym w.rest-is) (c.loop-i.invariant.same j d (omega arith));
         tables = tables;
         implied = c.is_redundant.ensures.implied;
-        shortened = rw (w.rest-is, w.left-is) (drop_step s c.args.seen.now found c.args.rest.now c.loop-i.rest c.loop-i.i c.loop-i.left c.index-rest-i.result (omega arith) c.index-rest-i.is c.loop-i.invariant.same (c.is_redundant.ensures.redundant w.if-not-is_redundant.false) before);
+        shortened = rw (w.rest-is, w.left-is) (drop_step s c.args.seen.now found c.args.rest.now c.loop-i.rest c.loop-i.i c.loop-i.left c.index-rest-i.result
+            (omega arith) c.index-rest-i.is c.loop-i.invariant.same (c.is_redundant.ensures.redundant w.if-not-is_redundant.false) before);
       }
     ]
 
@@ -58,5 +63,6 @@ returns-clause-shortened c =
     record {
       implied = c.loop-i.found;
       follow = c.loop-i.invariant.implied;
-      short = subst (λ n. IsShortenedBy (sight c.args.arena.now c.args.trail.now) c.args.seen.now c.loop-i.found (take n c.args.rest.now) (take c.loop-i.left c.loop-i.rest)) z c.loop-i.invariant.shortened;
+      short = subst (λ n. IsShortenedBy (sight c.args.arena.now c.args.trail.now) c.args.seen.now c.loop-i.found (take n c.args.rest.now)
+          (take c.loop-i.left c.loop-i.rest)) z c.loop-i.invariant.shortened;
     }

@@ -14,4 +14,5 @@ loop-end-init c = record {
 pub returns-clause-traced : goal.returns-clause-traced
 returns-clause-traced c = λ front t.
     let z : c.loop-end.end ≡ 0 = omega arith in
-    traced (sight c.args.arena.now c.args.trail.now) c.loop-end.work front (subst (λ n. IsTracing (sight c.args.arena.now c.args.trail.now) c.loop-end.work front n) z (c.loop-end.invariant.tracing front t))
+    traced (sight c.args.arena.now c.args.trail.now) c.loop-end.work front (subst
+    (λ n. IsTracing (sight c.args.arena.now c.args.trail.now) c.loop-end.work front n) z (c.loop-end.invariant.tracing front t))

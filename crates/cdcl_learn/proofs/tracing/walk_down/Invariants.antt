@@ -8,7 +8,8 @@ abbrev pub invariant-loop-end : goal.invariant-loop-end
 invariant-loop-end l = record {
   vars : l.work.vars ≡ l.trail.vars;
   within : l.end ≤ length l.trail.lits;
-  tracing : (front : List Literal) → IsTracing (sight l.arena l.trail) l.fn.work front (length l.trail.lits) → IsTracing (sight l.arena l.trail) l.work front l.end;
+  tracing : (front : List Literal) → IsTracing (sight l.arena l.trail) l.fn.work front (length l.trail.lits) →
+      IsTracing (sight l.arena l.trail) l.work front l.end;
 }
 
 abbrev pub decreases-loop-end : goal.decreases-loop-end

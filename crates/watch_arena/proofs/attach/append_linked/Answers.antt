@@ -19,14 +19,19 @@ link_both-requires c =
     let old = c.args.words.now.items in
     let n : c.len-before.result ≡ length old = search rules in
     let ws : c.deref_mut.result.now ≡ old ++ block_of lits = c.deref_mut.ensures.value ∙ c.in_ok-append.ensures.all in
-    let places : c.deref.result.now ≡ c.args.places.now.items ++ length old ∷ [] = c.deref.ensures.value ∙ c.in-Ok.ensures.items ∙ ap (λ k. c.args.places.now.items ++ k ∷ []) n in
-    let u : IsUnlinked vars (old ++ block_of lits) c.args.heads.now (c.args.places.now.items ++ length old ∷ []) (length old) (word_of c.index-lits-0.result) (word_of c.index-lits-1.result) =
-    unlinked vars old c.args.heads.now c.args.places.now.items lits c.requires.linked c.requires.some (omega arith) c.requires.two c.requires.there c.requires.distinct c.index-lits-0.result c.index-lits-1.result (sym c.index-lits-0.is) (sym c.index-lits-1.is) in
+    let places : c.deref.result.now ≡ c.args.places.now.items ++ length old ∷ [] = c.deref.ensures.value ∙ c.in-Ok.ensures.items
+    ∙ ap (λ k. c.args.places.now.items ++ k ∷ []) n in
+    let u : IsUnlinked vars (old ++ block_of lits) c.args.heads.now (c.args.places.now.items ++ length old ∷ []) (length old) (word_of c.index-lits-0.result)
+    (word_of c.index-lits-1.result) =
+    unlinked vars old c.args.heads.now c.args.places.now.items lits c.requires.linked c.requires.some (omega arith) c.requires.two c.requires.there
+    c.requires.distinct c.index-lits-0.result c.index-lits-1.result (sym c.index-lits-0.is) (sym c.index-lits-1.is) in
     subst (λ (w : List ℕ). IsUnlinked vars w c.args.heads.now c.deref.result.now c.len-before.result c.word.result c.word-2.result) (sym ws)
     (subst (λ (p : List ℕ). IsUnlinked vars (old ++ block_of lits) c.args.heads.now p c.len-before.result c.word.result c.word-2.result) (sym places)
     (subst (λ k. IsUnlinked vars (old ++ block_of lits) c.args.heads.now (c.args.places.now.items ++ length old ∷ []) k c.word.result c.word-2.result) (sym n)
-    (subst (λ a. IsUnlinked vars (old ++ block_of lits) c.args.heads.now (c.args.places.now.items ++ length old ∷ []) (length old) a c.word-2.result) (sym c.word.ensures.value)
-    (subst (λ b. IsUnlinked vars (old ++ block_of lits) c.args.heads.now (c.args.places.now.items ++ length old ∷ []) (length old) (word_of c.index-lits-0.result) b) (sym c.word-2.ensures.value) u))))
+    (subst (λ a. IsUnlinked vars (old ++ block_of lits) c.args.heads.now (c.args.places.now.items ++ length old ∷ []) (length old) a c.word-2.result)
+    (sym c.word.ensures.value)
+    (subst (λ b. IsUnlinked vars (old ++ block_of lits) c.args.heads.now (c.args.places.now.items ++ length old ∷ []) (length old)
+    (word_of c.index-lits-0.result) b) (sym c.word-2.ensures.value) u))))
 
 pub returns-clause-others : goal.returns-clause-others
 returns-clause-others c = λ i lt.
@@ -35,7 +40,8 @@ returns-clause-others c = λ i lt.
     let size : length c.link_both.new.words ≡ length c.deref_mut.result.now = c.link_both.auto.words in
     let len : length c.deref_mut.result.now ≡ vec_len c.append.new.words = search rules in
     let words = with_items c.append.new.words c.link_both.new.words in
-    let items : words.items ≡ c.link_both.new.words = take_at c.link_both.new.words (drop (length c.link_both.new.words) c.append.new.words.items) (vec_len c.append.new.words) (size ∙ len) in
+    let items : words.items ≡ c.link_both.new.words = take_at c.link_both.new.words (drop (length c.link_both.new.words) c.append.new.words.items)
+    (vec_len c.append.new.words) (size ∙ len) in
     let ws : c.deref_mut.result.now ≡ old ++ block_of c.args.lits.now = c.deref_mut.ensures.value ∙ c.in_ok-append.ensures.all in
     ap (λ (w : List ℕ). arena_word w i) items ∙ c.link_both.ensures.front i (omega arith) ∙ ap (λ (w : List ℕ). arena_word w i) ws
     ∙ before c.args.trail.now.vars old c.args.lits.now c.requires.some c.requires.two c.requires.there c.requires.distinct i lt
@@ -48,11 +54,13 @@ returns-clause-clause c =
     let size : length c.link_both.new.words ≡ length c.deref_mut.result.now = c.link_both.auto.words in
     let len : length c.deref_mut.result.now ≡ vec_len c.append.new.words = search rules in
     let words = with_items c.append.new.words c.link_both.new.words in
-    let items : words.items ≡ c.link_both.new.words = take_at c.link_both.new.words (drop (length c.link_both.new.words) c.append.new.words.items) (vec_len c.append.new.words) (size ∙ len) in
+    let items : words.items ≡ c.link_both.new.words = take_at c.link_both.new.words (drop (length c.link_both.new.words) c.append.new.words.items)
+    (vec_len c.append.new.words) (size ∙ len) in
     let ws : c.deref_mut.result.now ≡ old ++ block_of lits = c.deref_mut.ensures.value ∙ c.in_ok-append.ensures.all in
     let places : c.deref.result.now ≡ c.args.places.now.items ++ c.len-before.result ∷ [] = c.deref.ensures.value ∙ c.in-Ok.ensures.items in
     ap (lits_at words.items) (sym n) ∙ ap (λ (w : List ℕ). lits_at w c.len-before.result) items
-    ∙ kept_lits c.deref.result.now c.deref_mut.result.now c.link_both.new.words c.len-before.result c.link_both.ensures.lits (subst (λ (ps : List ℕ). Contains ps c.len-before.result) (sym places) (Contains-push c.args.places.now.items c.len-before.result))
+    ∙ kept_lits c.deref.result.now c.deref_mut.result.now c.link_both.new.words c.len-before.result c.link_both.ensures.lits
+    (subst (λ (ps : List ℕ). Contains ps c.len-before.result) (sym places) (Contains-push c.args.places.now.items c.len-before.result))
     ∙ ap (λ (w : List ℕ). lits_at w c.len-before.result) ws ∙ ap (lits_at (old ++ block_of lits)) n
     ∙ behind_lits c.args.trail.now.vars old lits c.requires.some c.requires.two c.requires.there c.requires.distinct
 
@@ -63,6 +71,8 @@ returns-clause-size c =
     let size : length c.link_both.new.words ≡ length c.deref_mut.result.now = c.link_both.auto.words in
     let len : length c.deref_mut.result.now ≡ vec_len c.append.new.words = search rules in
     let words = with_items c.append.new.words c.link_both.new.words in
-    let items : words.items ≡ c.link_both.new.words = take_at c.link_both.new.words (drop (length c.link_both.new.words) c.append.new.words.items) (vec_len c.append.new.words) (size ∙ len) in
+    let items : words.items ≡ c.link_both.new.words = take_at c.link_both.new.words (drop (length c.link_both.new.words) c.append.new.words.items)
+    (vec_len c.append.new.words) (size ∙ len) in
     let ws : c.deref_mut.result.now ≡ old ++ block_of lits = c.deref_mut.ensures.value ∙ c.in_ok-append.ensures.all in
-    ap length items ∙ size ∙ ap length ws ∙ behind_length c.args.trail.now.vars old lits c.requires.some c.requires.two c.requires.there c.requires.distinct ∙ omega arith
+    ap length items ∙ size ∙ ap length ws ∙ behind_length c.args.trail.now.vars old lits c.requires.some c.requires.two c.requires.there c.requires.distinct
+    ∙ omega arith

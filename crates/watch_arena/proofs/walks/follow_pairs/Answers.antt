@@ -9,7 +9,8 @@ use Rattle.watch_arena.proofs.PairLemmas.{held_longer}
 use Rattle.watch_arena.proofs.walks.follow_pairs.Goals as goal
 
 pub returns-then-follow_pair-clause-made : goal.returns-then-follow_pair-clause-made
-returns-then-follow_pair-clause-made c = made_more c.args.trail.now c.loop-p.trail c.follow_pair.new.trail _ _ _ _ c.loop-p.invariant.made c.follow_pair.ensures.made
+returns-then-follow_pair-clause-made c = made_more c.args.trail.now c.loop-p.trail c.follow_pair.new.trail _ _ _ _ c.loop-p.invariant.made
+    c.follow_pair.ensures.made
 
 pub loop-p-preserved : goal.loop-p-preserved
 loop-p-preserved c =
@@ -21,10 +22,12 @@ loop-p-preserved c =
       made = made_more c.args.trail.now c.loop-p.trail c.follow_pair.new.trail _ _ _ _ i.made e.made;
       counted = let one = c.saturating_add.ensures in let all = i.counted in omega arith;
       held = λ j d lt. elim (cases_lt j c.loop-p.p-index) [
-        | inl below ↦ held_longer c.loop-p.trail c.follow_pair.new.trail (negate (literal_at c.args.w)) (get_or c.args.pairs.now j d).other i.marks e.made.longer (i.held j d below)
+        | inl below ↦ held_longer c.loop-p.trail c.follow_pair.new.trail (negate (literal_at c.args.w)) (get_or c.args.pairs.now j d).other i.marks
+            e.made.longer (i.held j d below)
         | inr last ↦
             let same : c.loop-p.p-index ≡ j = omega arith in
-            let read : c.p-item.result ≡ get_or c.args.pairs.now j d = c.p-item.is ∙ get_or_default c.args.pairs.now c.loop-p.p-index c.p-item.result d c.loop-p-test.true ∙ ap (λ n. get_or c.args.pairs.now n d) same in
+            let read : c.p-item.result ≡ get_or c.args.pairs.now j d = c.p-item.is
+            ∙ get_or_default c.args.pairs.now c.loop-p.p-index c.p-item.result d c.loop-p-test.true ∙ ap (λ n. get_or c.args.pairs.now n d) same in
             subst (λ (x : Pair). IsTrueNoLater c.follow_pair.new.trail (negate (literal_at c.args.w)) x.other) read (e.held c.if-follow_pair.false)
       ];
     }

@@ -18,11 +18,13 @@ returns-in-Some-clause-made c = made_more c.args.trail.now c.loop-words.trail c.
 
 pub returns-in-Some-clause-clashes : goal.returns-in-Some-clause-clashes
 returns-in-Some-clause-clashes c =
-    clash_clashes c.args.trail.now c.advance.new.trail _ _ _ c.in-Some.clash.0 (made_more c.args.trail.now c.loop-words.trail c.advance.new.trail _ _ _ _ c.loop-words.invariant.made c.advance.ensures.made) c.in-Some.ensures.clash
+    clash_clashes c.args.trail.now c.advance.new.trail _ _ _ c.in-Some.clash.0 (made_more c.args.trail.now c.loop-words.trail c.advance.new.trail _ _ _ _
+    c.loop-words.invariant.made c.advance.ensures.made) c.in-Some.ensures.clash
 
 pub returns-clause-closes : goal.returns-clause-closes
 returns-clause-closes c = λ _.
     let marks = c.len.ensures.marks in
     let front = marks.front in
     let w = c.loop-words.invariant.watched in
-    watched_closes c.args.trail.now c.loop-words.trail _ _ _ marks c.loop-words.invariant.made w.store (all_quiet c.loop-words.trail _ _ _ _ _ _ w) (omega arith)
+    watched_closes c.args.trail.now c.loop-words.trail _ _ _ marks c.loop-words.invariant.made w.store (all_quiet c.loop-words.trail _ _ _ _ _ _ w)
+    (omega arith)

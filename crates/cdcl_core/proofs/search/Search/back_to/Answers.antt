@@ -14,9 +14,21 @@ returns-then-level-self-clause-search c =
     let len : length c.release.new.phases ≡ c.args.self.now.phases.len = c.release.auto.phases ∙ c.deref_mut.ensures.len in
     let items : length c.release.new.phases ≡ length c.args.self.now.phases.items = c.release.auto.phases ∙ ap length c.deref_mut.ensures.value in
     record {
-      fitted = record { room_limit = f.room_limit; heap_size = c.release.ensures.vars ∙ f.heap_size; analyser_size = f.analyser_size; phases_size = ap length (take_at c.release.new.phases (drop (length c.release.new.phases) c.args.self.now.phases.items) c.args.self.now.phases.len len) ∙ items ∙ f.phases_size; arena_limit = f.arena_limit; sum = f.sum; within = f.within };
-      solving = solving_undone c.args.self.now.arena c.args.self.now.trail c.undo_to.new.self c.args.self.now.own.items c.args.self.now.refuted c.args.level c.undo_to.ensures.value c.undo_to.ensures.marks
-          (c.undo_to.ensures.watched c.args.self.now.arena c.requires.search.solving.watched) (c.undo_to.ensures.reasoned c.args.self.now.arena c.requires.search.solving.grounded.reasoned) c.requires.level c.requires.search.solving.grounded;
+      fitted = record {
+        room_limit = f.room_limit;
+        heap_size = c.release.ensures.vars ∙ f.heap_size;
+        analyser_size = f.analyser_size;
+        phases_size = ap length
+            (take_at c.release.new.phases (drop (length c.release.new.phases) c.args.self.now.phases.items) c.args.self.now.phases.len len) ∙ items
+            ∙ f.phases_size;
+        arena_limit = f.arena_limit;
+        sum = f.sum;
+        within = f.within;
+      };
+      solving = solving_undone c.args.self.now.arena c.args.self.now.trail c.undo_to.new.self c.args.self.now.own.items c.args.self.now.refuted c.args.level
+          c.undo_to.ensures.value c.undo_to.ensures.marks
+          (c.undo_to.ensures.watched c.args.self.now.arena c.requires.search.solving.watched)
+          (c.undo_to.ensures.reasoned c.args.self.now.arena c.requires.search.solving.grounded.reasoned) c.requires.level c.requires.search.solving.grounded;
       offered = subst (AreOffered c.release.new.heap) (sym c.undo_to.ensures.value) c.release.ensures.offered;
     }
 
@@ -27,17 +39,32 @@ returns-else-level-self-clause-search c =
     let len : length c.release.new.phases ≡ c.args.self.now.phases.len = c.release.auto.phases ∙ c.deref_mut.ensures.len in
     let items : length c.release.new.phases ≡ length c.args.self.now.phases.items = c.release.auto.phases ∙ ap length c.deref_mut.ensures.value in
     record {
-      fitted = record { room_limit = f.room_limit; heap_size = c.release.ensures.vars ∙ f.heap_size; analyser_size = f.analyser_size; phases_size = ap length (take_at c.release.new.phases (drop (length c.release.new.phases) c.args.self.now.phases.items) c.args.self.now.phases.len len) ∙ items ∙ f.phases_size; arena_limit = f.arena_limit; sum = f.sum; within = f.within };
-      solving = solving_undone c.args.self.now.arena c.args.self.now.trail c.undo_to.new.self c.args.self.now.own.items c.args.self.now.refuted c.args.level c.undo_to.ensures.value c.undo_to.ensures.marks
-          (c.undo_to.ensures.watched c.args.self.now.arena c.requires.search.solving.watched) (c.undo_to.ensures.reasoned c.args.self.now.arena c.requires.search.solving.grounded.reasoned) c.requires.level c.requires.search.solving.grounded;
+      fitted = record {
+        room_limit = f.room_limit;
+        heap_size = c.release.ensures.vars ∙ f.heap_size;
+        analyser_size = f.analyser_size;
+        phases_size = ap length
+            (take_at c.release.new.phases (drop (length c.release.new.phases) c.args.self.now.phases.items) c.args.self.now.phases.len len) ∙ items
+            ∙ f.phases_size;
+        arena_limit = f.arena_limit;
+        sum = f.sum;
+        within = f.within;
+      };
+      solving = solving_undone c.args.self.now.arena c.args.self.now.trail c.undo_to.new.self c.args.self.now.own.items c.args.self.now.refuted c.args.level
+          c.undo_to.ensures.value c.undo_to.ensures.marks
+          (c.undo_to.ensures.watched c.args.self.now.arena c.requires.search.solving.watched)
+          (c.undo_to.ensures.reasoned c.args.self.now.arena c.requires.search.solving.grounded.reasoned) c.requires.level c.requires.search.solving.grounded;
       offered = subst (AreOffered c.release.new.heap) (sym c.undo_to.ensures.value) c.release.ensures.offered;
     }
 
 pub returns-then-level-self-clause-asking : goal.returns-then-level-self-clause-asking
-returns-then-level-self-clause-asking c = λ query h. again_at c.args.self.now.arena c.args.self.now.trail c.undo_to.new.self query c.args.self.now.levels c.args.self.now.assumed c.args.level c.undo_to.ensures.value c.requires.search.solving.grounded.marks c.undo_to.ensures.marks c.if-level-self.true h
+returns-then-level-self-clause-asking c = λ query h. again_at c.args.self.now.arena c.args.self.now.trail c.undo_to.new.self query c.args.self.now.levels
+    c.args.self.now.assumed c.args.level c.undo_to.ensures.value c.requires.search.solving.grounded.marks c.undo_to.ensures.marks c.if-level-self.true h
 
 pub returns-else-level-self-clause-asking : goal.returns-else-level-self-clause-asking
-returns-else-level-self-clause-asking c = λ query h. undone_at c.args.self.now.arena c.args.self.now.trail c.undo_to.new.self query c.args.self.now.levels c.args.self.now.assumed c.args.level c.undo_to.ensures.value c.requires.search.solving.grounded.marks c.undo_to.ensures.marks c.requires.level c.if-level-self.false h
+returns-else-level-self-clause-asking c = λ query h. undone_at c.args.self.now.arena c.args.self.now.trail c.undo_to.new.self query c.args.self.now.levels
+    c.args.self.now.assumed c.args.level c.undo_to.ensures.value c.requires.search.solving.grounded.marks c.undo_to.ensures.marks c.requires.level
+    c.if-level-self.false h
 
 pub returns-then-level-self-clause-store : goal.returns-then-level-self-clause-store
 returns-then-level-self-clause-store c =

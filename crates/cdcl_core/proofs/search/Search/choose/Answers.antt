@@ -18,7 +18,15 @@ returns-in-None-clause-search c =
     let vars = c.pick.ensures.vars in
     let f = c.requires.search.fitted in
     record {
-      fitted = record { room_limit = f.room_limit; heap_size = vars ∙ f.heap_size; analyser_size = f.analyser_size; phases_size = f.phases_size; arena_limit = f.arena_limit; sum = f.sum; within = f.within };
+      fitted = record {
+        room_limit = f.room_limit;
+        heap_size = vars ∙ f.heap_size;
+        analyser_size = f.analyser_size;
+        phases_size = f.phases_size;
+        arena_limit = f.arena_limit;
+        sum = f.sum;
+        within = f.within;
+      };
       solving = c.requires.search.solving;
       offered = λ l there un. absurd (c.pick.ensures.none c.in-None.is l there un);
     }
@@ -26,8 +34,12 @@ returns-in-None-clause-search c =
 pub returns-in-None-clause-stop : goal.returns-in-None-clause-stop
 returns-in-None-clause-stop c = record {
   total = c.pick.ensures.none c.in-None.is;
-  quiet = settled_all c.args.self.now.arena c.args.self.now.trail c.args.self.now.own.items (unrefuted c.args.self.now.arena c.args.self.now.trail c.args.self.now.own.items c.args.self.now.refuted c.requires.unrefuted c.requires.search.solving.grounded) c.requires.settled;
-  assumed = λ l among. (upto_parts (sight c.args.self.now.arena c.args.self.now.trail) c.args.self.now.levels l (asking_all c.args.query.now (sight c.args.self.now.arena c.args.self.now.trail) c.args.self.now.levels c.args.self.now.assumed c.requires.all c.requires.asking l among)).0;
+  quiet = settled_all c.args.self.now.arena c.args.self.now.trail c.args.self.now.own.items
+      (unrefuted c.args.self.now.arena c.args.self.now.trail c.args.self.now.own.items c.args.self.now.refuted c.requires.unrefuted
+      c.requires.search.solving.grounded) c.requires.settled;
+  assumed = λ l among. (upto_parts (sight c.args.self.now.arena c.args.self.now.trail) c.args.self.now.levels l
+      (asking_all c.args.query.now (sight c.args.self.now.arena c.args.self.now.trail) c.args.self.now.levels c.args.self.now.assumed c.requires.all
+      c.requires.asking l among)).0;
 }
 
 pub returns-in-Some-clause-search : goal.returns-in-Some-clause-search
@@ -37,21 +49,35 @@ returns-in-Some-clause-search c =
     let f = fitted_vars c.decide.new.self.vars vars c.requires.search.fitted in
     let var : c.new-l.result.var ≡ c.in-Some.v.0 = ap (λ (k : Literal). k.var) c.new-l.ensures in
     record {
-      fitted = record { room_limit = f.room_limit; heap_size = heap ∙ f.heap_size; analyser_size = f.analyser_size; phases_size = f.phases_size; arena_limit = f.arena_limit; sum = f.sum; within = f.within };
-      solving = solving_decided c.args.self.now.arena c.args.self.now.trail c.decide.new.self c.args.self.now.own.items c.args.self.now.refuted c.new-l.result c.decide.ensures.value c.decide.ensures.marks
-          (c.decide.ensures.watched c.args.self.now.arena c.requires.search.solving.watched) (c.decide.ensures.reasoned c.args.self.now.arena c.requires.search.solving.grounded.reasoned) c.requires.settled c.requires.search.solving.grounded;
-      offered = subst (AreOffered c.pick.new.heap) (sym c.decide.ensures.value) (offered_decided c.pick.new.heap c.args.self.now.trail c.new-l.result (λ k there un ne. c.in-Some.ensures.others k there un (λ e. ne (e ∙ sym var))));
+      fitted = record {
+        room_limit = f.room_limit;
+        heap_size = heap ∙ f.heap_size;
+        analyser_size = f.analyser_size;
+        phases_size = f.phases_size;
+        arena_limit = f.arena_limit;
+        sum = f.sum;
+        within = f.within;
+      };
+      solving = solving_decided c.args.self.now.arena c.args.self.now.trail c.decide.new.self c.args.self.now.own.items c.args.self.now.refuted c.new-l.result
+          c.decide.ensures.value c.decide.ensures.marks
+          (c.decide.ensures.watched c.args.self.now.arena c.requires.search.solving.watched)
+          (c.decide.ensures.reasoned c.args.self.now.arena c.requires.search.solving.grounded.reasoned) c.requires.settled c.requires.search.solving.grounded;
+      offered = subst (AreOffered c.pick.new.heap) (sym c.decide.ensures.value) (offered_decided c.pick.new.heap c.args.self.now.trail c.new-l.result
+          (λ k there un ne. c.in-Some.ensures.others k there un (λ e. ne (e ∙ sym var))));
     }
 
 chosen_unset : (lits : List Literal) (l : Literal) (v : ℕ) → l.var ≡ v → IsUnset lits (literal v true) → IsUnset lits l
 chosen_unset lits l v e un = unset_other lits (literal v true) l (sym e) un
 
 pub decide-requires-clause-unset : goal.decide-requires-clause-unset
-decide-requires-clause-unset c = chosen_unset c.args.self.now.trail.lits c.new-l.result c.in-Some.v.0 (ap (λ (k : Literal). k.var) c.new-l.ensures) c.in-Some.ensures.unset
+decide-requires-clause-unset c = chosen_unset c.args.self.now.trail.lits c.new-l.result c.in-Some.v.0 (ap (λ (k : Literal). k.var) c.new-l.ensures)
+    c.in-Some.ensures.unset
 
 pub returns-in-Some-clause-asking : goal.returns-in-Some-clause-asking
-returns-in-Some-clause-asking c = decided_at c.args.self.now.arena c.args.self.now.trail c.decide.new.self c.new-l.result c.args.query.now c.args.self.now.levels c.args.self.now.assumed c.decide.ensures.value c.requires.search.solving.grounded.marks c.decide.ensures.marks
-    (chosen_unset c.args.self.now.trail.lits c.new-l.result c.in-Some.v.0 (ap (λ (k : Literal). k.var) c.new-l.ensures) c.in-Some.ensures.unset) c.requires.all c.requires.asking
+returns-in-Some-clause-asking c = decided_at c.args.self.now.arena c.args.self.now.trail c.decide.new.self c.new-l.result c.args.query.now
+    c.args.self.now.levels c.args.self.now.assumed c.decide.ensures.value c.requires.search.solving.grounded.marks c.decide.ensures.marks
+    (chosen_unset c.args.self.now.trail.lits c.new-l.result c.in-Some.v.0 (ap (λ (k : Literal). k.var) c.new-l.ensures) c.in-Some.ensures.unset) c.requires.all
+    c.requires.asking
 
 pub returns-in-Some-clause-store : goal.returns-in-Some-clause-store
 returns-in-Some-clause-store c =

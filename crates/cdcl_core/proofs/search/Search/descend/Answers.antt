@@ -25,7 +25,8 @@ pub decide_next-requires-clause-asking : goal.decide_next-requires-clause-asking
 decide_next-requires-clause-asking c = c.propagate.ensures.asking c.args.query.now c.loop-clash.invariant.asking
 
 pub returns-in-Some-decide_next-clause-store : goal.returns-in-Some-decide_next-clause-store
-returns-in-Some-decide_next-clause-store c = store_more c.args.self.now c.propagate.new.self c.decide_next.new.self (store_more c.args.self.now c.loop-clash.self c.propagate.new.self c.loop-clash.invariant.store c.propagate.ensures.store) c.decide_next.ensures.store
+returns-in-Some-decide_next-clause-store c = store_more c.args.self.now c.propagate.new.self c.decide_next.new.self
+    (store_more c.args.self.now c.loop-clash.self c.propagate.new.self c.loop-clash.invariant.store c.propagate.ensures.store) c.decide_next.ensures.store
 
 pub loop-clash-preserved : goal.loop-clash-preserved
 loop-clash-preserved c = record {
@@ -33,7 +34,8 @@ loop-clash-preserved c = record {
   unrefuted = c.decide_next.ensures.store.refuted ∙ c.propagate.ensures.store.refuted ∙ c.loop-clash.invariant.unrefuted;
   there = subst (λ v. AreThere v c.args.query.now) (sym (c.decide_next.ensures.store.vars ∙ c.propagate.ensures.store.vars)) c.loop-clash.invariant.there;
   asking = c.decide_next.ensures.asking;
-  store = store_more c.args.self.now c.propagate.new.self c.decide_next.new.self (store_more c.args.self.now c.loop-clash.self c.propagate.new.self c.loop-clash.invariant.store c.propagate.ensures.store) c.decide_next.ensures.store;
+  store = store_more c.args.self.now c.propagate.new.self c.decide_next.new.self (store_more c.args.self.now c.loop-clash.self c.propagate.new.self
+      c.loop-clash.invariant.store c.propagate.ensures.store) c.decide_next.ensures.store;
 }
 
 pub returns-in-Some-clause-asking : goal.returns-in-Some-clause-asking

@@ -16,10 +16,12 @@ pub attach-requires-clause-vars : goal.attach-requires-clause-vars
 attach-requires-clause-vars c = c.requires.idle.search.solving.grounded.vars
 
 pub attach-requires-clause-two : goal.attach-requires-clause-two
-attach-requires-clause-two c = subst (λ (ls : List Literal). 2 ≤ length ls) (sym c.as_slice.ensures.value) (two c.args.self.now.trail c.args.clause c.requires.silent c.requires.more)
+attach-requires-clause-two c = subst (λ (ls : List Literal). 2 ≤ length ls) (sym c.as_slice.ensures.value)
+    (two c.args.self.now.trail c.args.clause c.requires.silent c.requires.more)
 
 pub attach-requires-clause-there : goal.attach-requires-clause-there
-attach-requires-clause-there c = subst (AreThere c.args.self.now.arena.vars) (sym c.as_slice.ensures.value) (subst (λ v. AreThere v c.args.clause) c.requires.idle.search.solving.grounded.vars c.requires.there)
+attach-requires-clause-there c = subst (AreThere c.args.self.now.arena.vars) (sym c.as_slice.ensures.value)
+    (subst (λ v. AreThere v c.args.clause) c.requires.idle.search.solving.grounded.vars c.requires.there)
 
 pub attach-requires-clause-distinct : goal.attach-requires-clause-distinct
 attach-requires-clause-distinct c = subst AreDistinct (sym c.as_slice.ensures.value) c.requires.distinct
@@ -29,11 +31,24 @@ returns-clause-idle c =
     let s = c.requires.idle.search in
     let f = s.fitted in
     let size : length c.as_slice.result.now ≡ length c.args.clause = ap length c.as_slice.ensures.value in
-    let put : IsPut c.args.self.now.arena c.attach.new.self c.args.self.now.trail c.in-Ok.place.0 c.args.clause = put_from c.args.self.now.arena c.attach.new.self c.args.self.now.trail c.in-Ok.place.0 c.args.clause c.as_slice.result.now c.as_slice.ensures.value c.in-Ok.ensures.places c.in-Ok.ensures.clause c.attach.ensures.others c.in-Ok.ensures.watched (c.attach.ensures.reasoned c.args.self.now.trail s.solving.grounded.reasoned) c.attach.ensures.attached in
+    let put : IsPut c.args.self.now.arena c.attach.new.self c.args.self.now.trail c.in-Ok.place.0 c.args.clause = put_from c.args.self.now.arena
+    c.attach.new.self c.args.self.now.trail c.in-Ok.place.0 c.args.clause c.as_slice.result.now c.as_slice.ensures.value c.in-Ok.ensures.places
+    c.in-Ok.ensures.clause c.attach.ensures.others c.in-Ok.ensures.watched (c.attach.ensures.reasoned c.args.self.now.trail s.solving.grounded.reasoned)
+    c.attach.ensures.attached in
     record {
       search = record {
-        fitted = record { room_limit = f.room_limit; heap_size = f.heap_size; analyser_size = f.analyser_size; phases_size = f.phases_size; arena_limit = put.more.room ∙ f.arena_limit; sum = let e = f.sum in let w = c.in-Ok.ensures.words in omega arith; within = let r = c.requires.room in omega arith };
-        solving = solving_silent c.args.self.now.arena c.attach.new.self c.args.self.now.trail c.args.self.now.own.items c.args.self.now.refuted c.in-Ok.place.0 c.args.clause c.requires.idle.level c.requires.more put c.requires.silent c.requires.there s.solving;
+        fitted = record {
+          room_limit = f.room_limit;
+          heap_size = f.heap_size;
+          analyser_size = f.analyser_size;
+          phases_size = f.phases_size;
+          arena_limit = put.more.room
+              ∙ f.arena_limit;
+          sum = let e = f.sum in let w = c.in-Ok.ensures.words in omega arith;
+          within = let r = c.requires.room in omega arith;
+        };
+        solving = solving_silent c.args.self.now.arena c.attach.new.self c.args.self.now.trail c.args.self.now.own.items c.args.self.now.refuted c.in-Ok.place.0
+            c.args.clause c.requires.idle.level c.requires.more put c.requires.silent c.requires.there s.solving;
         offered = s.offered;
       };
       level = c.requires.idle.level;
@@ -41,7 +56,11 @@ returns-clause-idle c =
 
 pub returns-clause-kept : goal.returns-clause-kept
 returns-clause-kept c = record {
-  clauses = same_attached c.args.self.now.arena c.attach.new.self c.args.self.now.own.items c.args.clause (put_text c.args.self.now.arena c.attach.new.self c.args.self.now.trail c.in-Ok.place.0 c.args.clause (put_from c.args.self.now.arena c.attach.new.self c.args.self.now.trail c.in-Ok.place.0 c.args.clause c.as_slice.result.now c.as_slice.ensures.value c.in-Ok.ensures.places c.in-Ok.ensures.clause c.attach.ensures.others c.in-Ok.ensures.watched (c.attach.ensures.reasoned c.args.self.now.trail c.requires.idle.search.solving.grounded.reasoned) c.attach.ensures.attached));
+  clauses = same_attached c.args.self.now.arena c.attach.new.self c.args.self.now.own.items c.args.clause
+      (put_text c.args.self.now.arena c.attach.new.self c.args.self.now.trail c.in-Ok.place.0 c.args.clause
+      (put_from c.args.self.now.arena c.attach.new.self c.args.self.now.trail c.in-Ok.place.0 c.args.clause c.as_slice.result.now c.as_slice.ensures.value
+      c.in-Ok.ensures.places c.in-Ok.ensures.clause c.attach.ensures.others c.in-Ok.ensures.watched
+      (c.attach.ensures.reasoned c.args.self.now.trail c.requires.idle.search.solving.grounded.reasoned) c.attach.ensures.attached));
   words = omega arith;
   room = refl;
   vars = refl;

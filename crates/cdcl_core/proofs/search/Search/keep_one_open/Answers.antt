@@ -9,7 +9,10 @@ pub is_unset-requires : goal.is_unset-requires
 is_unset-requires c = first_there c.args.self.now.trail.vars c.args.clause c.get.result c.get.ensures c.requires.there
 
 pub keep_asserting-requires-clause-asserted : goal.keep_asserting-requires-clause-asserted
-keep_asserting-requires-clause-asserted c = asserted_one c.args.self.now.arena c.args.self.now.trail c.args.clause c.get.result c.requires.idle.search.solving.grounded.marks c.requires.idle.level c.requires.fronted c.get.ensures (c.is_unset.ensures.unset c.if-is_unset.true) c.requires.there c.requires.distinct
+keep_asserting-requires-clause-asserted c = asserted_one c.args.self.now.arena c.args.self.now.trail c.args.clause c.get.result
+    c.requires.idle.search.solving.grounded.marks c.requires.idle.level c.requires.fronted c.get.ensures (c.is_unset.ensures.unset c.if-is_unset.true)
+    c.requires.there c.requires.distinct
 
 pub keep_silent-requires-clause-silent : goal.keep_silent-requires-clause-silent
-keep_silent-requires-clause-silent c = silent_one c.args.self.now.trail c.args.clause c.get.result c.requires.fronted c.get.ensures (c.is_unset.ensures.set c.if-is_unset.false)
+keep_silent-requires-clause-silent c = silent_one c.args.self.now.trail c.args.clause c.get.result c.requires.fronted c.get.ensures
+    (c.is_unset.ensures.set c.if-is_unset.false)

@@ -9,7 +9,8 @@ pub refute-requires-clause-stop : goal.refute-requires-clause-stop
 refute-requires-clause-stop g c = (c.requires.clash, (let e = c.level.ensures.value in let f = c.if-self-level.false in omega arith))
 
 pub returns-in_err-refute-clause-few : goal.returns-in_err-refute-clause-few
-returns-in_err-refute-clause-few g c = on_err_anyway _ _ (counted_none 1 (g.L.LogSink.learnt c.args.log.now) (g.L.LogSink.learnt c.refute.new.log) c.in_err-refute.ensures.counted)
+returns-in_err-refute-clause-few g c = on_err_anyway _ _ (counted_none 1 (g.L.LogSink.learnt c.args.log.now) (g.L.LogSink.learnt c.refute.new.log)
+    c.in_err-refute.ensures.counted)
 
 pub returns-in_ok-refute-clause-on : goal.returns-in_ok-refute-clause-on
 returns-in_ok-refute-clause-on g c = λ e. absurd (none-some _ (sym e))

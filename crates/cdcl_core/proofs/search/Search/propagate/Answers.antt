@@ -22,7 +22,8 @@ returns-clause-search c =
         sum = let size = text.words in let sum = f.sum in omega arith;
         within = f.within;
       };
-      solving = solving_propagated _ _ _ _ _ _ c.propagate.ensures.marks c.propagate.ensures.watched (c.propagate.ensures.reasoned c.requires.solving.grounded.reasoned) text longer c.propagate.ensures.grows c.requires.solving.grounded;
+      solving = solving_propagated _ _ _ _ _ _ c.propagate.ensures.marks c.propagate.ensures.watched
+          (c.propagate.ensures.reasoned c.requires.solving.grounded.reasoned) text longer c.propagate.ensures.grows c.requires.solving.grounded;
       offered = heap_longer c.args.self.now.heap c.args.self.now.trail c.propagate.new.trail longer c.requires.offered;
     }
 
@@ -38,10 +39,15 @@ returns-clause-store c = record {
 }
 
 pub returns-clause-asking : goal.returns-clause-asking
-returns-clause-asking c = λ query h. asking_longer c.args.self.now.arena c.propagate.new.self c.args.self.now.trail c.propagate.new.trail query c.args.self.now.levels c.args.self.now.assumed c.requires.solving.grounded.marks c.propagate.ensures.marks c.propagate.ensures.longer c.propagate.ensures.reasons (c.propagate.ensures.reasoned c.requires.solving.grounded.reasoned) h
+returns-clause-asking c = λ query h. asking_longer c.args.self.now.arena c.propagate.new.self c.args.self.now.trail c.propagate.new.trail query
+    c.args.self.now.levels c.args.self.now.assumed c.requires.solving.grounded.marks c.propagate.ensures.marks c.propagate.ensures.longer
+    c.propagate.ensures.reasons (c.propagate.ensures.reasoned c.requires.solving.grounded.reasoned) h
 
 pub returns-clause-settled : goal.returns-clause-settled
 returns-clause-settled c = λ none. record {
   all_done = c.propagate.ensures.all none;
-  quiet = quiet_among (attached_clauses c.args.self.now.arena) (attached_clauses c.propagate.new.self) (has c.propagate.new.trail.lits) (same_text c.args.self.now.arena c.propagate.new.self c.propagate.ensures.text).back (quiet_closure (attached_clauses c.args.self.now.arena) (has c.args.self.now.trail.lits) (has c.propagate.new.trail.lits) (c.propagate.ensures.closes none));
+  quiet = quiet_among (attached_clauses c.args.self.now.arena) (attached_clauses c.propagate.new.self) (has c.propagate.new.trail.lits)
+      (same_text c.args.self.now.arena c.propagate.new.self c.propagate.ensures.text).back
+      (quiet_closure (attached_clauses c.args.self.now.arena) (has c.args.self.now.trail.lits) (has c.propagate.new.trail.lits)
+      (c.propagate.ensures.closes none));
 }

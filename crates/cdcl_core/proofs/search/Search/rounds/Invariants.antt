@@ -12,7 +12,8 @@ invariant-loop-told g l = record {
   there : AreThere l.self.trail.vars l.query;
   named : All (λ k. IsNamed (clauses l.self) k.var) l.query;
   asking : IsAsking l.query l.self;
-  gone : HasGone (g.L.LogSink.tells l.initial.log) (g.L.LogSink.tells l.log) (g.L.LogSink.learnt l.initial.log) (g.L.LogSink.learnt l.log) l.query l.initial.self l.self l.told;
+  gone : HasGone (g.L.LogSink.tells l.initial.log) (g.L.LogSink.tells l.log) (g.L.LogSink.learnt l.initial.log) (g.L.LogSink.learnt l.log) l.query
+      l.initial.self l.self l.told;
   faults : g.L.LogSink.faults l.initial.log ≤ g.L.LogSink.faults l.log;
   later : g.L.LogSink.is_later l.initial.log l.log;
 }

@@ -13,7 +13,15 @@ pub back_to-requires-clause-search : goal.back_to-requires-clause-search
 back_to-requires-clause-search c =
     let f = c.requires.search.fitted in
     record {
-      fitted = record { room_limit = f.room_limit; heap_size = c.bump.ensures.vars ∙ f.heap_size; analyser_size = f.analyser_size; phases_size = f.phases_size; arena_limit = f.arena_limit; sum = f.sum; within = f.within };
+      fitted = record {
+        room_limit = f.room_limit;
+        heap_size = c.bump.ensures.vars ∙ f.heap_size;
+        analyser_size = f.analyser_size;
+        phases_size = f.phases_size;
+        arena_limit = f.arena_limit;
+        sum = f.sum;
+        within = f.within;
+      };
       solving = c.requires.search.solving;
       offered = λ l there un. c.bump.ensures.held l.var (c.requires.search.offered l there un);
     }
@@ -33,7 +41,8 @@ keep_asserting-requires-clause-room c =
     omega arith
 
 pub keep_asserting-requires-clause-asserted : goal.keep_asserting-requires-clause-asserted
-keep_asserting-requires-clause-asserted c = learnt_asserted c.args.self.now c.back_to.new.self.arena c.back_to.new.self.trail c.args.clause c.args.self.now.analyser.back c.requires.search c.requires.learnt.learnt c.back_to.ensures.arena
+keep_asserting-requires-clause-asserted c = learnt_asserted c.args.self.now c.back_to.new.self.arena c.back_to.new.self.trail c.args.clause
+    c.args.self.now.analyser.back c.requires.search c.requires.learnt.learnt c.back_to.ensures.arena
     (c.back_to.ensures.trail ∙ ap (undone c.args.self.now.trail) c.back-back.ensures) c.back_to.ensures.search.solving.grounded.marks
 
 pub returns-clause-kept : goal.returns-clause-kept

@@ -9,7 +9,8 @@ pub invariant_of-result : goal.invariant_of-result
 invariant_of-result c = λ _. c.in_ok-new.ensures.idle
 
 pub returns-clause-blank : goal.returns-clause-blank
-returns-clause-blank c = subst (λ (ls : List Literal). kept_of c.in_ok-new.field-0 None ls false ≡ blank c.args.room) (sym c.new-2.ensures.items) c.in_ok-new.ensures.blank
+returns-clause-blank c = subst (λ (ls : List Literal). kept_of c.in_ok-new.field-0 None ls false ≡ blank c.args.room) (sym c.new-2.ensures.items)
+    c.in_ok-new.ensures.blank
 
 pub returns-clause-given : goal.returns-clause-given
 returns-clause-given c = new_given (kept_of c.in_ok-new.field-0 None [] false) c.args.room c.in_ok-new.ensures.blank

@@ -16,4 +16,5 @@ pub returns : goal.returns
 returns c =
     let len = rest_len _ _ _ _ _ _ _ c.args.self.now c.self.view_is c.self.invariant in
     let below = c.requires in
-    ap (λ (m : Cut). get_or m.rest c.args.i c.index.result.now) (sym c.self.view_is) ∙ get_or-take c.self.inside.len c.self.inside.rest.items c.args.i c.index.result.now (omega arith) ∙ sym c.index.ensures
+    ap (λ (m : Cut). get_or m.rest c.args.i c.index.result.now) (sym c.self.view_is)
+    ∙ get_or-take c.self.inside.len c.self.inside.rest.items c.args.i c.index.result.now (omega arith) ∙ sym c.index.ensures

@@ -21,4 +21,5 @@ returns c =
     let few = work_few _ _ _ _ _ _ _ c.self.invariant in
     let size = c.self.invariant.touched_size in
     let below = c.requires in
-    c.index.ensures ∙ sym (get_or_default c.self.inside.touched.items c.args.i 0 c.index.result.now (omega arith)) ∙ sym (get_or-take c.self.inside.count c.self.inside.touched.items c.args.i 0 (omega arith)) ∙ ap (λ (m : Cut). get_or m.met c.args.i 0) c.self.view_is
+    c.index.ensures ∙ sym (get_or_default c.self.inside.touched.items c.args.i 0 c.index.result.now (omega arith))
+    ∙ sym (get_or-take c.self.inside.count c.self.inside.touched.items c.args.i 0 (omega arith)) ∙ ap (λ (m : Cut). get_or m.met c.args.i 0) c.self.view_is

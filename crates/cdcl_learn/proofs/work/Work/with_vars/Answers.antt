@@ -11,4 +11,5 @@ invariant_of-result c =
     let rest : c.in_ok-vec-3.field-0.items ≡ replicate (c.args.vars + 1) (literal 1 true) = search rules in
     subst (λ (t : List Bool). IsWork c.args.vars t c.in_ok-vec-2.field-0.items 0 c.in_ok-vec-3.field-0.items 0 0) (sym seen)
     (subst (λ (t : List ℕ). IsWork c.args.vars (replicate (c.args.vars + 1) false) t 0 c.in_ok-vec-3.field-0.items 0 0) (sym touched)
-    (subst (λ (t : List Literal). IsWork c.args.vars (replicate (c.args.vars + 1) false) (replicate (c.args.vars + 1) 0) 0 t 0 0) (sym rest) (work_new c.args.vars (literal 1 true) c.requires)))
+    (subst (λ (t : List Literal). IsWork c.args.vars (replicate (c.args.vars + 1) false) (replicate (c.args.vars + 1) 0) 0 t 0 0) (sym rest)
+    (work_new c.args.vars (literal 1 true) c.requires)))

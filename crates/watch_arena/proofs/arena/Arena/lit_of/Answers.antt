@@ -25,4 +25,5 @@ from_word-requires c =
 pub returns : goal.returns
 returns c =
     let r = in_reach _ _ _ _ _ _ _ _ c.args.self.now c.args.clause.0 c.args.i c.self.invariant c.self.view_is c.requires.clause c.requires.below in
-    lit_is _ _ _ _ _ c.args.self.now c.args.clause.0 c.args.i c.index.result.now c.from_word.result c.self.view_is c.requires.below r.within c.index.ensures c.from_word.ensures.value
+    lit_is _ _ _ _ _ c.args.self.now c.args.clause.0 c.args.i c.index.result.now c.from_word.result c.self.view_is c.requires.below r.within c.index.ensures
+    c.from_word.ensures.value

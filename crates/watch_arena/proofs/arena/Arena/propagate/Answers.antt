@@ -11,20 +11,27 @@ pub propagate-requires : goal.propagate-requires
 propagate-requires c =
     let m = c.args.trail.now in
     let a = c.self.inside in
-    let w = arena_watched a.vars a.room a.words.items a.heads.items a.places.items a.longs.items a.lists.items a.visits c.args.self.now c.self.invariant c.self.view_is m c.requires.vars c.requires.watched in
-    subst (λ (x : List ℕ). AreAllWatched m x c.deref_mut-2.result.now c.deref.result.now c.deref-2.result.now c.deref-3.result.now (past_of m)) (sym c.deref_mut.ensures.value)
-    (subst (λ (x : List ℕ). AreAllWatched m a.words.items x c.deref.result.now c.deref-2.result.now c.deref-3.result.now (past_of m)) (sym c.deref_mut-2.ensures.value)
+    let w = arena_watched a.vars a.room a.words.items a.heads.items a.places.items a.longs.items a.lists.items a.visits c.args.self.now c.self.invariant
+    c.self.view_is m c.requires.vars c.requires.watched in
+    subst (λ (x : List ℕ). AreAllWatched m x c.deref_mut-2.result.now c.deref.result.now c.deref-2.result.now c.deref-3.result.now (past_of m))
+    (sym c.deref_mut.ensures.value)
+    (subst (λ (x : List ℕ). AreAllWatched m a.words.items x c.deref.result.now c.deref-2.result.now c.deref-3.result.now (past_of m))
+    (sym c.deref_mut-2.ensures.value)
     (subst (λ (x : List ℕ). AreAllWatched m a.words.items a.heads.items x c.deref-2.result.now c.deref-3.result.now (past_of m)) (sym c.deref.ensures.value)
     (subst (λ (x : List ℕ). AreAllWatched m a.words.items a.heads.items a.places.items x c.deref-3.result.now (past_of m)) (sym c.deref-2.ensures.value)
-    (subst (λ (x : List (List Pair)). AreAllWatched m a.words.items a.heads.items a.places.items a.longs.items x (past_of m)) (sym c.deref-3.ensures.value) w))))
+    (subst (λ (x : List (List Pair)). AreAllWatched m a.words.items a.heads.items a.places.items a.longs.items x (past_of m)) (sym c.deref-3.ensures.value)
+    w))))
 
 pub returns-clause-watched : goal.returns-clause-watched
 returns-clause-watched c =
     let size : length c.propagate.new.words ≡ length c.deref_mut.result.now = c.propagate.auto.words in
     let len : length c.deref_mut.result.now ≡ vec_len c.self.inside.words = search rules in
     let words = with_items c.self.inside.words c.propagate.new.words in
-    let items : words.items ≡ c.propagate.new.words = take_at c.propagate.new.words (drop (length c.propagate.new.words) c.self.inside.words.items) (vec_len c.self.inside.words) (size ∙ len) in
-    let x = propagated c.args.self.now c.self.inside.vars c.self.inside.room c.self.inside.visits c.propagate.new.visits c.self.inside.words.items c.self.inside.places.items c.deref_mut.result.now c.deref.result.now c.deref-2.result.now c.deref-3.result.now c.propagate.new.words words.items c.propagate.new.heads c.args.trail.now c.propagate.new.trail
+    let items : words.items ≡ c.propagate.new.words = take_at c.propagate.new.words (drop (length c.propagate.new.words) c.self.inside.words.items)
+    (vec_len c.self.inside.words) (size ∙ len) in
+    let x = propagated c.args.self.now c.self.inside.vars c.self.inside.room c.self.inside.visits c.propagate.new.visits c.self.inside.words.items
+    c.self.inside.places.items c.deref_mut.result.now c.deref.result.now c.deref-2.result.now c.deref-3.result.now c.propagate.new.words words.items
+    c.propagate.new.heads c.args.trail.now c.propagate.new.trail
     c.self.view_is c.deref_mut.ensures.value c.deref.ensures.value items size c.propagate.ensures.made c.propagate.ensures.watched in
     x.watched
 
@@ -33,8 +40,11 @@ returns-clause-reasoned c =
     let size : length c.propagate.new.words ≡ length c.deref_mut.result.now = c.propagate.auto.words in
     let len : length c.deref_mut.result.now ≡ vec_len c.self.inside.words = search rules in
     let words = with_items c.self.inside.words c.propagate.new.words in
-    let items : words.items ≡ c.propagate.new.words = take_at c.propagate.new.words (drop (length c.propagate.new.words) c.self.inside.words.items) (vec_len c.self.inside.words) (size ∙ len) in
-    let x = propagated c.args.self.now c.self.inside.vars c.self.inside.room c.self.inside.visits c.propagate.new.visits c.self.inside.words.items c.self.inside.places.items c.deref_mut.result.now c.deref.result.now c.deref-2.result.now c.deref-3.result.now c.propagate.new.words words.items c.propagate.new.heads c.args.trail.now c.propagate.new.trail
+    let items : words.items ≡ c.propagate.new.words = take_at c.propagate.new.words (drop (length c.propagate.new.words) c.self.inside.words.items)
+    (vec_len c.self.inside.words) (size ∙ len) in
+    let x = propagated c.args.self.now c.self.inside.vars c.self.inside.room c.self.inside.visits c.propagate.new.visits c.self.inside.words.items
+    c.self.inside.places.items c.deref_mut.result.now c.deref.result.now c.deref-2.result.now c.deref-3.result.now c.propagate.new.words words.items
+    c.propagate.new.heads c.args.trail.now c.propagate.new.trail
     c.self.view_is c.deref_mut.ensures.value c.deref.ensures.value items size c.propagate.ensures.made c.propagate.ensures.watched in
     x.reasoned
 
@@ -43,8 +53,11 @@ returns-clause-because c =
     let size : length c.propagate.new.words ≡ length c.deref_mut.result.now = c.propagate.auto.words in
     let len : length c.deref_mut.result.now ≡ vec_len c.self.inside.words = search rules in
     let words = with_items c.self.inside.words c.propagate.new.words in
-    let items : words.items ≡ c.propagate.new.words = take_at c.propagate.new.words (drop (length c.propagate.new.words) c.self.inside.words.items) (vec_len c.self.inside.words) (size ∙ len) in
-    let x = propagated c.args.self.now c.self.inside.vars c.self.inside.room c.self.inside.visits c.propagate.new.visits c.self.inside.words.items c.self.inside.places.items c.deref_mut.result.now c.deref.result.now c.deref-2.result.now c.deref-3.result.now c.propagate.new.words words.items c.propagate.new.heads c.args.trail.now c.propagate.new.trail
+    let items : words.items ≡ c.propagate.new.words = take_at c.propagate.new.words (drop (length c.propagate.new.words) c.self.inside.words.items)
+    (vec_len c.self.inside.words) (size ∙ len) in
+    let x = propagated c.args.self.now c.self.inside.vars c.self.inside.room c.self.inside.visits c.propagate.new.visits c.self.inside.words.items
+    c.self.inside.places.items c.deref_mut.result.now c.deref.result.now c.deref-2.result.now c.deref-3.result.now c.propagate.new.words words.items
+    c.propagate.new.heads c.args.trail.now c.propagate.new.trail
     c.self.view_is c.deref_mut.ensures.value c.deref.ensures.value items size c.propagate.ensures.made c.propagate.ensures.watched in
     x.because
 
@@ -53,8 +66,11 @@ returns-clause-text c =
     let size : length c.propagate.new.words ≡ length c.deref_mut.result.now = c.propagate.auto.words in
     let len : length c.deref_mut.result.now ≡ vec_len c.self.inside.words = search rules in
     let words = with_items c.self.inside.words c.propagate.new.words in
-    let items : words.items ≡ c.propagate.new.words = take_at c.propagate.new.words (drop (length c.propagate.new.words) c.self.inside.words.items) (vec_len c.self.inside.words) (size ∙ len) in
-    let x = propagated c.args.self.now c.self.inside.vars c.self.inside.room c.self.inside.visits c.propagate.new.visits c.self.inside.words.items c.self.inside.places.items c.deref_mut.result.now c.deref.result.now c.deref-2.result.now c.deref-3.result.now c.propagate.new.words words.items c.propagate.new.heads c.args.trail.now c.propagate.new.trail
+    let items : words.items ≡ c.propagate.new.words = take_at c.propagate.new.words (drop (length c.propagate.new.words) c.self.inside.words.items)
+    (vec_len c.self.inside.words) (size ∙ len) in
+    let x = propagated c.args.self.now c.self.inside.vars c.self.inside.room c.self.inside.visits c.propagate.new.visits c.self.inside.words.items
+    c.self.inside.places.items c.deref_mut.result.now c.deref.result.now c.deref-2.result.now c.deref-3.result.now c.propagate.new.words words.items
+    c.propagate.new.heads c.args.trail.now c.propagate.new.trail
     c.self.view_is c.deref_mut.ensures.value c.deref.ensures.value items size c.propagate.ensures.made c.propagate.ensures.watched in
     x.text
 
@@ -63,21 +79,28 @@ returns-clause-grows c =
     let size : length c.propagate.new.words ≡ length c.deref_mut.result.now = c.propagate.auto.words in
     let len : length c.deref_mut.result.now ≡ vec_len c.self.inside.words = search rules in
     let words = with_items c.self.inside.words c.propagate.new.words in
-    let items : words.items ≡ c.propagate.new.words = take_at c.propagate.new.words (drop (length c.propagate.new.words) c.self.inside.words.items) (vec_len c.self.inside.words) (size ∙ len) in
-    let x = propagated c.args.self.now c.self.inside.vars c.self.inside.room c.self.inside.visits c.propagate.new.visits c.self.inside.words.items c.self.inside.places.items c.deref_mut.result.now c.deref.result.now c.deref-2.result.now c.deref-3.result.now c.propagate.new.words words.items c.propagate.new.heads c.args.trail.now c.propagate.new.trail
+    let items : words.items ≡ c.propagate.new.words = take_at c.propagate.new.words (drop (length c.propagate.new.words) c.self.inside.words.items)
+    (vec_len c.self.inside.words) (size ∙ len) in
+    let x = propagated c.args.self.now c.self.inside.vars c.self.inside.room c.self.inside.visits c.propagate.new.visits c.self.inside.words.items
+    c.self.inside.places.items c.deref_mut.result.now c.deref.result.now c.deref-2.result.now c.deref-3.result.now c.propagate.new.words words.items
+    c.propagate.new.heads c.args.trail.now c.propagate.new.trail
     c.self.view_is c.deref_mut.ensures.value c.deref.ensures.value items size c.propagate.ensures.made c.propagate.ensures.watched in
     x.grows
 
 pub returns-clause-closes : goal.returns-clause-closes
-returns-clause-closes c = λ none. closes c.args.self.now _ _ _ _ _ _ _ c.args.trail.now c.propagate.new.trail c.self.view_is c.deref_mut.ensures.value c.deref.ensures.value (c.propagate.ensures.closes none)
+returns-clause-closes c = λ none. closes c.args.self.now _ _ _ _ _ _ _ c.args.trail.now c.propagate.new.trail c.self.view_is c.deref_mut.ensures.value
+    c.deref.ensures.value (c.propagate.ensures.closes none)
 
 pub returns-clause-clash : goal.returns-clause-clash
 returns-clause-clash c =
     let size : length c.propagate.new.words ≡ length c.deref_mut.result.now = c.propagate.auto.words in
     let len : length c.deref_mut.result.now ≡ vec_len c.self.inside.words = search rules in
     let words = with_items c.self.inside.words c.propagate.new.words in
-    let items : words.items ≡ c.propagate.new.words = take_at c.propagate.new.words (drop (length c.propagate.new.words) c.self.inside.words.items) (vec_len c.self.inside.words) (size ∙ len) in
-    some_weaker c.propagate.result (λ r. clash_of c.self.inside.vars c.self.inside.room c.propagate.new.visits c.self.inside.places.items c.deref.result.now c.propagate.new.words words.items c.propagate.new.trail r.0 c.deref.ensures.value items) c.propagate.ensures.clash
+    let items : words.items ≡ c.propagate.new.words = take_at c.propagate.new.words (drop (length c.propagate.new.words) c.self.inside.words.items)
+    (vec_len c.self.inside.words) (size ∙ len) in
+    some_weaker c.propagate.result (λ r. clash_of c.self.inside.vars c.self.inside.room c.propagate.new.visits c.self.inside.places.items c.deref.result.now
+    c.propagate.new.words words.items c.propagate.new.trail r.0 c.deref.ensures.value items) c.propagate.ensures.clash
 
 pub returns-clause-falsifies : goal.returns-clause-falsifies
-returns-clause-falsifies c = some_weaker c.propagate.result (λ r. falsifies c.args.self.now _ _ _ _ _ _ _ c.args.trail.now c.self.view_is c.deref_mut.ensures.value c.deref.ensures.value) c.propagate.ensures.clashes
+returns-clause-falsifies c = some_weaker c.propagate.result (λ r. falsifies c.args.self.now _ _ _ _ _ _ _ c.args.trail.now c.self.view_is
+    c.deref_mut.ensures.value c.deref.ensures.value) c.propagate.ensures.clashes

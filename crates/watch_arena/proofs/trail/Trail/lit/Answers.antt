@@ -8,4 +8,5 @@ use Rattle.watch_arena.proofs.trail.Trail.lit.Goals as goal
 pub returns-clause-there : goal.returns-clause-there
 returns-clause-there c =
     subst (λ (m : Marks). IsThere m.vars c.index.result.now) c.self.view_is (subst (λ (l : Literal). IsThere c.self.inside.vars l) (sym c.index.ensures)
-    (kept_there _ _ _ _ _ _ _ _ _ c.self.invariant c.args.i c.index.result.now (subst (λ (m : Marks). c.args.i < length m.lits) (sym c.self.view_is) c.requires)))
+    (kept_there _ _ _ _ _ _ _ _ _ c.self.invariant c.args.i c.index.result.now (subst (λ (m : Marks). c.args.i < length m.lits) (sym c.self.view_is)
+    c.requires)))
