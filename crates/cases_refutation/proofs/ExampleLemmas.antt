@@ -93,11 +93,13 @@ named_one : (n x : ℕ) (sign : Bool) → x ≤ n → All (λ (l : Literal). l.v
 named_one n x sign h = All-cons (λ (l : Literal). l.var ≤ n) (record { var = x; positive = sign }) [] h (named_none n)
 
 named_two : (n x y : ℕ) (sign : Bool) → x ≤ n → y ≤ n → All (λ (l : Literal). l.var ≤ n) (record {
-    var = x; positive = sign
-    } ∷ record { var = y; positive = sign } ∷ [])
+  var = x;
+  positive = sign;
+} ∷ record { var = y; positive = sign } ∷ [])
 named_two n x y sign h k = All-cons (λ (l : Literal). l.var ≤ n) (record {
-    var = x; positive = sign
-    }) (record { var = y; positive = sign } ∷ []) h (named_one n y sign k)
+  var = x;
+  positive = sign;
+}) (record { var = y; positive = sign } ∷ []) h (named_one n y sign k)
 
 pub short_log_derives : Derives short_log
 short_log_derives =
@@ -111,26 +113,38 @@ short_log_derives =
     let l7 : Lines = l6 ++ Refuted (positive_of 1 ∷ []) ∷ [] in
     let l8 : Lines = l7 ++ Query (negative_of 2 ∷ negative_of 3 ∷ []) ∷ [] in
     let d1 : Derives l1 = derives_more l0 (Formula (positive_of 1 ∷ [])) derives_none (record {
-    named = named_none 0; answers = tt; implied = tt; says_more = tt
+      named = named_none 0;
+      answers = tt;
+      implied = tt;
+      says_more = tt;
     }) in
     let d2 : Derives l2 = derives_more l1 (Formula (positive_of 2 ∷ positive_of 3 ∷ [])) d1 (record {
-    named = named_none 1; answers = tt; implied = tt; says_more = tt
+      named = named_none 1;
+      answers = tt;
+      implied = tt;
+      says_more = tt;
     }) in
     let d3 : Derives l3 = derives_more l2 (Bound Height 1 (variable 1)) d2 (record { named = named_none 3; answers = tt; implied = tt; says_more = tt }) in
     let d4 : Derives l4 = derives_more l3 (Bound Height 2 (variable 2)) d3 (record { named = named_none 3; answers = tt; implied = tt; says_more = tt }) in
     let d5 : Derives l5 = derives_more l4 (Bound Width 3 (variable 3)) d4 (record { named = named_none 3; answers = tt; implied = tt; says_more = tt }) in
     let d6 : Derives l6 = derives_more l5 (Query (negative_of 1 ∷ [])) d5 (record {
-    named = named_one 3 1 false (omega arith); answers = tt; implied = tt; says_more = tt
+      named = named_one 3 1 false (omega arith);
+      answers = tt;
+      implied = tt;
+      says_more = tt;
     }) in
     let d7 : Derives l7 = derives_more l6 (Refuted (positive_of 1 ∷ [])) d6 (record {
       named = named_one 3 1 true (omega arith);
       answers = All-cons (λ l. Contains (negative_of 1 ∷ []) (negate l)) (positive_of 1) [] (0, omega arith, refl)
-      (All-nil (λ l. Contains (negative_of 1 ∷ []) (negate l)));
+          (All-nil (λ l. Contains (negative_of 1 ∷ []) (negate l)));
       implied = rup_itself_one (flat_map added l6) (0, omega arith, refl);
       says_more = tt;
     }) in
     let d8 : Derives l8 = derives_more l7 (Query (negative_of 2 ∷ negative_of 3 ∷ [])) d7 (record {
-    named = named_two 3 2 3 false (omega arith) (omega arith); answers = tt; implied = tt; says_more = tt
+      named = named_two 3 2 3 false (omega arith) (omega arith);
+      answers = tt;
+      implied = tt;
+      says_more = tt;
     }) in
     let Q : Literal → Type 0 = λ l. Contains (negative_of 2 ∷ negative_of 3 ∷ []) (negate l) in
     derives_more l8 (Refuted (positive_of 2 ∷ positive_of 3 ∷ [])) d8 (record {
@@ -158,7 +172,7 @@ short_log_is_met = record {
 }
   where
     exactly : (c : Criterion) (k : ℕ) (x : Var) {d : Criterion} {m y : ℕ} → Is c k x.0 d m y →
-    (((but_two y ≡ true) × (m ≤ value_of (measured 1 0 0 3) d)) ⊎ ((but_two y ≡ true → ⊥) × (m ≤ value_of (measured 1 0 0 3) d → ⊥))) →
+        (((but_two y ≡ true) × (m ≤ value_of (measured 1 0 0 3) d)) ⊎ ((but_two y ≡ true → ⊥) × (m ≤ value_of (measured 1 0 0 3) d → ⊥))) →
         (but_two x.0 ≡ true) ↔ (k ≤ value_of (measured 1 0 0 3) c)
     exactly c k x {d} {m} {y} b which =
         let t : but_two x.0 ≡ but_two y = ap but_two b.var in
@@ -178,22 +192,28 @@ says greatest c k x within told = record { within = within; variable = variable 
 pub height_then_width_certified : Certifies (height_up_to 9) short_log height_then_width (measured 1 0 0 3) 2
 height_then_width_certified zero c low at = subst (λ b. IsCertifiedLeast (height_up_to 9) short_log [] b (measured 1 0 0 3)) (same_Some Height c at)
     (λ positive. record {
-  clause = positive_of 1 ∷ [];
-  among = (6, omega arith, refl);
-  each =
-      let P : Literal → Type 0 = IsOutOfReach (height_up_to 9) short_log [] Height (measured 1 0 0 3) in
-      All-cons P (positive_of 1) [] (inr (says (height_up_to 9) Height 1 1 (omega arith) (2, omega arith, refl))) (All-nil P);
-})
+      clause = positive_of 1 ∷ [];
+      among = (6, omega arith, refl);
+      each =
+          let P : Literal → Type 0 = IsOutOfReach (height_up_to 9) short_log [] Height (measured 1 0 0 3) in
+          All-cons P (positive_of 1) [] (inr (says (height_up_to 9) Height 1 1 (omega arith) (2, omega arith, refl))) (All-nil P);
+    })
 height_then_width_certified (suc zero) c low at = subst (λ b. IsCertifiedLeast (height_up_to 9) short_log (Height ∷ []) b (measured 1 0 0 3))
     (same_Some Width c at) (λ positive. record {
-  clause = positive_of 2 ∷ positive_of 3 ∷ [];
-  among = (8, omega arith, refl);
-  each =
-      let P : Literal → Type 0 = IsOutOfReach (height_up_to 9) short_log (Height ∷ []) Width (measured 1 0 0 3) in
-      All-cons P (positive_of 2) (positive_of 3 ∷ []) (inl (0, Height, omega arith, refl, says (height_up_to 9) Height 2 2 (omega arith)
-      (3, omega arith, refl)))
-      (All-cons P (positive_of 3) [] (inr (says (height_up_to 9) Width 3 3 (omega arith) (4, omega arith, refl))) (All-nil P));
-})
+      clause = positive_of 2 ∷ positive_of 3 ∷ [];
+      among = (8, omega arith, refl);
+      each =
+          let P : Literal → Type 0 = IsOutOfReach (height_up_to 9) short_log (Height ∷ []) Width (measured 1 0 0 3) in
+          All-cons P (positive_of 2) (positive_of 3 ∷ []) (inl (
+            0,
+            Height,
+            omega arith,
+            refl,
+            says (height_up_to 9) Height 2 2 (omega arith)
+                (3, omega arith, refl),
+          ))
+          (All-cons P (positive_of 3) [] (inr (says (height_up_to 9) Width 3 3 (omega arith) (4, omega arith, refl))) (All-nil P));
+    })
 height_then_width_certified (suc (suc i)) c low at = absurd (omega arith)
 
 all_zero : (c : Criterion) → value_of (measured 0 0 0 0) c ≡ 0

@@ -43,8 +43,8 @@ refuted_by a m own now refuted c is none off g = record {
   where
     rooted : HasRoots (sight a m) (all_of a now)
     rooted = λ i lt z. reason_among (all_of a own) (all_of a now) (has (take i m.lits)) (get_or m.lits i (literal 0 true))
-    (among_append (attached_clauses a) own (attached_clauses a) now (among_itself (attached_clauses a))
-    (subst (λ (cs : Clauses). AreAmong own cs) (sym is) (among_left own (c ∷ [])))) (g.rooted i lt z)
+        (among_append (attached_clauses a) own (attached_clauses a) now (among_itself (attached_clauses a))
+        (subst (λ (cs : Clauses). AreAmong own cs) (sym is) (among_left own (c ∷ [])))) (g.rooted i lt z)
 
 pub solving_refuting : (a : Attached) (m : Marks) (own now : Clauses) (refuted : Bool) (c : List Literal) → now ≡ own ++ c ∷ [] → m.cuts ≡ [] →
     IsFalseClause m c → AreThere m.vars c → IsSolving a m own refuted → IsSolving a m now true
@@ -75,7 +75,9 @@ watched_silent a b m own refuted k l ls none put before silent marks value = eli
   | inr open_ ↦ put m before (may_open m k l open_)
   | inl on ↦ elim value [
     | inl off ↦ put m before (may_held m k l marks (inr (record {
-    first = off; second = on; level = let x = root_level b m k marks none on in let y = root_level b m (negate l) marks none off in omega arith
+      first = off;
+      second = on;
+      level = let x = root_level b m k marks none on in let y = root_level b m (negate l) marks none off in omega arith;
     })))
     | inr free ↦ put m before (may_open m k l (record {
       first = λ h. consistent (sight b m) k marks.distinct on h;
@@ -91,7 +93,7 @@ solving_silent a b m own refuted p (l ∷ []) none more put silent there s = abs
 solving_silent a b m own refuted p (k ∷ (l ∷ ls)) none more put silent there s = record {
   watched = watched_silent a b m own refuted k l ls none put.watched s.watched silent s.grounded.marks (cases_Bool (has m.lits (negate l)));
   grounded = grounded_attached a b m own refuted p (k ∷ (l ∷ ls)) put.more put.places put.clause (put_text a b m p (k ∷ (l ∷ ls)) put) put.reasoned there
-  (λ q lt. absurd (let z : length m.cuts ≡ 0 = ap length none in omega arith)) s.grounded;
+      (λ q lt. absurd (let z : length m.cuts ≡ 0 = ap length none in omega arith)) s.grounded;
 }
 
 -- literals that changed places
@@ -169,8 +171,11 @@ exchanged_sym old new a b e = record {
 }
 
 pub exchanged_same : (old new : List Literal) (a b : ℕ) → IsExchanged old new a b → a < length old → b < length old → SameLiterals old new
-exchanged_same old new a b e la lb = λ l. (exchanged_back new old a b (exchanged_sym old new a b e) (let s = e.size in omega arith)
-    (let s = e.size in omega arith) l, exchanged_back old new a b e la lb l)
+exchanged_same old new a b e la lb = λ l. (
+  exchanged_back new old a b (exchanged_sym old new a b e) (let s = e.size in omega arith)
+      (let s = e.size in omega arith) l,
+  exchanged_back old new a b e la lb l,
+)
 
 pub there_same : (vars : ℕ) (old new : List Literal) → SameLiterals old new → AreThere vars old → AreThere vars new
 there_same vars old new same h = by_list new (λ l c. there_of ((same l).1 c))
@@ -213,7 +218,7 @@ fronted_two m old mid new first second e f lt one within off other = record {
   some = let s = e.size in let t = f.size in omega arith;
   front = λ i d below. elim (cases_eq i 0) [
     | inl z ↦ not_false m (get_or new i d) (get_or old first d) (ap (λ j. get_or new j d) z ∙ f.others 0 d (below_one 1 (omega arith)) (below_one second one)
-    ∙ e.first d) (off d lt)
+        ∙ e.first d) (off d lt)
     | inr nz ↦ let is : i ≡ 1 = omega arith in not_false m (get_or new i d) (get_or mid second d) (ap (λ j. get_or new j d) is ∙ f.first d) (other d within)
   ];
   others = λ i d few le lt2. absurd (omega arith);

@@ -137,12 +137,12 @@ asserted_back a m own refuted first rest back g learnt jump after = record {
   unset = (off_first (cases_Bool (has (undone m back).lits first)), off_negated (cases_Bool (has (undone m back).lits (negate first))));
   others = All-weaker (Contains rest) (λ k. IsIn (has (undone m back).lits) (negate k)) stays rest (All-contains_itself rest);
   there = there_by m.vars (first ∷ rest) (All-weaker (λ k. IsIn (has m.lits) (negate k)) (IsThere m.vars)
-  (λ k on. there_contains m.vars m.lits (negate k) g.marks.there (contains_from_has m.lits (negate k) on)) (first ∷ rest) learnt.falsified);
+      (λ k on. there_contains m.vars m.lits (negate k) g.marks.there (contains_from_has m.lits (negate k) on)) (first ∷ rest) learnt.falsified);
   distinct = learnt.distinct;
   second = λ l ls e. jump.first l ls e ∙ sym size;
   alone = λ none. size ∙ jump.none none;
   levels = levels_learnt (sight a m) (sight a (undone m back)) (attached_clauses a) first rest back g.marks.distinct learnt jump size
-  (back_same a a (undone m back) m (back + 1) f (length (take back m.cuts)) (let e = size in omega arith)) g.levels;
+      (back_same a a (undone m back) m (back + 1) f (length (take back m.cuts)) (let e = size in omega arith)) g.levels;
 }
   where
     lower : back < length m.cuts
@@ -164,7 +164,7 @@ asserted_back a m own refuted first rest back g learnt jump after = record {
     ]
 
     off_negated : (has (undone m back).lits (negate first) ≡ true) ⊎ (has (undone m back).lits (negate first) ≡ false) →
-    has (undone m back).lits (negate first) ≡ false
+        has (undone m back).lits (negate first) ≡ false
     off_negated h = elim h [
       | inl t ↦
           let most = level_low a (undone m back) (negate first) after t in
@@ -188,7 +188,7 @@ pub unit_now : (m : Marks) (first : Literal) (rest : List Literal) → All (λ k
 unit_now m first rest others = record {
   among = contains_first first rest;
   others = All-cons (λ k. (k ≡ first) ⊎ IsIn (has m.lits) (negate k)) first rest (inl refl)
-  (All-weaker (λ k. IsIn (has m.lits) (negate k)) (λ k. (k ≡ first) ⊎ IsIn (has m.lits) (negate k)) (λ k h. inr h) rest others);
+      (All-weaker (λ k. IsIn (has m.lits) (negate k)) (λ k. (k ≡ first) ⊎ IsIn (has m.lits) (negate k)) (λ k h. inr h) rest others);
 }
 
 -- what attaching a clause leaves
@@ -203,9 +203,14 @@ pub record IsPut (a b : Attached) (m : Marks) (p : ℕ) (c : List Literal) : Typ
 pub put_from : (a b : Attached) (m : Marks) (p : ℕ) (c slice : List Literal) → slice ≡ c → b.places ≡ a.places ++ p ∷ [] → attached_at b p ≡ slice →
     IsMoreText a b → ((n : Marks) → AreWatched a n → MayBeWatched n slice → AreWatched b n) → AreReasoned b m → AreAttached b → IsPut a b m p c
 put_from a b m p c slice same places clause more watched reasoned attached = record {
-    places = places; clause = clause ∙ same; more = more; watched = subst (λ (ls : List Literal). (n : Marks) → AreWatched a n → MayBeWatched n ls → AreWatched
-    b n) same watched; reasoned = reasoned; attached = attached
-    }
+  places = places;
+  clause = clause ∙ same;
+  more = more;
+  watched = subst (λ (ls : List Literal). (n : Marks) → AreWatched a n → MayBeWatched n ls → AreWatched
+      b n) same watched;
+  reasoned = reasoned;
+  attached = attached;
+}
 
 pub put_text : (a b : Attached) (m : Marks) (p : ℕ) (c : List Literal) → IsPut a b m p c → attached_clauses b ≡ attached_clauses a ++ c ∷ []
 put_text a b m p c put = text_added a b p c put.more put.places put.clause
@@ -232,9 +237,10 @@ solving_long a b m t own refuted p first second rest put asserted e marks reason
       }));
       grounded = grounded_lit b m own refuted first p (subst IsMarks e marks) (subst (AreReasoned b) e reasoned)
           (record {
-          reason = first ∷ second ∷ rest; among = Contains-append_left (attached_clauses b) own (first ∷ second ∷ rest)
-          (subst (λ (cs : Clauses). Contains cs (first ∷ second ∷ rest)) (sym text) (Contains-push (attached_clauses a) (first ∷ second ∷ rest)));
-          unit = unit_now m first (second ∷ rest) asserted.others
+            reason = first ∷ second ∷ rest;
+            among = Contains-append_left (attached_clauses b) own (first ∷ second ∷ rest)
+                (subst (λ (cs : Clauses). Contains cs (first ∷ second ∷ rest)) (sym text) (Contains-push (attached_clauses a) (first ∷ second ∷ rest)));
+            unit = unit_now m first (second ∷ rest) asserted.others;
           })
           (grounded_attached a b m own refuted p (first ∷ second ∷ rest) put.more put.places put.clause text put.reasoned asserted.there
           (subst (HasClosedLevels (sight b m)) (sym text) asserted.levels) g);
@@ -260,22 +266,25 @@ solving_single a m t own now refuted first is asserted e marks watched reasoned 
 
     among : AreAmong (all_of a own) (all_of a now)
     among = among_append (attached_clauses a) own (attached_clauses a) now (among_itself (attached_clauses a))
-    (subst (λ (cs : Clauses). AreAmong own cs) (sym is) (among_left own ((first ∷ []) ∷ [])))
+        (subst (λ (cs : Clauses). AreAmong own cs) (sym is) (among_left own ((first ∷ []) ∷ [])))
 
     inside : Contains (all_of a now) (first ∷ [])
     inside = Contains-append_right (attached_clauses a) now (first ∷ []) (subst (λ (cs : Clauses). Contains cs (first ∷ [])) (sym is)
-    (Contains-push own (first ∷ [])))
+        (Contains-push own (first ∷ [])))
 
     new : (i : ℕ) → length m.lits ≤ i → i < length (m.lits ++ first ∷ []) → level_of (sight a (with_lit m first 0)) (nth (sight a (with_lit m first 0)) i) ≡ 0 →
-    HasReason (all_of a now) (has (take i (m.lits ++ first ∷ []))) (nth (sight a (with_lit m first 0)) i)
+        HasReason (all_of a now) (has (take i (m.lits ++ first ∷ []))) (nth (sight a (with_lit m first 0)) i)
     new i le lt z =
         let last : length m.lits ≡ i = omega (arith, length-append m.lits (first ∷ [])) in
         subst (λ (k : Literal). HasReason (all_of a now) (has (take i (m.lits ++ first ∷ []))) k) (sym (get_or_push m.lits first (literal 0 true) i last))
         (record {
-        reason = first ∷ []; among = inside; unit = record {
-        among = contains_first first []; others = All-cons (λ k. (k ≡ first) ⊎ IsIn (has (take i (m.lits ++ first ∷ []))) (negate k)) first [] (inl refl)
-        (All-nil (λ k. (k ≡ first) ⊎ IsIn (has (take i (m.lits ++ first ∷ []))) (negate k)))
-        }
+          reason = first ∷ [];
+          among = inside;
+          unit = record {
+            among = contains_first first [];
+            others = All-cons (λ k. (k ≡ first) ⊎ IsIn (has (take i (m.lits ++ first ∷ []))) (negate k)) first []
+                (inl refl) (All-nil (λ k. (k ≡ first) ⊎ IsIn (has (take i (m.lits ++ first ∷ []))) (negate k)));
+          };
         })
 
     grounded : IsGrounded a (with_lit m first 0) now refuted
@@ -288,12 +297,15 @@ solving_single a m t own now refuted first is asserted e marks watched reasoned 
       rooted = roots_further a a m (with_lit m first 0) (length m.cuts) f (all_of a own) (all_of a now) among g.rooted new;
       there = subst (All (AreThere m.vars)) (sym is) (All-push (AreThere m.vars) own (first ∷ []) g.there asserted.there);
       own_true = λ r. subst (All (IsTrueAtRoot (sight a (with_lit m first 0)))) (sym is)
-      (All-push (IsTrueAtRoot (sight a (with_lit m first 0))) own (first ∷ [])
+          (All-push (IsTrueAtRoot (sight a (with_lit m first 0))) own (first ∷ [])
           (All-weaker (IsTrueAtRoot (sight a m)) (IsTrueAtRoot (sight a (with_lit m first 0)))
           (λ c h. true_further a a m (with_lit m first 0) (length m.cuts) f c h) own (g.own_true r))
           (record {
-          lit = first; inside = contains_first first []; true_ = has_last m.lits first; root = let most = level_low a (with_lit m first 0) first
-          (subst IsMarks e marks) (has_last m.lits first) in let z = level in omega arith
+            lit = first;
+            inside = contains_first first [];
+            true_ = has_last m.lits first;
+            root = let most = level_low a (with_lit m first 0) first
+                (subst IsMarks e marks) (has_last m.lits first) in let z = level in omega arith;
           }));
       falsified = λ r. rup_more (all_of a own) (all_of a now) [] among (g.falsified r);
     }

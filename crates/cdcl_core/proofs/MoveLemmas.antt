@@ -70,8 +70,8 @@ module _ (a b : Attached) (m n : Marks) (q : ℕ) (f : IsFurther m n q) where
       let p = placed_anywhere (sight b n) l on in
       elim (cases_lt p.place (length m.lits)) [
         | inl lt ↦ record {
-        cases = inl (subst (λ (k : Literal). IsIn (has m.lits) k) (sym (further_nth p.place lt)
-        ∙ p.is) (has_from_contains m.lits (nth (sight a m) p.place) (stands (sight a m) p.place lt)))
+          cases = inl (subst (λ (k : Literal). IsIn (has m.lits) k) (sym (further_nth p.place lt)
+              ∙ p.is) (has_from_contains m.lits (nth (sight a m) p.place) (stands (sight a m) p.place lt)));
         }
         | inr ge ↦ record { cases = inr (subst (λ (k : Literal). q ≤ level_of (sight b n) k) p.is (further_later p.place ge p.within)) }
       ]
@@ -98,7 +98,7 @@ module _ (a b : Attached) (m n : Marks) (q : ℕ) (f : IsFurther m n q) where
 
   pub back_same : (level : ℕ) → level ≤ q → SameUpto (sight b n) (sight a m) level
   back_same level le = record {
-  same = λ p l lt. same_when (upto (sight a m) p l) (upto (sight b n) p l) (λ h. further_upto p l h) (λ h. back_upto p l (omega arith) h)
+    same = λ p l lt. same_when (upto (sight a m) p l) (upto (sight b n) p l) (λ h. further_upto p l h) (λ h. back_upto p l (omega arith) h);
   }
 
 -- further literals of the present level

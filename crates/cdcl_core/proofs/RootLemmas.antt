@@ -34,7 +34,7 @@ roots_are_units s [] = refl
 roots_are_units s (l ∷ ls) = by_test (nat_eq (level_of s l) 0) (roots_are_units s ls)
   where
     by_test : (b : Bool) → roots s ls ≡ units (root_lits s ls) → cond b ((l ∷ []) ∷ roots s ls) (roots s ls) ≡ units
-    (cond b (l ∷ root_lits s ls) (root_lits s ls))
+        (cond b (l ∷ root_lits s ls) (root_lits s ls))
     by_test true e = ap (λ (cs : Clauses). (l ∷ []) ∷ cs) e
     by_test false e = e
 
@@ -64,7 +64,7 @@ module _ (s : Sight) (clauses : Clauses) (sound : IsSound s) (rooted : HasRoots 
   -- what follows from the arena's clauses and the literals of level 0
   pub falsifies_down : (start : LiteralSet) → AreAmong (clauses_in s) clauses → Falsifies (known s) start → Falsifies clauses start
   falsifies_down start there f = falsifies_without_known clauses (root_lits s s.lits) start
-  (root_all s (Closure clauses nothing) s.lits (λ l among z. root_follows l (has_from_contains s.lits l among) z))
+      (root_all s (Closure clauses nothing) s.lits (λ l among z. root_follows l (has_from_contains s.lits l among) z))
       (falsifies_more (known s) (clauses ++ units (root_lits s s.lits)) start
       (subst (λ (cs : Clauses). AreAmong (known s) (clauses ++ cs)) (roots_are_units s s.lits)
       (among_append (clauses_in s) (roots s s.lits) clauses (roots s s.lits) there (among_itself (roots s s.lits)))) f)
@@ -75,8 +75,8 @@ module _ (s : Sight) (clauses : Clauses) (sound : IsSound s) (rooted : HasRoots 
 module _ (a b : Attached) (m n : Marks) (q : ℕ) (f : IsFurther m n q) where
   -- literals of level 0 keep their reasons
   pub roots_further : (cs more : Clauses) → AreAmong cs more → HasRoots (sight a m) cs →
-  ((i : ℕ) → length m.lits ≤ i → i < length n.lits → level_of (sight b n) (nth (sight b n) i) ≡ 0 → HasReason more (has (take i n.lits)) (nth (sight b n) i)) →
-  HasRoots (sight b n) more
+      ((i : ℕ) → length m.lits ≤ i → i < length n.lits → level_of (sight b n) (nth (sight b n) i) ≡ 0 →
+      HasReason more (has (take i n.lits)) (nth (sight b n) i)) → HasRoots (sight b n) more
   roots_further cs more there rooted new = λ i lt z. elim (cases_lt i (length m.lits)) [
     | inl old ↦
         let r = reason_among cs more (has (take i m.lits)) (nth (sight a m) i) there (rooted i old (sym (further_level a b m n q f i old) ∙ z)) in
@@ -94,7 +94,10 @@ module _ (a b : Attached) (m n : Marks) (q : ℕ) (f : IsFurther m n q) where
 
   pub true_further : (c : List Literal) → IsTrueAtRoot (sight a m) c → IsTrueAtRoot (sight b n) c
   true_further c t = record {
-  lit = t.lit; inside = t.inside; true_ = further_in a b m n q f t.lit t.true_; root = further_old a b m n q f t.lit t.true_ ∙ t.root
+    lit = t.lit;
+    inside = t.inside;
+    true_ = further_in a b m n q f t.lit t.true_;
+    root = further_old a b m n q f t.lit t.true_ ∙ t.root;
   }
 
   pub true_back : (c : List Literal) → 0 < q → IsTrueAtRoot (sight b n) c → IsTrueAtRoot (sight a m) c

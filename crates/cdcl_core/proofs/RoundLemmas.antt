@@ -97,7 +97,7 @@ pub given_added : (cs a b : Clauses) (c : List Literal) → AreSameClauses (a ++
 given_added cs a b c same g = record {
   kept = among_more (cs ++ c ∷ []) (a ++ c ∷ []) b (among_append cs (c ∷ []) a (c ∷ []) g.kept (among_itself (c ∷ []))) same.there;
   follow = λ v h. satisfies_among v (a ++ c ∷ []) b same.back (satisfies_append v a (c ∷ []) (g.follow v (satisfies_left v cs (c ∷ []) h))
-  (satisfies_right v cs (c ∷ []) h));
+      (satisfies_right v cs (c ∷ []) h));
 }
 
 -- clauses that were learnt
@@ -130,7 +130,7 @@ learnt_more r s t cs ds f g = record {
   room = g.room ∙ f.room;
   vars = g.vars ∙ f.vars;
   learnt = g.learnt ∙ ap (λ k. more_learnt k (length ds)) f.learnt ∙ learnt_times r.learnt (length cs) (length ds)
-  ∙ ap (more_learnt r.learnt) (sym (length-append cs ds));
+      ∙ ap (more_learnt r.learnt) (sym (length-append cs ds));
   visits = let a = f.visits in let b = g.visits in omega arith;
   failed = g.failed;
 }
@@ -157,7 +157,8 @@ gone_same before now count after query r s t n f h = record {
   given = λ cs g. given_same cs (clauses s) (clauses t) f.clauses (h.given cs g);
   told = h.told;
   belongs = λ lines b. let x = h.belongs lines b in record {
-  belongs = belongs_same (lines ++ map Learnt h.learnt) (clauses s) (clauses t) s.words t.words f.clauses f.words x.belongs; asked = x.asked
+    belongs = belongs_same (lines ++ map Learnt h.learnt) (clauses s) (clauses t) s.words t.words f.clauses f.words x.belongs;
+    asked = x.asked;
   };
   counted = h.counted;
 }
@@ -198,7 +199,7 @@ ends_after before mid now count between after query r s t answer n budget spent 
   ends = e.ends;
   told = λ lines told. subst now (append_assoc lines (map Learnt h.learnt) e.ending) (e.told (lines ++ map Learnt h.learnt) (h.told lines told));
   belongs = λ lines b. subst (λ (ls : Lines). BelongsTo ls (clauses t) t.words) (append_assoc lines (map Learnt h.learnt) e.ending)
-  (e.belongs (lines ++ map Learnt h.learnt) (h.belongs lines b));
+      (e.belongs (lines ++ map Learnt h.learnt) (h.belongs lines b));
   counted = e.counted ∙ h.counted ∙ ap (λ k. rose_by k count) (sym h.many);
 }
 
@@ -226,9 +227,9 @@ searched before mid now count between after query s t answer budget formed named
   counted = e.counted ∙ ap (rose_by (length e.learnt)) same;
   ends = e.ends;
   told = λ lines told. subst now (append_assoc lines (Query query ∷ []) (map Learnt e.learnt ++ e.ending))
-  (e.told (lines ++ Query query ∷ []) (adds lines told));
+      (e.told (lines ++ Query query ∷ []) (adds lines told));
   belongs = λ lines b. subst (λ (ls : Lines). BelongsTo ls (clauses t) t.words) (append_assoc lines (Query query ∷ []) (map Learnt e.learnt ++ e.ending))
-  (e.belongs (lines ++ Query query ∷ []) (belongs_query lines (clauses s) s.words query formed named b));
+      (e.belongs (lines ++ Query query ∷ []) (belongs_query lines (clauses s) s.words query formed named b));
 }
 
 -- how a search ends
@@ -254,7 +255,7 @@ ends_refuted before now count after query c s t store same formed named refuting
   ends = record { clause = c; is = refl; answers = refuting.answers };
   told = adds;
   belongs = λ lines b. belongs_same (lines ++ RefutedLine c ∷ []) (clauses s) (clauses t) s.words t.words store.clauses store.words
-  (belongs_refuted lines (clauses s) s.words query c formed named refuting b);
+      (belongs_refuted lines (clauses s) s.words query c formed named refuting b);
   counted = e;
 }
 
@@ -268,7 +269,7 @@ ends_quietly before count query s t answer store ends says = record {
   ends = ends;
   told = λ lines told. subst before (sym (append-nil lines)) told;
   belongs = λ lines b. subst (λ (ls : Lines). BelongsTo ls (clauses t) t.words) (sym (append-nil lines))
-  (belongs_same lines (clauses s) (clauses t) s.words t.words store.clauses store.words b.belongs);
+      (belongs_same lines (clauses s) (clauses t) s.words t.words store.clauses store.words b.belongs);
   counted = refl;
 }
 
@@ -282,7 +283,8 @@ ends_from before now count after query r s t answer f e = record {
   ends = e.ends;
   told = e.told;
   belongs = λ lines b. e.belongs lines (record {
-  belongs = belongs_same lines (clauses r) (clauses s) r.words s.words f.clauses f.words b.belongs; asked = b.asked
+    belongs = belongs_same lines (clauses r) (clauses s) r.words s.words f.clauses f.words b.belongs;
+    asked = b.asked;
   });
   counted = e.counted;
 }
@@ -304,9 +306,11 @@ pub left_from : (before now : Lines → Type 0) (query : List Literal) (r s : Se
 left_from before now query r s f d = λ lines told more m.
     let left = d lines told more m in
     record {
-    derives = λ b. left.derives (record {
-    belongs = belongs_same lines (clauses r) (clauses s) r.words s.words f.clauses f.words b.belongs; asked = b.asked
-    }); gives = left.gives
+      derives = λ b. left.derives (record {
+        belongs = belongs_same lines (clauses r) (clauses s) r.words s.words f.clauses f.words b.belongs;
+        asked = b.asked;
+      });
+      gives = left.gives;
     }
 
 -- a clause that the analyser gave is kept
@@ -339,13 +343,21 @@ ends_full before count query s t an full = ends_quietly before count query s t R
 -- the query's variables stay named
 pub named_same : (query : List Literal) (a b : Clauses) → AreSameClauses a b → All (λ l. IsNamed a l.var) query → All (λ l. IsNamed b l.var) query
 named_same query a b same h = All-weaker (λ l. IsNamed a l.var) (λ l. IsNamed b l.var) (λ l n. let d = same.there n.clause n.among in record {
-    clause = d.0; among = d.1; lit = n.lit; inside = (d.2 n.lit).0 n.inside; var = n.var
-    }) query h
+  clause = d.0;
+  among = d.1;
+  lit = n.lit;
+  inside = (d.2 n.lit).0 n.inside;
+  var = n.var;
+}) query h
 
 pub named_more : (query : List Literal) (a b c : Clauses) → AreSameClauses (a ++ c) b → All (λ l. IsNamed a l.var) query → All (λ l. IsNamed b l.var) query
 named_more query a b c same h = All-weaker (λ l. IsNamed a l.var) (λ l. IsNamed b l.var)
     (λ l n. let x = among_left a c n.clause n.among in let d = same.there x.0 x.1 in record {
-    clause = d.0; among = d.1; lit = n.lit; inside = (d.2 n.lit).0 ((x.2 n.lit).0 n.inside); var = n.var
+      clause = d.0;
+      among = d.1;
+      lit = n.lit;
+      inside = (d.2 n.lit).0 ((x.2 n.lit).0 n.inside);
+      var = n.var;
     }) query h
 
 -- the query is open at a clash above the assumptions
@@ -362,7 +374,7 @@ round_ok (Err e) before now count after query r s t f h = h
 round_ok (Ok o) before now count after query r s t f h = by_option o h
   where
     by_option : (o : Option Answer) → MatchOption o (LearnsOne before now count after query s t) (λ a. EndsSo before now count after query s t a) →
-    MatchOption o (LearnsOne before now count after query r t) (λ a. EndsSo before now count after query r t a)
+        MatchOption o (LearnsOne before now count after query r t) (λ a. EndsSo before now count after query r t a)
     by_option None h = learns_from before now count after query r s t f h
     by_option (Some a) h = ends_from before now count after query r s t a f h
 
@@ -409,8 +421,10 @@ searched_err before now query s t answer budget count after one h = λ lines tol
 pub searched_counted : (before now : Lines → Type 0) (query : List Literal) (s t : Search) (answer : Answer) (budget count after : ℕ) →
     HasSolved before now query (seen s) (seen t) answer budget count after → HasCounted budget count after
 searched_counted before now query s t answer budget count after h = record {
-    number = length h.learnt; few = within_spent answer budget (length h.learnt) h.spent; counted = h.counted
-    }
+  number = length h.learnt;
+  few = within_spent answer budget (length h.learnt) h.spent;
+  counted = h.counted;
+}
 
 pub searched_same : (before now : Lines → Type 0) (query : List Literal) (k : Kept) (s t : Search) (answer : Answer) (budget count after : ℕ) →
     IsSameStore s t → HasSolved before now query k (seen s) answer budget count after → HasSolved before now query k (seen t) answer budget count after
@@ -423,7 +437,7 @@ searched_same before now query k s t answer budget count after f h = record {
   ends = h.ends;
   told = h.told;
   belongs = λ lines b. belongs_same (lines ++ search_lines query h.learnt h.ending) (clauses s) (clauses t) s.words t.words f.clauses f.words
-  (h.belongs lines b);
+      (h.belongs lines b);
 }
 
 -- the query was told, and then an error came
@@ -432,7 +446,8 @@ pub query_err : (before mid now : Lines → Type 0) (query : List Literal) (s : 
 query_err before mid now query s formed named adds d = λ lines told more m.
     let left = d (lines ++ Query query ∷ []) (adds lines told) more m in
     record {
-    derives = λ b. left.derives (belongs_query lines (clauses s) s.words query formed named b); gives = left.gives ∙ same_clauses lines (Query query) refl
+      derives = λ b. left.derives (belongs_query lines (clauses s) s.words query formed named b);
+      gives = left.gives ∙ same_clauses lines (Query query) refl;
     }
 
 pub query_err_of : (res : Result Answer SolveFault) (before mid now : Lines → Type 0) (query : List Literal) (s : Search) → MayBeTold (Query query) →
@@ -446,8 +461,10 @@ pub searched_ok : (res : Result Answer SolveFault) (before mid now : Lines → T
     IfOk res (λ a. EndsAfter mid now between after query s t a budget) → IfOk res (λ a. EndsBehindQuery before now count after query s t a budget)
 searched_ok (Err e) before mid now count between after query s t budget formed named adds same h = h
 searched_ok (Ok a) before mid now count between after query s t budget formed named adds same h = record {
-    searched = searched before mid now count between after query s t a budget formed named adds same h; given = h.given; says = h.says
-    }
+  searched = searched before mid now count between after query s t a budget formed named adds same h;
+  given = h.given;
+  says = h.says;
+}
 
 -- the same of a search whose clauses and counts are seen the same
 pub searched_seen : (res : Result Answer SolveFault) (before now : Lines → Type 0) (count after : ℕ) (query : List Literal) (s r t : Search) (budget : ℕ) →
@@ -467,11 +484,13 @@ pub searched_refuted : (before mid now : Lines → Type 0) (count between after 
     EndsBehindQuery before now count after query s t Refuted budget
 searched_refuted before mid now count between after query s t budget an none h refuted formed named adds same ends counted =
     let refuting : IsRefuting (clauses s) query [] = record {
-    follows = h.solving.grounded.falsified refuted; answers = All-nil (λ l. Contains query (negate l))
+      follows = h.solving.grounded.falsified refuted;
+      answers = All-nil (λ l. Contains query (negate l));
     } in
     let e = ends_after mid mid now between between after query s s t Refuted 0 budget (omega arith) (gone_none mid between query s)
     (ends_refuted mid now between after query [] s t (analysed_store s t an) (analysed_clauses s t an) (record {
-    formed = tt; once = tt
+      formed = tt;
+      once = tt;
     }) named refuting (subst (IsRefuting (clauses s) query) (sym none) refuting) ends counted) in
     record { searched = searched before mid now count between after query s t Refuted budget formed named adds same e; given = e.given; says = e.says }
 

@@ -77,9 +77,14 @@ quiet_closure clauses start set c = record { closed = c.closed; unfalsified = c.
 pub quiet_both : (xs ys : Clauses) (set : LiteralSet) → IsStable xs set → IsStable ys set → IsStable (xs ++ ys) set
 quiet_both xs ys set p r = record {
   closed = λ c among l unit. elim (Contains-append_cases xs ys c among) [ inl h ↦ p.closed c h l unit | inr h ↦ r.closed c h l unit ];
-  unfalsified = λ f. elim (Contains-append_cases xs ys f.clause f.among) [ inl h ↦ p.unfalsified (record {
-  clause = f.clause; among = h; each = f.each
-  }) | inr h ↦ r.unfalsified (record { clause = f.clause; among = h; each = f.each }) ];
+  unfalsified = λ f. elim (Contains-append_cases xs ys f.clause f.among) [
+    | inl h ↦ p.unfalsified (record {
+      clause = f.clause;
+      among = h;
+      each = f.each;
+    })
+    | inr h ↦ r.unfalsified (record { clause = f.clause; among = h; each = f.each })
+  ];
 }
 
 -- the clauses of an arena, by their places
@@ -89,7 +94,7 @@ text_of_place a p h = mapped a.places h.0 h.1 h.2
     mapped : (ps : List ℕ) (i : ℕ) → i < length ps → get_or ps i p ≡ p → Contains (map (attached_at a) ps) (attached_at a p)
     mapped [] i lt e = absurd (omega arith)
     mapped (q ∷ ps) zero lt e = subst (λ (c : List Literal). Contains (map (attached_at a) (q ∷ ps)) c) (ap (attached_at a) e)
-    (contains_head (attached_at a q) (map (attached_at a) ps))
+        (contains_head (attached_at a q) (map (attached_at a) ps))
       where
         contains_head : (c : List Literal) (cs : Clauses) → Contains (c ∷ cs) c
         contains_head c cs = (0, omega arith, refl)
@@ -107,21 +112,29 @@ place_of_text a ps c h = at_index ps h.0 h.1 h.2
     at_index [] i lt e = absurd (omega arith)
     at_index (q ∷ ps) zero lt e = record { place = q; among = (0, omega arith, refl); is = e }
     at_index (q ∷ ps) (suc i) lt e = let r = at_index ps i (omega arith) e in let among = r.among in let within = among.1 in record {
-    place = r.place; among = (suc among.0, omega arith, among.2); is = r.is
+      place = r.place;
+      among = (suc among.0, omega arith, among.2);
+      is = r.is;
     }
 
 -- propagation leaves each clause's literals
 pub same_text : (a b : Attached) → IsSameText a b → AreSameClauses (attached_clauses a) (attached_clauses b)
 same_text a b same = record {
   there = λ c m.
-      let p = place_of_text a a.places c m in
-      (attached_at b p.place, text_of_place b p.place (subst (λ (ps : List ℕ). Contains ps p.place) (sym same.places) p.among), subst
-      (λ (d : List Literal). SameLiterals d (attached_at b p.place)) p.is (same.lits p.place p.among));
+      let p = place_of_text a a.places c m in (
+        attached_at b p.place,
+        text_of_place b p.place (subst (λ (ps : List ℕ). Contains ps p.place) (sym same.places) p.among),
+        subst
+            (λ (d : List Literal). SameLiterals d (attached_at b p.place)) p.is (same.lits p.place p.among),
+      );
   back = λ c m.
       let p = place_of_text b b.places c m in
-      let among : Contains a.places p.place = subst (λ (ps : List ℕ). Contains ps p.place) same.places p.among in
-      (attached_at a p.place, text_of_place a p.place among, subst (λ (d : List Literal). SameLiterals d (attached_at a p.place)) p.is
-      (same_back (attached_at a p.place) (attached_at b p.place) (same.lits p.place among)));
+      let among : Contains a.places p.place = subst (λ (ps : List ℕ). Contains ps p.place) same.places p.among in (
+        attached_at a p.place,
+        text_of_place a p.place among,
+        subst (λ (d : List Literal). SameLiterals d (attached_at a p.place)) p.is
+            (same_back (attached_at a p.place) (attached_at b p.place) (same.lits p.place among)),
+      );
 }
 
 pub same_kept : (a b : Attached) (own : Clauses) → IsSameText a b → AreSameClauses (all_of a own) (all_of b own)
@@ -138,7 +151,7 @@ text_added a b p lits more places is =
     agree : (ps : List ℕ) → ((q : ℕ) → Contains ps q → attached_at b q ≡ attached_at a q) → map (attached_at b) ps ≡ map (attached_at a) ps
     agree [] h = refl
     agree (q ∷ ps) h = ap (λ (c : List Literal). c ∷ map (attached_at b) ps) (h q (0, omega arith, refl))
-    ∙ ap (λ (cs : Clauses). attached_at a q ∷ cs) (agree ps (λ r c. let within = c.1 in h r (suc c.0, omega arith, c.2)))
+        ∙ ap (λ (cs : Clauses). attached_at a q ∷ cs) (agree ps (λ r c. let within = c.1 in h r (suc c.0, omega arith, c.2)))
 
 pub same_attached : (a b : Attached) (own : Clauses) (c : List Literal) → attached_clauses b ≡ attached_clauses a ++ c ∷ [] →
     AreSameClauses (all_of a own ++ c ∷ []) (all_of b own)

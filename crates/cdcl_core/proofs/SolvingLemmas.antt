@@ -104,11 +104,11 @@ grounded_undone a m own refuted level after reasoned le g = record {
   marks = after;
   reasoned = reasoned;
   levels = levels_same (sight a m) (sight a (undone m level)) (attached_clauses a) (let e = size in omega arith)
-  (back_same a a (undone m level) m (level + 1) f (length (take level m.cuts)) (let e = size in omega arith)) g.levels;
+      (back_same a a (undone m level) m (level + 1) f (length (take level m.cuts)) (let e = size in omega arith)) g.levels;
   rooted = roots_back a a (undone m level) m (level + 1) f (all_of a own) g.rooted;
   there = g.there;
   own_true = λ r. All-weaker (IsTrueAtRoot (sight a m)) (IsTrueAtRoot (sight a (undone m level)))
-  (λ c h. true_back a a (undone m level) m (level + 1) f c (omega arith) h) own (g.own_true r);
+      (λ c h. true_back a a (undone m level) m (level + 1) f c (omega arith) h) own (g.own_true r);
   falsified = g.falsified;
 }
   where
@@ -127,13 +127,13 @@ grounded_decided a m own refuted l after reasoned settled g = record {
   marks = after;
   reasoned = reasoned;
   levels = levels_open (sight a m) (sight a (with_lit (opened m) l 0)) (attached_clauses a) size
-  (subst (λ q. SameUpto (sight a m) (sight a (with_lit (opened m) l 0)) q) (sym size) (further_same a a m (with_lit (opened m) l 0) (length m.cuts + 1) f))
+      (subst (λ q. SameUpto (sight a m) (sight a (with_lit (opened m) l 0)) q) (sym size) (further_same a a m (with_lit (opened m) l 0) (length m.cuts + 1) f))
       (quiet_same (attached_clauses a) (has m.lits) (upto (sight a m) (length m.cuts)) (λ k. upto_all a m g.marks k) settled.quiet) g.levels;
   rooted = roots_further a a m (with_lit (opened m) l 0) (length m.cuts + 1) f (all_of a own) (all_of a own) (among_itself (all_of a own)) g.rooted
       (λ i le lt z. let later = further_later a a m (with_lit (opened m) l 0) (length m.cuts + 1) f i le lt in absurd (omega arith));
   there = g.there;
   own_true = λ r. All-weaker (IsTrueAtRoot (sight a m)) (IsTrueAtRoot (sight a (with_lit (opened m) l 0)))
-  (λ c h. true_further a a m (with_lit (opened m) l 0) (length m.cuts + 1) f c h) own (g.own_true r);
+      (λ c h. true_further a a m (with_lit (opened m) l 0) (length m.cuts + 1) f c h) own (g.own_true r);
   falsified = g.falsified;
 }
   where
@@ -152,11 +152,11 @@ grounded_lit a m own refuted l reason after reasoned by g = record {
   marks = after;
   reasoned = reasoned;
   levels = levels_same (sight a m) (sight a (with_lit m l reason)) (attached_clauses a) (omega arith)
-  (further_same a a m (with_lit m l reason) (length m.cuts) f) g.levels;
+      (further_same a a m (with_lit m l reason) (length m.cuts) f) g.levels;
   rooted = roots_further a a m (with_lit m l reason) (length m.cuts) f (all_of a own) (all_of a own) (among_itself (all_of a own)) g.rooted new;
   there = g.there;
   own_true = λ r. All-weaker (IsTrueAtRoot (sight a m)) (IsTrueAtRoot (sight a (with_lit m l reason)))
-  (λ c h. true_further a a m (with_lit m l reason) (length m.cuts) f c h) own (g.own_true r);
+      (λ c h. true_further a a m (with_lit m l reason) (length m.cuts) f c h) own (g.own_true r);
   falsified = g.falsified;
 }
   where
@@ -164,7 +164,7 @@ grounded_lit a m own refuted l reason after reasoned by g = record {
     f = further_lit m l reason g.marks after
 
     new : (i : ℕ) → length m.lits ≤ i → i < length (m.lits ++ l ∷ []) → level_of (sight a (with_lit m l reason)) (nth (sight a (with_lit m l reason)) i) ≡ 0 →
-    HasReason (all_of a own) (has (take i (m.lits ++ l ∷ []))) (nth (sight a (with_lit m l reason)) i)
+        HasReason (all_of a own) (has (take i (m.lits ++ l ∷ []))) (nth (sight a (with_lit m l reason)) i)
     new i le lt z =
         let last : length m.lits ≡ i = omega (arith, length-append m.lits (l ∷ [])) in
         subst (λ (ls : List Literal). HasReason (all_of a own) (has ls) (nth (sight a (with_lit m l reason)) i)) (sym (take_at m.lits (l ∷ []) i last))
@@ -186,14 +186,17 @@ grounded_attached a b m own refuted p c more places is text reasoned there level
   rooted = λ i lt z. reason_among (all_of a own) (all_of b own) (has (take i m.lits)) (nth (sight a m) i) among (g.rooted i lt z);
   there = g.there;
   own_true = λ r. All-weaker (IsTrueAtRoot (sight a m)) (IsTrueAtRoot (sight b m)) (λ d t. record {
-  lit = t.lit; inside = t.inside; true_ = t.true_; root = t.root
+    lit = t.lit;
+    inside = t.inside;
+    true_ = t.true_;
+    root = t.root;
   }) own (g.own_true r);
   falsified = λ r. rup_more (all_of a own) (all_of b own) [] among (g.falsified r);
 }
   where
     among : AreAmong (all_of a own) (all_of b own)
     among = among_append (attached_clauses a) own (attached_clauses b) own (subst (λ (cs : Clauses). AreAmong (attached_clauses a) cs) (sym text)
-    (among_left (attached_clauses a) (c ∷ []))) (among_itself own)
+        (among_left (attached_clauses a) (c ∷ []))) (among_itself own)
 
 -- one more clause in the solver's own list: true at level 0, or refuting
 pub grounded_owned : (a : Attached) (m : Marks) (own now : Clauses) (refuted after : Bool) (c : List Literal) → now ≡ own ++ c ∷ [] → AreThere m.vars c →
@@ -213,7 +216,7 @@ grounded_owned a m own now refuted after c is there holds fails g = record {
   where
     among : AreAmong (all_of a own) (all_of a now)
     among = among_append (attached_clauses a) own (attached_clauses a) now (among_itself (attached_clauses a))
-    (subst (λ (cs : Clauses). AreAmong own cs) (sym is) (among_left own (c ∷ [])))
+        (subst (λ (cs : Clauses). AreAmong own cs) (sym is) (among_left own (c ∷ [])))
 
 -- the same of the trail that a call leaves
 pub solving_decided : (a : Attached) (m n : Marks) (own : Clauses) (refuted : Bool) (l : Literal) → n ≡ with_lit (opened m) l 0 → IsMarks n → AreWatched a n →
@@ -221,7 +224,9 @@ pub solving_decided : (a : Attached) (m n : Marks) (own : Clauses) (refuted : Bo
 solving_decided a m n own refuted l e marks watched reasoned settled g =
     subst (λ (x : Marks). IsSolving a x own refuted) (sym e)
     (record {
-    watched = subst (AreWatched a) e watched; grounded = grounded_decided a m own refuted l (subst IsMarks e marks) (subst (AreReasoned a) e reasoned) settled g
+      watched = subst (AreWatched a) e watched;
+      grounded = grounded_decided a m own refuted l (subst IsMarks e marks) (subst (AreReasoned a) e reasoned)
+          settled g;
     })
 
 pub solving_undone : (a : Attached) (m n : Marks) (own : Clauses) (refuted : Bool) (level : ℕ) → n ≡ undone m level → IsMarks n → AreWatched a n →
@@ -229,7 +234,9 @@ pub solving_undone : (a : Attached) (m n : Marks) (own : Clauses) (refuted : Boo
 solving_undone a m n own refuted level e marks watched reasoned le g =
     subst (λ (x : Marks). IsSolving a x own refuted) (sym e)
     (record {
-    watched = subst (AreWatched a) e watched; grounded = grounded_undone a m own refuted level (subst IsMarks e marks) (subst (AreReasoned a) e reasoned) le g
+      watched = subst (AreWatched a) e watched;
+      grounded = grounded_undone a m own refuted level (subst IsMarks e marks) (subst (AreReasoned a) e reasoned) le
+          g;
     })
 
 -- the trail may have other literals

@@ -56,15 +56,21 @@ module _ (s : Sight) (r : IsSound s) (w : Cut) (end : ℕ) (le : end ≤ length 
   above_zero (suc n) h = omega arith
 
   now_above : (level_of s k ≡ 0 → ⊥) → (v : ℕ) → is_seen (set w.seen k.var true) v ≡ true → IsSetAbove s v
-  now_above nz v h = elim (seen_cases w.seen k.var v h) [ inl e ↦ record {
-  lit = negate k; var = sym e; on = on_trail; above = above_zero (level_of s k) nz
-  } | inr old ↦ c.above v old ]
+  now_above nz v h = elim (seen_cases w.seen k.var v h) [
+    | inl e ↦ record {
+      lit = negate k;
+      var = sym e;
+      on = on_trail;
+      above = above_zero (level_of s k) nz;
+    }
+    | inr old ↦ c.above v old
+  ]
 
   pub cut_open : (level_of s k ≡ 0 → ⊥) → level_of s k ≡ s.level → IsCut s (with_open w k) end
   cut_open nz e = record {
     size = length-set w.seen k.var true ∙ c.size;
     lower = All-weaker (IsLower s w) (IsLower s (with_open w k)) (λ m l. lower_more s w k.var (w.met ++ k.var ∷ []) w.rest (w.pending + 1) m var_within l)
-    w.rest c.lower;
+        w.rest c.lower;
     all = λ l on seen below. elim (seen_cases w.seen k.var l.var seen) [
       | inl same ↦ let lvl : level_of s l ≡ level_of s k = ap (λ v. get_or s.levels v 0) same in absurd (omega arith)
       | inr old ↦ c.all l on old below
@@ -118,7 +124,7 @@ cut_added s r w end le k there named reached c = added_cases s w k (λ x. IsCut 
   root = λ _ _. c;
   present = λ un nz e. cut_open s r w end le c k there un (front un) named nz e;
   lower = λ un nz ne. cut_lower s r w end le c k there un (front un) named nz (below (level_of s k) s.level
-  (level_limit s (negate k) r (front_in s end (negate k) (front un))) ne);
+      (level_limit s (negate k) r (front_in s end (negate k) (front un))) ne);
 })
   where
     front : is_seen w.seen k.var ≡ false → IsIn (has (take end s.lits)) (negate k)
@@ -130,18 +136,27 @@ cut_added s r w end le k there named reached c = added_cases s w k (λ x. IsCut 
 -- what was seen stays so, and the literal is of level 0 or seen
 pub added_size : (s : Sight) (w : Cut) (k : Literal) → length (cut_with s w k).seen ≡ length w.seen
 added_size s w k = added_cases s w k (λ x. length x.seen ≡ length w.seen) (record {
-    old = λ _. refl; root = λ _ _. refl; present = λ _ _ _. length-set w.seen k.var true; lower = λ _ _ _. length-set w.seen k.var true
-    })
+  old = λ _. refl;
+  root = λ _ _. refl;
+  present = λ _ _ _. length-set w.seen k.var true;
+  lower = λ _ _ _. length-set w.seen k.var true;
+})
 
 pub added_keeps : (s : Sight) (w : Cut) (k : Literal) (v : ℕ) → k.var < length w.seen → IsSeen w v → IsSeen (cut_with s w k) v
 added_keeps s w k v lt h = added_cases s w k (λ x. IsSeen x v) (record {
-    old = λ _. h; root = λ _ _. h; present = λ _ _ _. seen_keeps w.seen k.var v lt h; lower = λ _ _ _. seen_keeps w.seen k.var v lt h
-    })
+  old = λ _. h;
+  root = λ _ _. h;
+  present = λ _ _ _. seen_keeps w.seen k.var v lt h;
+  lower = λ _ _ _. seen_keeps w.seen k.var v lt h;
+})
 
 pub added_covers : (s : Sight) (w : Cut) (k : Literal) → k.var < length w.seen → IsCovered s (cut_with s w k) k
 added_covers s w k lt = added_cases s w k (λ x. IsCovered s x k) (record {
-    old = λ h. inr h; root = λ _ z. inl z; present = λ _ _ _. inr (seen_same w.seen k.var lt); lower = λ _ _ _. inr (seen_same w.seen k.var lt)
-    })
+  old = λ h. inr h;
+  root = λ _ z. inl z;
+  present = λ _ _ _. inr (seen_same w.seen k.var lt);
+  lower = λ _ _ _. inr (seen_same w.seen k.var lt);
+})
 
 -- all literals of a clause
 pub gathered_keeps : (s : Sight) (w : Cut) (ks : List Literal) (v : ℕ) → AreThere s.vars ks → length w.seen ≡ s.vars + 1 → IsSeen w v →

@@ -33,8 +33,11 @@ last_differs ls k m distinct among e =
 pub shortened_keep : (s : Sight) (seen implied : List Bool) (old new : List Literal) (k : Literal) → AreDistinct (old ++ k ∷ []) →
     IsShortenedBy s seen implied old new → IsShortenedBy s seen implied (old ++ k ∷ []) (new ++ k ∷ [])
 shortened_keep s seen implied old new k distinct h = record {
-  within = λ m c. elim (Contains-push_cases new k m c) [ inl a ↦ Contains-append_left old (k ∷ []) m (h.within m a) | inr e ↦ subst
-  (λ (x : Literal). Contains (old ++ k ∷ []) x) e (Contains-push old k) ];
+  within = λ m c. elim (Contains-push_cases new k m c) [
+    | inl a ↦ Contains-append_left old (k ∷ []) m (h.within m a)
+    | inr e ↦ subst
+        (λ (x : Literal). Contains (old ++ k ∷ []) x) e (Contains-push old k)
+  ];
   dropped = λ m c. elim (Contains-push_cases old k m c) [
     | inl a ↦ elim (h.dropped m a) [ inl b ↦ inl (Contains-append_left new (k ∷ []) m b) | inr r ↦ inr r ]
     | inr e ↦ inl (subst (λ (x : Literal). Contains (new ++ k ∷ []) x) e (Contains-push new k))
@@ -67,7 +70,7 @@ redundant_wider s seen old new k keeps r = record {
   from = r.from;
   reason = r.reason;
   others = All-weaker (λ m. (m.var ≡ k.var) ⊎ IsFounded seen old s.levels m.var) (λ m. (m.var ≡ k.var) ⊎ IsFounded seen new s.levels m.var)
-  (λ m h. beside_wider s seen old new k.var m keeps h) (clause_in s r.place) r.others;
+      (λ m h. beside_wider s seen old new k.var m keeps h) (clause_in s r.place) r.others;
 }
 
 pub shortened_wider : (s : Sight) (seen old new : List Bool) (from to : List Literal) → KeepsImplied old new → IsShortenedBy s seen old from to →
@@ -119,7 +122,7 @@ module _ (s : Sight) (r : IsSound s) (seen : List Bool) (first : Literal) (old n
 
   kept_follows : (k : Literal) → Contains (first ∷ new) k → Closure (known s) (negations (first ∷ new)) (negate k)
   kept_follows k c = closure_start (known s) (negations (first ∷ new)) (negate k)
-  (ap (has (first ∷ new)) (negate-negate k) ∙ has_from_contains (first ∷ new) k c)
+      (ap (has (first ∷ new)) (negate-negate k) ∙ has_from_contains (first ∷ new) k c)
 
   lower_on : (k : Literal) → Contains old k → IsIn (has s.lits) (negate k)
   lower_on k c = All-contains (λ m. IsIn (has s.lits) (negate m)) old k (All-tail (λ m. IsIn (has s.lits) (negate m)) first old learnt.falsified) c
@@ -194,10 +197,10 @@ module _ (s : Sight) (r : IsSound s) (seen : List Bool) (first : Literal) (old n
     );
     named = with_first (λ k. IsNamed (clauses_in s) k.var) learnt.named;
     rup = falsifies_again (known s) (negations (first ∷ new)) (negations (first ∷ old))
-    (λ x h. back x (elim (contains_rest first (negate x) old (contains_from_has (first ∷ old) (negate x) h)) [
-      | inl e ↦ subst (λ (y : Literal). Closure (known s) (negations (first ∷ new)) (negate y)) e (kept_follows first (contains_first first new))
-      | inr c ↦ let p = placed_anywhere s (negate (negate x)) (lower_on (negate x) c) in follows (p.place + 1) (negate x) (inl c) p (omega arith)
-    ])) learnt.rup;
+        (λ x h. back x (elim (contains_rest first (negate x) old (contains_from_has (first ∷ old) (negate x) h)) [
+          | inl e ↦ subst (λ (y : Literal). Closure (known s) (negations (first ∷ new)) (negate y)) e (kept_follows first (contains_first first new))
+          | inr c ↦ let p = placed_anywhere s (negate (negate x)) (lower_on (negate x) c) in follows (p.place + 1) (negate x) (inl c) p (omega arith)
+        ])) learnt.rup;
   }
     where
       back : (x : Literal) → Closure (known s) (negations (first ∷ new)) (negate (negate x)) → Closure (known s) (negations (first ∷ new)) x

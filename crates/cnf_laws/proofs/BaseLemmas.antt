@@ -121,10 +121,10 @@ base_means v g grid is size h = record {
 
     node_reads : (k : ℕ) → k < n → ReadsPoint v (x.node k) (point_of v (x.node k))
     node_reads k lt = node_means v grid (west_rank g k) (satisfies_at v (λ j. node_clauses (x.node j)) 0 n
-    (satisfies_left v (each (λ j. node_clauses (x.node j)) 0 n) (each (edge_part g x grid) 0 m) h) k (omega arith) (omega arith))
+        (satisfies_left v (each (λ j. node_clauses (x.node j)) 0 n) (each (edge_part g x grid) 0 m) h) k (omega arith) (omega arith))
 
     edge_reads : (e : ℕ) → e < m → LineIsRead v (x.edge e) grid.width grid.height grid.least (point_of v (x.node (edge g e).west))
-    (point_of v (x.node (edge g e).east))
+        (point_of v (x.node (edge g e).east))
     edge_reads e lt =
         let ends = is.nodes e lt in
         let west = node_reads (edge g e).west ends.0 in
@@ -140,7 +140,7 @@ base_means v g grid is size h = record {
 
     facts : (e : ℕ) → e < m → LineFacts v (x.edge e) grid (point_of v (x.node (edge g e).west)) (point_of v (x.node (edge g e).east)) (line_at e)
     facts e lt = chosen_is (λ a. (edge_reads e a.1).line) (LineFacts v (x.edge e) grid (point_of v (x.node (edge g e).west))
-    (point_of v (x.node (edge g e).east))) (leb_tells (suc e) m)
+        (point_of v (x.node (edge g e).east))) (leb_tells (suc e) m)
         (λ a. record { joins = (edge_reads e a.1).joins; reads = shape_of v (x.edge e) grid.width (edge_reads e a.1).line (edge_reads e a.1).reads })
         (λ b. let far = b.1 in omega arith)
 
@@ -181,10 +181,13 @@ base_last g grid = laws_first g grid - 1
 pub edge_spot_in : (g : Graph) (grid : GridSize) (e : ℕ) → IsGrid grid → laws_first g grid ≤ VARS + 1 → e < length g.edges →
     EdgeIsPlaced (edge_first g grid e) grid.height grid.width × (edge_first g grid e + edge_size grid.height grid.width ≤ laws_first g grid)
 edge_spot_in g grid e is few lt =
-    let all = blocks (edge_size grid.height grid.width) (length g.edges) e lt in
-    (record {
-    spot = record { from = omega arith; rows = is.height_limit; some_columns = is.some_width; columns = is.width_limit }; to = omega arith
-    }, omega arith)
+    let all = blocks (edge_size grid.height grid.width) (length g.edges) e lt in (
+      record {
+        spot = record { from = omega arith; rows = is.height_limit; some_columns = is.some_width; columns = is.width_limit };
+        to = omega arith;
+      },
+      omega arith,
+    )
 
 pub node_spot : (g : Graph) (grid : GridSize) (n : ℕ) → n < length g.nodes →
     1 + west_rank g n * (grid.height + grid.width) + grid.height + grid.width ≤ edges_first g grid
@@ -200,7 +203,12 @@ edge_literals first high width vars p to =
       down = λ c lt. column_there first high width vars c 2 p.spot to lt (omega arith);
       height = λ c le. height_there first high width vars c p.spot to le;
       whole = record {
-      west_up = w.west_up; west_down = w.west_down; east_up = w.east_up; east_down = w.east_down; first_bend = w.first_bend; second_bend = w.second_bend
+        west_up = w.west_up;
+        west_down = w.west_down;
+        east_up = w.east_up;
+        east_down = w.east_down;
+        first_bend = w.first_bend;
+        second_bend = w.second_bend;
       };
     }
 
@@ -209,7 +217,7 @@ base_vars g grid is few = record {
   node_x = λ n lt. let s = node_spot g grid n lt in record { from = omega arith; to = omega arith };
   node_y = λ n lt. let s = node_spot g grid n lt in record { from = omega arith; to = omega arith };
   edge = λ e lt. let s = edge_spot_in g grid e is few lt in let top = s.1 in edge_literals (edge_first g grid e) grid.height grid.width (base_last g grid) s.0
-  (omega arith);
+      (omega arith);
 }
 
 pub base_there : (g : Graph) (grid : GridSize) → IsTrackGraph g → IsGrid grid → laws_first g grid ≤ VARS + 1 →
@@ -282,10 +290,10 @@ nodes_extend g grid d v loose =
 
     keeps : (k : ℕ) (u w : Assignment) → ((y : ℕ) → y < node_place grid (k + 1) → w y ≡ u y) → Q k u → Q k w
     keeps k u w same h j lt e = point_kept grid (west_rank g j) (place d j) u w (subst (λ i. (y : ℕ) → y < node_place grid (i + 1) → w y ≡ u y) (sym e) same)
-    (h j lt e)
+        (h j lt e)
 
     here : (k i j : ℕ) (w : Assignment) → IsAtPlace g k i → j < n → west_rank g j ≡ k → ReadsPoint w (ints_at_place grid k) (place d i) →
-    ReadsPoint w (ints_at_place grid (west_rank g j)) (place d j)
+        ReadsPoint w (ints_at_place grid (west_rank g j)) (place d j)
     here k i j w at lt e r =
         subst (λ o. ReadsPoint w (ints_at_place grid o) (place d j)) (sym e)
         (subst (λ o. ReadsPoint w (ints_at_place grid k) (place d o)) (rank_once g i j at.within lt (at.place ∙ sym e)) r)
@@ -340,8 +348,8 @@ edges_extend g grid d v is size few loose nodes =
 
     stays : (u w : Assignment) → ((y : ℕ) → y < edge_first g grid 0 → w y ≡ u y) → NodesAreRead g grid d u → NodesAreRead g grid d w
     stays u w same h k lt = point_kept grid (west_rank g k) (place d k) u w (λ y below. same y
-    (let s = node_spot g grid k lt in let more : (west_rank g k + 1) * (grid.height + grid.width) ≡ west_rank g k * (grid.height + grid.width) +
-    (grid.height + grid.width) = omega arith in omega arith)) (h k lt)
+        (let s = node_spot g grid k lt in let more : (west_rank g k + 1) * (grid.height + grid.width) ≡ west_rank g k * (grid.height + grid.width) +
+        (grid.height + grid.width) = omega arith in omega arith)) (h k lt)
 
     keeps : (e : ℕ) (u w : Assignment) → ((y : ℕ) → y < edge_first g grid (e + 1) → w y ≡ u y) → Q e u → Q e w
     keeps e u w same h lt =
@@ -359,9 +367,11 @@ edges_extend g grid d v is size few loose nodes =
           satisfies = satisfies_all_same u w last (edge_part g x grid e)
               (edge_there (edge_first g grid e) grid.height grid.width last grid.least (x.node (edge g e).west) (x.node (edge g e).east) s.0.spot to
               (record {
-              from = omega arith; to = omega arith
+                from = omega arith;
+                to = omega arith;
               }) (record {
-              from = omega arith; to = omega arith
+                from = omega arith;
+                to = omega arith;
               }) (record { from = omega arith; to = omega arith }) (record { from = omega arith; to = omega arith }))
               below k.satisfies;
         }

@@ -152,13 +152,19 @@ pair_are g above overlap e f t rising within = cases (above e f) (above f e) (ov
     le = omega arith
 
     cases : (a b o : Bool) → above e f ≡ a → above f e ≡ b → overlap e f ≡ o →
-    AreInstances g above (cond a (Over e f ∷ []) [] ++ (cond b (Over f e ∷ []) [] ++ cond (a || (b || not o)) [] (Parted e f ∷ [])))
+        AreInstances g above (cond a (Over e f ∷ []) [] ++ (cond b (Over f e ∷ []) [] ++ cond (a || (b || not o)) [] (Parted e f ∷ [])))
     cases true true o ea eb eo = (record { first = le; second = within; is_above = ea }, (record { first = within; second = le; is_above = eb }, tt))
     cases true false o ea eb eo = (record { first = le; second = within; is_above = ea }, tt)
     cases false true o ea eb eo = (record { first = within; second = le; is_above = eb }, tt)
-    cases false false true ea eb eo = (record {
-    pair = record { rising = rising; within = within }; overlap = (t.overlaps e f le within).0 eo; not_above = ea; not_below = eb
-    }, tt)
+    cases false false true ea eb eo = (
+      record {
+        pair = record { rising = rising; within = within };
+        overlap = (t.overlaps e f le within).0 eo;
+        not_above = ea;
+        not_below = eb;
+      },
+      tt,
+    )
     cases false false false ea eb eo = tt
 
 -- of two edges, what is in the list
@@ -182,9 +188,13 @@ in_third false false false e f ea eb eo = cc
 
 pub all_listed : (g : Graph) (above overlap : ℕ → ℕ → Bool) → AreTablesOf g above overlap → ListsAll g above (instances g above overlap)
 all_listed g above overlap t = record {
-  are = are_both g above one (two ++ (three ++ four)) (are_pairs g above (λ u v. Ordered u v ∷ []) n (λ a b rising within. (record {
-  rising = rising; within = within
-  }, tt)))
+  are = are_both g above one (two ++ (three ++ four)) (are_pairs g above (λ u v. Ordered u v ∷ []) n (λ a b rising within. (
+    record {
+      rising = rising;
+      within = within;
+    },
+    tt,
+  )))
       (are_both g above two (three ++ four) (are_listed g above (λ k. Aligned k ∷ []) 0 n (λ k from to. (omega arith, tt)))
       (are_both g above three four (are_pairs g above (λ u v. Apart u v ∷ []) n (λ a b rising within. (record { rising = rising; within = within }, tt)))
       (are_pairs g above (edge_pair above overlap) m (λ e f rising within. pair_are g above overlap e f t rising within))));
@@ -217,19 +227,19 @@ all_listed g above overlap t = record {
     all (LineOnGrid k) at h = absurd h
     all (Joined k) at h = absurd h
     all (Ordered u v) at h = Contains-append_left one (two ++ (three ++ four)) (Ordered u v)
-    (in_pairs (λ u v. Ordered u v ∷ []) (Ordered u v) n u v at.rising at.within (Contains-head (Ordered u v) []))
+        (in_pairs (λ u v. Ordered u v ∷ []) (Ordered u v) n u v at.rising at.within (Contains-head (Ordered u v) []))
     all (Aligned k) at h = Contains-append_right one (two ++ (three ++ four)) (Aligned k)
-    (Contains-append_left two (three ++ four) (Aligned k) (in_listed (λ k. Aligned k ∷ []) (Aligned k) 0 n k (omega arith) (omega arith)
-    (Contains-head (Aligned k) [])))
+        (Contains-append_left two (three ++ four) (Aligned k) (in_listed (λ k. Aligned k ∷ []) (Aligned k) 0 n k (omega arith) (omega arith)
+        (Contains-head (Aligned k) [])))
     all (Apart u v) at h = Contains-append_right one (two ++ (three ++ four)) (Apart u v)
-    (Contains-append_right two (three ++ four) (Apart u v) (Contains-append_left three four (Apart u v)
-    (in_pairs (λ u v. Apart u v ∷ []) (Apart u v) n u v at.rising at.within (Contains-head (Apart u v) []))))
+        (Contains-append_right two (three ++ four) (Apart u v) (Contains-append_left three four (Apart u v)
+        (in_pairs (λ u v. Apart u v ∷ []) (Apart u v) n u v at.rising at.within (Contains-head (Apart u v) []))))
     all (Over e f) at h = last (Over e f) (elim (leb_tells (e + 1) f) [
       | inl lt ↦ let less = lt.1 in in_pairs (edge_pair above overlap) (Over e f) m e f (omega arith) at.second
-      (in_first (above e f) (above f e) (overlap e f) e f at.is_above)
+          (in_first (above e f) (above f e) (overlap e f) e f at.is_above)
       | inr ge ↦ elim (leb_tells (f + 1) e) [
         | inl gt ↦ let more = gt.1 in in_pairs (edge_pair above overlap) (Over e f) m f e (omega arith) at.first
-        (in_second (above f e) (above e f) (overlap f e) f e at.is_above)
+            (in_second (above f e) (above e f) (overlap f e) f e at.is_above)
         | inr le ↦
             let a = ge.1 in
             let b = le.1 in
@@ -239,8 +249,8 @@ all_listed g above overlap t = record {
       ]
     ])
     all (Parted e f) at h = last (Parted e f) (in_pairs (edge_pair above overlap) (Parted e f) m e f at.pair.rising at.pair.within
-    (in_third (above e f) (above f e) (overlap e f) e f at.not_above at.not_below
-    ((t.overlaps e f (let r = at.pair.rising in let w = at.pair.within in omega arith) at.pair.within).1 at.overlap)))
+        (in_third (above e f) (above f e) (overlap e f) e f at.not_above at.not_below
+        ((t.overlaps e f (let r = at.pair.rising in let w = at.pair.within in omega arith) at.pair.within).1 at.overlap)))
 
 -- THE FORMULA
 pub formula_sound : (g : Graph) (above overlap : ℕ → ℕ → Bool) (grid : GridSize) → IsTrackGraph g → IsGrid grid → AreTablesOf g above overlap →

@@ -44,7 +44,7 @@ shared_west_says : (v : Assignment) (g : Graph) (x : DrawingVars) (e f c p : ℕ
 shared_west_says v g x e f c p r h = cases (is_end g f (edge g e).west) refl h
   where
     cases : (b : Bool) → is_end g f (edge g e).west ≡ b → Is (value v (cond b (int_at_least (x.node (edge g e).west).x c) LitOrTruth.False)) →
-    IsEndOf g f (edge g e).west × (c ≤ p)
+        IsEndOf g f (edge g e).west × (c ≤ p)
     cases true s k = let t : nat_le c p ≡ true = sym (r.each c) ∙ k in (is_end_says g f (edge g e).west s, grind (arith, nat_tests, t))
     cases false s k = cc
 
@@ -60,7 +60,7 @@ shared_east_says : (v : Assignment) (g : Graph) (x : DrawingVars) (e f c p : ℕ
 shared_east_says v g x e f c p r h = cases (is_end g f (edge g e).east) refl h
   where
     cases : (b : Bool) → is_end g f (edge g e).east ≡ b → Is (value v (cond b (flip (int_at_least (x.node (edge g e).east).x (c + 1))) LitOrTruth.False)) →
-    IsEndOf g f (edge g e).east × (p ≤ c)
+        IsEndOf g f (edge g e).east × (p ≤ c)
     cases true s k =
         let o : value v (int_at_least (x.node (edge g e).east).x (c + 1)) ≡ false = flipped (value v (int_at_least (x.node (edge g e).east).x (c + 1)))
         (sym (value-flip v (int_at_least (x.node (edge g e).east).x (c + 1))) ∙ k) in
@@ -111,10 +111,16 @@ east_is v g x grid d e r le = ap (λ (p : Point). p.x) (r.loose.joins e le).ends
 over_at : (v : Assignment) (g : Graph) (x : DrawingVars) (grid : GridSize) (d : Drawing) (e f c : ℕ) (guard : LitOrTruth) → Read v g x grid d →
     e < length g.edges → f < length g.edges → c ≤ grid.width → value v guard ≡ false → AreCompared g d e f c →
     SomeTrue v (guard_list (over_guards g x e f guard c)) → ⊥
-over_at v g x grid d e f c guard r le lf w off k (inl h) = cc (flipped (v ((x.edge e).inside c)) h, (r.reads.lines e le).inside c w
-    ∙ has_column_holds (line d e) c k.first)
-over_at v g x grid d e f c guard r le lf w off k (inr (inl h)) = cc (flipped (v ((x.edge f).inside c)) h, (r.reads.lines f lf).inside c w
-    ∙ has_column_holds (line d f) c k.second)
+over_at v g x grid d e f c guard r le lf w off k (inl h) = cc (
+  flipped (v ((x.edge e).inside c)) h,
+  (r.reads.lines e le).inside c w
+      ∙ has_column_holds (line d e) c k.first,
+)
+over_at v g x grid d e f c guard r le lf w off k (inr (inl h)) = cc (
+  flipped (v ((x.edge f).inside c)) h,
+  (r.reads.lines f lf).inside c w
+      ∙ has_column_holds (line d f) c k.second,
+)
 over_at v g x grid d e f c guard r le lf w off k (inr (inr (inl h))) =
     let n = (edge g e).west in
     let s = shared_west_says v g x e f c (place d n).x (r.reads.points n (r.graph.nodes e le).0).x h in
@@ -161,7 +167,7 @@ compared_or v g x grid d e f c guard r le lf w = first (v ((x.edge e).inside c))
     east = (edge g e).east
 
     first : (i j a b : Bool) → v ((x.edge e).inside c) ≡ i → v ((x.edge f).inside c) ≡ j → value v (shared_west g x e f c) ≡ a →
-    value v (shared_east g x e f c) ≡ b → SomeTrue v (guard_list (over_guards g x e f guard c)) ⊎ AreCompared g d e f c
+        value v (shared_east g x e f c) ≡ b → SomeTrue v (guard_list (over_guards g x e f guard c)) ⊎ AreCompared g d e f c
     first false j a b ei ej ea eb = inl (inl (ap not ei))
     first true false a b ei ej ea eb = inl (inr (inl (ap not ej)))
     first true true true b ei ej ea eb = inl (inr (inr (inl ea)))
@@ -170,10 +176,16 @@ compared_or v g x grid d e f c guard r le lf w = first (v ((x.edge e).inside c))
       first = has_column_says (line d e) c (sym ((r.reads.lines e le).inside c w) ∙ ei);
       second = has_column_says (line d f) c (sym ((r.reads.lines f lf).inside c w) ∙ ej);
       no_shared_end = λ n one two is. elim one [
-        | inl at ↦ cc (ea, shared_west_holds v g x e f c (place d west).x (r.reads.points west (r.graph.nodes e le).0).x
-        (subst (λ m. IsEndOf g f m) (sym at) two) (let z : (place d west).x ≡ (place d n).x = ap (λ m. (place d m).x) at in omega arith))
-        | inr at ↦ cc (eb, shared_east_holds v g x e f c (place d east).x (r.reads.points east (r.graph.nodes e le).1).x
-        (subst (λ m. IsEndOf g f m) (sym at) two) (let z : (place d east).x ≡ (place d n).x = ap (λ m. (place d m).x) at in omega arith))
+        | inl at ↦ cc (
+          ea,
+          shared_west_holds v g x e f c (place d west).x (r.reads.points west (r.graph.nodes e le).0).x
+              (subst (λ m. IsEndOf g f m) (sym at) two) (let z : (place d west).x ≡ (place d n).x = ap (λ m. (place d m).x) at in omega arith),
+        )
+        | inr at ↦ cc (
+          eb,
+          shared_east_holds v g x e f c (place d east).x (r.reads.points east (r.graph.nodes e le).1).x
+              (subst (λ m. IsEndOf g f m) (sym at) two) (let z : (place d east).x ≡ (place d n).x = ap (λ m. (place d m).x) at in omega arith),
+        )
       ];
     })
 
@@ -211,6 +223,10 @@ pub parted_holds : (v : Assignment) (g : Graph) (x : DrawingVars) (grid : GridSi
     SatisfiesAll v (parted_clauses g x grid.width e f greater unless)
 parted_holds v g x grid d e f greater unless r le lf h = satisfies_append v (over_clauses g x grid.width e f (flip (yes greater)) unless)
     (over_clauses g x grid.width f e (yes greater) unless)
-    (over_holds v g x grid d e f (flip (yes greater)) unless r le lf (elim h [ inl u ↦ inl u | inr (inl a) ↦ inr (inr a.1) | inr (inr b) ↦ inr
-    (inl (ap not b.0)) ]))
+    (over_holds v g x grid d e f (flip (yes greater)) unless r le lf (elim h [
+      | inl u ↦ inl u
+      | inr (inl a) ↦ inr (inr a.1)
+      | inr (inr b) ↦ inr
+          (inl (ap not b.0))
+    ]))
     (over_holds v g x grid d f e (yes greater) unless r lf le (elim h [ inl u ↦ inl u | inr (inl a) ↦ inr (inl a.0) | inr (inr b) ↦ inr (inr b.1) ]))

@@ -47,7 +47,7 @@ same_as_holds v b t e = cases (v b) refl
   where
     both : SomeTrue v (flip (yes b) ∷ t ∷ []) → SomeTrue v (flip t ∷ yes b ∷ []) → SatisfiesAll v (same_as b t)
     both x y = satisfies_append v (clause_of [] (flip (yes b) ∷ t ∷ [])) (clause_of [] (flip t ∷ yes b ∷ []))
-    (clause_holds v [] (flip (yes b) ∷ t ∷ []) (inr x)) (clause_holds v [] (flip t ∷ yes b ∷ []) (inr y))
+        (clause_holds v [] (flip (yes b) ∷ t ∷ []) (inr x)) (clause_holds v [] (flip t ∷ yes b ∷ []) (inr y))
 
     cases : (c : Bool) → v b ≡ c → SatisfiesAll v (same_as b t)
     cases true s = both (inr (inl (sym e ∙ s))) (inr (inl s))

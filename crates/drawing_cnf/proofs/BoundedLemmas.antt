@@ -77,15 +77,17 @@ one_behind v g x grid d clauses b vars last a le behind there r h =
       to = e.to;
       read = read_stays v e.to vars g x grid d a (λ y low. e.same.below y (omega arith)) r;
       satisfies = satisfies_append e.to clauses (clauses_of_bound g x grid b) (satisfies_all_same v e.to last clauses there
-      (λ y low. e.same.below y (omega arith)) h) e.holds;
+          (λ y low. e.same.below y (omega arith)) h) e.holds;
     }
 
 bounds_behind : (v : Assignment) (g : Graph) (x : DrawingVars) (grid : GridSize) (d : Drawing) (clauses : Clauses) (bounds : List Bound) (vars last : ℕ) →
     IsTrackGraph g → AreVars vars g x grid.width → vars ≤ last → AreBehind g x grid last bounds → AllThere last clauses → Read v g x grid d →
     SatisfiesAll v clauses → StillReads v g x grid d (clauses ++ bounds_clauses g x grid bounds)
 bounds_behind v g x grid d clauses [] vars last is a le behind there r h = record {
-    to = v; read = r; satisfies = subst (λ (cs : Clauses). SatisfiesAll v cs) (sym (append-nil clauses)) h
-    }
+  to = v;
+  read = r;
+  satisfies = subst (λ (cs : Clauses). SatisfiesAll v cs) (sym (append-nil clauses)) h;
+}
 bounds_behind v g x grid d clauses (b ∷ rest) vars last is a le behind there r h =
     let low = behind.0 in
     let next = b.last + size_of_bound g x grid b in
@@ -96,7 +98,10 @@ bounds_behind v g x grid d clauses (b ∷ rest) vars last is a le behind there r
     (bound_there vars g x grid b.last b.cap b.criterion is a (omega arith)))
     m.read m.satisfies in
     record {
-    to = k.to; read = k.read; satisfies = subst (λ (cs : Clauses). SatisfiesAll k.to cs) (append_assoc clauses one (bounds_clauses g x grid rest)) k.satisfies
+      to = k.to;
+      read = k.read;
+      satisfies = subst (λ (cs : Clauses). SatisfiesAll k.to cs) (append_assoc clauses one (bounds_clauses g x grid rest))
+          k.satisfies;
     }
 
 -- BEHIND THE FORMULA
@@ -164,7 +169,7 @@ from_behind g x grid caps last (c ∷ rest) = cases (nat_eq (caps c) 0) (from_be
     (from_behind g x grid caps (last + bound_size g x grid last (caps c) c) rest)
   where
     cases : (b : Bool) → AreBehind g x grid last (bounds_from g x grid caps last rest) →
-    AreBehind g x grid (last + bound_size g x grid last (caps c) c) (bounds_from g x grid caps (last + bound_size g x grid last (caps c) c) rest) →
+        AreBehind g x grid (last + bound_size g x grid last (caps c) c) (bounds_from g x grid caps (last + bound_size g x grid last (caps c) c) rest) →
         AreBehind g x grid last (cond b (bounds_from g x grid caps last rest) (bound c last (caps c) ∷ bounds_from g x grid caps
         (last + bound_size g x grid last (caps c) c) rest))
     cases true skip take = skip

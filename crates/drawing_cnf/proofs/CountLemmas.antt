@@ -115,8 +115,10 @@ unlike_there : (vars : ℕ) (i : IntVars) (k m : ℕ) → IntIsThere vars i → 
 unlike_there vars i k m there from to =
     all_there_append vars (clause_of [] (int_at_least i k ∷ yes m ∷ [])) (clause_of [] (flip (int_at_least i (k + 1)) ∷ yes m ∷ []))
     (clause_there vars [] (int_at_least i k ∷ yes m ∷ []) tt (at_least_within vars i k there, ((from, to), tt)))
-    (clause_there vars [] (flip (int_at_least i (k + 1)) ∷ yes m ∷ []) tt (flip_within vars (int_at_least i (k + 1)) (at_least_within vars i (k + 1) there),
-    ((from, to), tt)))
+    (clause_there vars [] (flip (int_at_least i (k + 1)) ∷ yes m ∷ []) tt (
+      flip_within vars (int_at_least i (k + 1)) (at_least_within vars i (k + 1) there),
+      ((from, to), tt),
+    ))
 
 node_there : (vars : ℕ) (n : NodeInts) (q : Point) (m : ℕ) → NodeThere vars n → 1 ≤ m → m ≤ vars → AllThere vars (moved_clauses n q m)
 node_there vars n q m there from to =
@@ -197,14 +199,14 @@ nodes_extend v x former place vars there r =
     (λ w s q. satisfies_each w (clauses_at x former (vars + 1)) 0 (length former) (λ k from to. outside k (omega (arith, to)) w (q k (omega (arith, to))))) all)
   where
     inside : (k : ℕ) → k < length former → (w : Assignment) → SatisfiesAll w (clauses_at x former (vars + 1) k) →
-    SatisfiesAll w (cond (nat_lt k (length former)) (clauses_at x former (vars + 1) k) [])
+        SatisfiesAll w (cond (nat_lt k (length former)) (clauses_at x former (vars + 1) k) [])
     inside k lt w q = subst (λ b. SatisfiesAll w (cond b (clauses_at x former (vars + 1) k) [])) (sym (below_true k (length former) lt)) q
       where
         below_true : (a b : ℕ) → a < b → nat_lt a b ≡ true
         below_true a b lt = grind (arith, nat_tests)
 
     outside : (k : ℕ) → k < length former → (w : Assignment) → SatisfiesAll w (cond (nat_lt k (length former)) (clauses_at x former (vars + 1) k) []) →
-    SatisfiesAll w (clauses_at x former (vars + 1) k)
+        SatisfiesAll w (clauses_at x former (vars + 1) k)
     outside k lt w q = subst (λ b. SatisfiesAll w (cond b (clauses_at x former (vars + 1) k) [])) (below_true k (length former) lt) q
       where
         below_true : (a b : ℕ) → a < b → nat_lt a b ≡ true
@@ -219,7 +221,7 @@ nodes_extend v x former place vars there r =
         lt_of a b e = grind (arith, nat_tests, e)
 
         by : (b : Bool) → nat_lt k (length former) ≡ b → SatisfiesAll u (cond b (clauses_at x former (vars + 1) k) []) →
-        SatisfiesAll w (cond b (clauses_at x former (vars + 1) k) [])
+            SatisfiesAll w (cond b (clauses_at x former (vars + 1) k) [])
         by true e q =
             let lt = lt_of k (length former) e in
             satisfies_all_same u w (vars + matched_before former (k + 1)) (clauses_at x former (vars + 1) k) (at_there vars x former k lt (there k lt))

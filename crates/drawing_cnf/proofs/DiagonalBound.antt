@@ -341,7 +341,7 @@ diagonal_extends v vars g x grid d edges last cap are a le r =
     b = vars_more vars (last + cap) g x grid.width (omega arith) a
 
     behind : (u : Assignment) → Read u g x grid d → IsExact u last cap n →
-    Extends (last + cap + 1) (count + sum_count s) u (λ z. SatisfiesAll z (diagonal_bound x grid edges last cap))
+        Extends (last + cap + 1) (count + sum_count s) u (λ z. SatisfiesAll z (diagonal_bound x grid edges last cap))
     behind u q exact =
         let z : s.vars + 1 ≡ last + cap + 1 + count = omega arith in
         extends_clauses (last + cap + 1) count (sum_count s) (last + cap + count) u steps (sum_bound s last) (omega arith)

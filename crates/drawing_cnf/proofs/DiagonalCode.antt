@@ -152,7 +152,7 @@ outputs_done all i front past h = sym (append-nil front) ∙ ap (λ (ls : List L
 -- the loop over edges
 pub record IsSumming (x : DrawingVars) (width most : ℕ) (old now : Cnf) (before sums : List SumVars) (edges rest : List ℕ) : Type 0 where
   pub left : IsLeft old now (edges_count x width most now.vars rest) (edges_count x width most old.vars edges) (edges_steps x width most now.vars rest)
-  (edges_steps x width most old.vars edges)
+      (edges_steps x width most old.vars edges)
   pub kept : sums ++ edges_sums x width most now.vars rest ≡ before ++ edges_sums x width most old.vars edges
 
 pub summing_more : {T : Type 0} (y : T) (x : DrawingVars) (width most : ℕ) (old now new : Cnf) (before sums more : List SumVars) (edges rest later : List ℕ)
@@ -168,9 +168,9 @@ summing_more y x width most old now new before sums more edges rest later e is a
     (edges_steps x width most next later) (edges_steps x width most old.vars edges) 3 c.left b in
     record {
       left = subst (λ n. IsLeft old new (edges_count x width most n later) (edges_count x width most old.vars edges) (edges_steps x width most n later)
-      (edges_steps x width most old.vars edges)) made step;
+          (edges_steps x width most old.vars edges)) made step;
       kept = ap (λ (ls : List SumVars). ls ++ edges_sums x width most new.vars later) grown_by
-      ∙ append_assoc sums (s ∷ []) (edges_sums x width most new.vars later)
+          ∙ append_assoc sums (s ∷ []) (edges_sums x width most new.vars later)
           ∙ ap (λ n. sums ++ s ∷ edges_sums x width most n later) (sym made) ∙ c.kept;
     }
 
@@ -213,7 +213,7 @@ diagonal_inputs g grid edges outputs cap vars late is there limit few same at en
     let sizes : length (west_first g) * most ≤ 160 * 24 = mul_small (length (west_first g)) most (omega (arith, edges_length g)) twice in
     record {
       there = subst (λ n. AreThere n outputs) (sym to) (subst (λ (ls : List Literal). AreThere (vars + edges_count x grid.width most vars (west_first g)) ls)
-      (sym all) (outputs_there vars g x grid.width most (west_first g) a (all_edges g).there));
+          (sym all) (outputs_there vars g x grid.width most (west_first g) a (all_edges g).there));
       few = omega (arith, ap length all, outputs_few x grid.width most vars (west_first g), sizes);
     }
   where

@@ -169,8 +169,8 @@ column_or v x k e c zero = inr (λ j from to. absurd (omega arith))
 column_or v x k e c (suc n) = cases (value v (int_at_least ((x.edge e).height c) k)) refl (column_or v x k e (c + 1) n)
   where
     cases : (b : Bool) → value v (int_at_least ((x.edge e).height c) k) ≡ b →
-    (SomeTrue v (column_heights x k e (c + 1) n) ⊎ ((j : ℕ) → c + 1 ≤ j → j < c + 1 + n → value v (int_at_least ((x.edge e).height j) k) ≡ false)) →
-    SomeTrue v (column_heights x k e c (suc n)) ⊎ ((j : ℕ) → c ≤ j → j < c + suc n → value v (int_at_least ((x.edge e).height j) k) ≡ false)
+        (SomeTrue v (column_heights x k e (c + 1) n) ⊎ ((j : ℕ) → c + 1 ≤ j → j < c + 1 + n → value v (int_at_least ((x.edge e).height j) k) ≡ false)) →
+        SomeTrue v (column_heights x k e c (suc n)) ⊎ ((j : ℕ) → c ≤ j → j < c + suc n → value v (int_at_least ((x.edge e).height j) k) ≡ false)
     cases true s rest = inl (inl s)
     cases false s (inl a) = inl (inr a)
     cases false s (inr f) = inr (λ j from to. elim (first_or_later c j from) [
@@ -237,12 +237,12 @@ height_tells v g x grid d b k r from h = cases (v b) refl
           let low = low_all g grid d (k - 1) r.graph r.loose (λ e c lt w. elim (leb_tells k (height (line d e) c)) [
             | inr gt ↦ let less = gt.1 in omega arith
             | inl high ↦ absurd (elim (either_of v (flip (int_at_least ((x.edge e).height c) k)) (yes b)
-            (satisfies_at v (height_gives x b k e) 0 (grid.width + 1) (satisfies_left v (each (height_gives x b k e) 0 (grid.width + 1))
-            (height_beside g x b k e) (satisfies_at v (edge_height_gives g x grid.width b k) 0 m (satisfies_left v given long h) e (omega arith) (omega arith)))
-            c (omega arith) (omega arith))) [
-              | inl off ↦ cc (sym (value-flip v (int_at_least ((x.edge e).height c) k)) ∙ off, reads e c lt w ∙ high.0)
-              | inr on ↦ cc (s, on)
-            ])
+                (satisfies_at v (height_gives x b k e) 0 (grid.width + 1) (satisfies_left v (each (height_gives x b k e) 0 (grid.width + 1))
+                (height_beside g x b k e) (satisfies_at v (edge_height_gives g x grid.width b k) 0 m (satisfies_left v given long h) e (omega arith)
+                (omega arith))) c (omega arith) (omega arith))) [
+                  | inl off ↦ cc (sym (value-flip v (int_at_least ((x.edge e).height c) k)) ∙ off, reads e c lt w ∙ high.0)
+                  | inr on ↦ cc (s, on)
+                ])
           ]) in
           absurd (omega arith)
     ]
@@ -381,21 +381,26 @@ height_extends v vars g x grid d last cap a le r =
     let w = patch (last + 1) cap f v in
     let same = patch_same (last + 1) cap f v in
     let q : Read w g x grid d = record {
-    graph = r.graph; reads = drawing_stays v w vars g x grid.width d a (λ y low. same.below y (omega arith)) r.reads; loose = r.loose
+      graph = r.graph;
+      reads = drawing_stays v w vars g x grid.width d a (λ y low. same.below y (omega arith)) r.reads;
+      loose = r.loose;
     } in
     record {
       to = w;
       same = same;
       holds = satisfies_each w (λ k. height_at g x grid.width (last + k) k) 1 cap
-      (λ k from to. height_holds w g x grid d (last + k) k q from (set_bound v last cap (height_of d) k from (omega arith)));
+          (λ k from to. height_holds w g x grid d (last + k) k q from (set_bound v last cap (height_of d) k from (omega arith)));
     }
 
 -- where its variables lie
 column_within : (vars : ℕ) (x : DrawingVars) (width k e c n : ℕ) → EdgeThere vars (x.edge e) width → c + n ≤ width + 1 →
     AreWithin vars (column_heights x k e c n)
 column_within vars x width k e c zero t le = tt
-column_within vars x width k e c (suc n) t le = (at_least_within vars ((x.edge e).height c) k (t.height c (omega arith)), column_within vars x width k e (c + 1)
-    n t (omega arith))
+column_within vars x width k e c (suc n) t le = (
+  at_least_within vars ((x.edge e).height c) k (t.height c (omega arith)),
+  column_within vars x width k e (c + 1)
+      n t (omega arith),
+)
 
 pub both_within : (vars : ℕ) (ts us : List LitOrTruth) → AreWithin vars ts → AreWithin vars us → AreWithin vars (ts ++ us)
 both_within vars [] us h k = k

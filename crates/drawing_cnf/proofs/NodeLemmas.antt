@@ -51,7 +51,7 @@ unlike_says v i k n m r h ne =
       | inl e ↦ absurd (ne e)
       | inr (inl less) ↦ second_of v low m (clause_says v [] (low ∷ yes m ∷ []) a) (from_false v i k n r less)
       | inr (inr more) ↦ second_of v (flip past) m (clause_says v [] (flip past ∷ yes m ∷ []) b)
-      (flip_false v past (from_true v i (k + 1) n r (omega (arith, more))))
+          (flip_false v past (from_true v i (k + 1) n r (omega (arith, more))))
     ]
 
 pub unlike_holds : (v : Assignment) (i : IntVars) (k n m : ℕ) → Reads v i n → (n ≢ k → v m ≡ true) → SatisfiesAll v (unlike_clauses i k m)
@@ -82,10 +82,10 @@ kept_says v n q p m r ex ey h = by (clause_says v [] (kept_list n q m) h)
     by : Satisfies v [] ⊎ SomeTrue v (kept_list n q m) → v m ≡ false
     by (inl s) = absurd s
     by (inr (inl s)) = absurd (not_both v (flip (int_at_least n.x q.x)) s (flip_false v (int_at_least n.x q.x)
-    (from_true v n.x q.x p.x r.x (omega (arith, ex)))))
+        (from_true v n.x q.x p.x r.x (omega (arith, ex)))))
     by (inr (inr (inl s))) = absurd (not_both v (int_at_least n.x (q.x + 1)) s (from_false v n.x (q.x + 1) p.x r.x (omega (arith, ex))))
     by (inr (inr (inr (inl s)))) = absurd (not_both v (flip (int_at_least n.y q.y)) s
-    (flip_false v (int_at_least n.y q.y) (from_true v n.y q.y p.y r.y (omega (arith, ey)))))
+        (flip_false v (int_at_least n.y q.y) (from_true v n.y q.y p.y r.y (omega (arith, ey)))))
     by (inr (inr (inr (inr (inl s))))) = absurd (not_both v (int_at_least n.y (q.y + 1)) s (from_false v n.y (q.y + 1) p.y r.y (omega (arith, ey))))
     by (inr (inr (inr (inr (inr (inl s)))))) = flipped (v m) s
     by (inr (inr (inr (inr (inr (inr s)))))) = absurd s

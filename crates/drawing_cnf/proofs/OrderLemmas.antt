@@ -32,9 +32,9 @@ from_more g x grid caps last (d ∷ rest) c some =
     next = last + bound_size g x grid last (caps d) d
 
     cases : (b : Bool) → bounds_from g x grid caps last (rest ++ c ∷ []) ≡ bounds_from g x grid caps last rest ++ bound c
-    (bounds_last g x grid last (bounds_from g x grid caps last rest)) (caps c) ∷ [] →
-    bounds_from g x grid caps next (rest ++ c ∷ []) ≡ bounds_from g x grid caps next rest ++ bound c
-    (bounds_last g x grid next (bounds_from g x grid caps next rest)) (caps c) ∷ [] →
+        (bounds_last g x grid last (bounds_from g x grid caps last rest)) (caps c) ∷ [] →
+        bounds_from g x grid caps next (rest ++ c ∷ []) ≡ bounds_from g x grid caps next rest ++ bound c
+        (bounds_last g x grid next (bounds_from g x grid caps next rest)) (caps c) ∷ [] →
         from_by g x grid caps last d (rest ++ c ∷ []) b ≡ from_by g x grid caps last d rest b ++ bound c
         (bounds_last g x grid last (from_by g x grid caps last d rest b)) (caps c) ∷ []
     cases true skip take = skip
@@ -52,8 +52,8 @@ from_same g x grid caps last (d ∷ rest) c none =
     next = last + bound_size g x grid last (caps d) d
 
     cases : (b : Bool) → bounds_from g x grid caps last (rest ++ c ∷ []) ≡ bounds_from g x grid caps last rest →
-    bounds_from g x grid caps next (rest ++ c ∷ []) ≡ bounds_from g x grid caps next rest →
-    from_by g x grid caps last d (rest ++ c ∷ []) b ≡ from_by g x grid caps last d rest b
+        bounds_from g x grid caps next (rest ++ c ∷ []) ≡ bounds_from g x grid caps next rest →
+        from_by g x grid caps last d (rest ++ c ∷ []) b ≡ from_by g x grid caps last d rest b
     cases true skip take = skip
     cases false skip take = ap (λ (bs : List Bound). bound d last (caps d) ∷ bs) take
 
@@ -69,9 +69,9 @@ from_append g x grid caps last (d ∷ front) rest =
     next = last + bound_size g x grid last (caps d) d
 
     cases : (b : Bool) → bounds_from g x grid caps last (front ++ rest) ≡ bounds_from g x grid caps last front ++ bounds_from g x grid caps
-    (bounds_last g x grid last (bounds_from g x grid caps last front)) rest →
-    bounds_from g x grid caps next (front ++ rest) ≡ bounds_from g x grid caps next front ++ bounds_from g x grid caps
-    (bounds_last g x grid next (bounds_from g x grid caps next front)) rest →
+        (bounds_last g x grid last (bounds_from g x grid caps last front)) rest →
+        bounds_from g x grid caps next (front ++ rest) ≡ bounds_from g x grid caps next front ++ bounds_from g x grid caps
+        (bounds_last g x grid next (bounds_from g x grid caps next front)) rest →
         from_by g x grid caps last d (front ++ rest) b ≡ from_by g x grid caps last d front b ++ bounds_from g x grid caps
         (bounds_last g x grid last (from_by g x grid caps last d front b)) rest
     cases true skip take = skip
@@ -93,7 +93,7 @@ from_rises g x grid caps last (d ∷ rest) = cases (nat_eq (caps d) 0) (from_ris
     next = last + bound_size g x grid last (caps d) d
 
     cases : (b : Bool) → last ≤ bounds_last g x grid last (bounds_from g x grid caps last rest) →
-    next ≤ bounds_last g x grid next (bounds_from g x grid caps next rest) → last ≤ bounds_last g x grid last (from_by g x grid caps last d rest b)
+        next ≤ bounds_last g x grid next (bounds_from g x grid caps next rest) → last ≤ bounds_last g x grid last (from_by g x grid caps last d rest b)
     cases true skip take = skip
     cases false skip take = omega arith
 

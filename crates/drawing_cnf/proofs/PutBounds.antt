@@ -52,7 +52,7 @@ row_edges vars g x width most (e ∷ es) rest a there h =
       (
         steps_there vars (x.edge e) width 0 width (a.edge e lt) (omega arith),
         row_edges next g x width most es rest (vars_more vars next g x width (omega arith) a) (All-tail (λ e. e < length g.edges) e es there)
-        (subst (λ n. AreInRow n rest) z h),
+            (subst (λ n. AreInRow n rest) z h),
       ),
     )
 
@@ -103,9 +103,11 @@ steps_hold v g x grid d most vars (e ∷ es) rest r there h =
     let one : SatisfiesAll v (sum_clauses s) = satisfies_left v (sum_clauses s) (sums_clauses (edges_sums x grid.width most next es ++ rest)) h in
     let more = steps_hold v g x grid d most next es rest r (All-tail (λ e. e < length g.edges) e es there)
     (satisfies_right v (sum_clauses s) (sums_clauses (edges_sums x grid.width most next es ++ rest)) h) in
-    let beside = beside_holds v g x grid d e s r lt (λ k few. sum_means v most vars inputs one k few ∙ ap (nat_le k) (edge_diagonal v g x grid d e r lt)) in
-    (satisfies_append v (edge_steps (x.edge e) s) (edges_steps x grid.width most next es)
-    (satisfies_append v (sum_clauses s) (steps_beside (x.edge e) s) one beside) more.0, more.1)
+    let beside = beside_holds v g x grid d e s r lt (λ k few. sum_means v most vars inputs one k few ∙ ap (nat_le k) (edge_diagonal v g x grid d e r lt)) in (
+      satisfies_append v (edge_steps (x.edge e) s) (edges_steps x grid.width most next es)
+          (satisfies_append v (sum_clauses s) (steps_beside (x.edge e) s) one beside) more.0,
+      more.1,
+    )
 
 pub bound_holds : (v : Assignment) (g : Graph) (x : DrawingVars) (grid : GridSize) (d : Drawing) (last cap : ℕ) (c : Criterion) → Read v g x grid d →
     IsExact v last cap (value_of (values_of d) c) → SatisfiesAll v (sums_clauses (bound_sums g x grid last cap c)) →
@@ -249,14 +251,20 @@ pub record IsPuttingBounds (g : Graph) (grid : GridSize) (ks : List KeptBound) (
   pub same : (y : ℕ) → y ≤ vars → now y ≡ old y
   pub later : (y : ℕ) → next < y → now y ≡ old y
   pub left : (w : Assignment) → ((y : ℕ) → y < next + 1 → w y ≡ now y) →
-  SatisfiesAll w (bounds_clauses g (drawing_vars g grid) grid (map bound_of (drop i ks))) →
-  SatisfiesAll w (bounds_clauses g (drawing_vars g grid) grid (map bound_of ks))
+      SatisfiesAll w (bounds_clauses g (drawing_vars g grid) grid (map bound_of (drop i ks))) →
+      SatisfiesAll w (bounds_clauses g (drawing_vars g grid) grid (map bound_of ks))
 
 pub bounds_start : (g : Graph) (grid : GridSize) (ks : List KeptBound) (vars : ℕ) (v : Assignment) →
     AreBehind g (drawing_vars g grid) grid vars (map bound_of ks) → IsPuttingBounds g grid ks vars 0 v v
 bounds_start g grid ks vars v h = record {
-    next = vars; from = omega arith; behind = h; total = refl; same = λ y le. refl; later = λ y high. refl; left = λ w agree k. k
-    }
+  next = vars;
+  from = omega arith;
+  behind = h;
+  total = refl;
+  same = λ y le. refl;
+  later = λ y high. refl;
+  left = λ w agree k. k;
+}
 
 next_cut : (ks : List KeptBound) (i : ℕ) (k : KeptBound) → i < length ks → k ≡ get_or ks i k →
     map bound_of (drop i ks) ≡ bound_of k ∷ map bound_of (drop (i + 1) ks)
@@ -290,7 +298,7 @@ next_bound g grid d ks vars i k old now lt is kept put p =
     (map bound_of ks) = sym (ap (bounds_last g x grid p.next) cut) ∙ p.total in
     record {
       row = subst (λ (l : List SumVars). AreInRow (k.last + k.cap) l) (sym sums) (bound_row (base_last g grid) g x grid k.last k.cap k.criterion
-      (base_vars g grid put.size put.few) (omega arith));
+          (base_vars g grid put.size put.few) (omega arith));
       from = omega arith;
       size = size;
       to = omega arith;

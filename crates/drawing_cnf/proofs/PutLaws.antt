@@ -55,8 +55,8 @@ pub record IsPuttingLaws (g : Graph) (grid : GridSize) (f : ℕ → List Instanc
   pub from : first ≤ next
   pub same : SameOutside first (next - first) old now
   pub left : (w : Assignment) → ((y : ℕ) → y < next → w y ≡ now y) →
-  SatisfiesAll w (laws_clauses g (drawing_vars g grid) grid.width next (instances_from f k (end - k))) →
-  SatisfiesAll w (laws_clauses g (drawing_vars g grid) grid.width first all)
+      SatisfiesAll w (laws_clauses g (drawing_vars g grid) grid.width next (instances_from f k (end - k))) →
+      SatisfiesAll w (laws_clauses g (drawing_vars g grid) grid.width first all)
 
 pub putting_start : (g : Graph) (grid : GridSize) (f : ℕ → List Instance) (all : List Instance) (first : ℕ) (v : Assignment) (k end : ℕ) →
     all ≡ instances_from f k (end - k) → IsPuttingLaws g grid f all first v v first k end
@@ -123,7 +123,7 @@ putting_done g grid f all first old now next k end le a =
     record {
       same = record { below = a.same.below; above = λ y high. a.same.above y (omega arith) };
       holds = λ w agree. a.left w (λ y low. agree y (omega arith)) (subst (λ n. SatisfiesAll w
-      (laws_clauses g (drawing_vars g grid) grid.width next (instances_from f k n))) (sym z) tt);
+          (laws_clauses g (drawing_vars g grid) grid.width next (instances_from f k n))) (sym z) tt);
     }
 
 -- TWO LISTS
@@ -171,7 +171,8 @@ pub none_pairs : (g : Graph) (grid : GridSize) (f : ℕ → ℕ → List Instanc
     ((a b : ℕ) → IsPair n a b → PutsNone g grid (f a b) first v) → PutsNone g grid (instance_pairs n f) first v
 none_pairs g grid f n first v h =
     none_listed g grid (pairs_from n f) 0 n first v (λ a low high. none_listed g grid (f a) (a + 1) (n - (a + 1)) first v (λ b from to. h a b (record {
-    rising = omega arith; within = omega arith
+      rising = omega arith;
+      within = omega arith;
     })))
 
 -- one law
@@ -279,7 +280,7 @@ settled_puts g grid d above overlap e f first v pair put over h = cases (above e
     lower false is = none_of g grid first v
 
     cases : (a b o : Bool) → above e f ≡ a → above f e ≡ b → (a || (b || not o)) ≡ true →
-    PutsNone g grid (cond a (Over e f ∷ []) [] ++ (cond b (Over f e ∷ []) [] ++ cond (a || (b || not o)) [] (Parted e f ∷ []))) first v
+        PutsNone g grid (cond a (Over e f ∷ []) [] ++ (cond b (Over f e ∷ []) [] ++ cond (a || (b || not o)) [] (Parted e f ∷ []))) first v
     cases a b o ea eb on =
         none_both g grid (cond a (Over e f ∷ []) []) (cond b (Over f e ∷ []) [] ++ cond (a || (b || not o)) [] (Parted e f ∷ [])) first v (upper a ea)
         (none_both g grid (cond b (Over f e ∷ []) []) (cond (a || (b || not o)) [] (Parted e f ∷ [])) first v (lower b eb)
@@ -312,7 +313,7 @@ parted_puts g grid d above overlap e f first old new b pair put off parted tells
     }
 
     cases : (a c o : Bool) → (a || (c || not o)) ≡ false → PutsParted g grid (cond a (Over e f ∷ []) []
-    ++ (cond c (Over f e ∷ []) [] ++ cond (a || (c || not o)) [] (Parted e f ∷ []))) first old new
+        ++ (cond c (Over f e ∷ []) [] ++ cond (a || (c || not o)) [] (Parted e f ∷ []))) first old new
     cases true c o h = cc
     cases false true o h = cc
     cases false false true h = alone
@@ -327,7 +328,7 @@ pub parted_size : (g : Graph) (above overlap : ℕ → ℕ → Bool) (e f : ℕ)
 parted_size g above overlap e f off = cases (above e f) (above f e) (overlap e f) off
   where
     cases : (a c o : Bool) → (a || (c || not o)) ≡ false → laws_size g (cond a (Over e f ∷ []) []
-    ++ (cond c (Over f e ∷ []) [] ++ cond (a || (c || not o)) [] (Parted e f ∷ []))) ≡ 1
+        ++ (cond c (Over f e ∷ []) [] ++ cond (a || (c || not o)) [] (Parted e f ∷ []))) ≡ 1
     cases true c o h = cc
     cases false true o h = cc
     cases false false true h = refl

@@ -69,7 +69,7 @@ count_words x former vars =
     total (words_of (nodes ++ sum)) (words_of nodes) (words_of sum) n k a c (square_more k n (matched_few former)) (matched_few former) (words_append nodes sum)
   where
     total : (w a b n k : ℕ) → a ≤ n * 28 → b ≤ 100 * (k + 1) * (k + 2) + k * 10 → (k + 1) * (k + 2) ≤ (n + 1) * (n + 2) → k ≤ n → w ≡ a + b →
-    w ≤ 200 * ((n + 1) * (n + 2))
+        w ≤ 200 * ((n + 1) * (n + 2))
     total w a b n k ha hb hs le e = omega (arith, ha, hb, hs, le, e)
 
 pub count_vars : (former : Former) (vars : ℕ) → count_size former vars ≤ 20 * ((length former + 1) * (length former + 2))

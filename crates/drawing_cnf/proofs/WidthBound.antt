@@ -102,10 +102,10 @@ width_tells v g x grid d b k r from h = cases (v b) refl
           let low = width_low g grid d (k - 1) r.graph r.loose (λ n lt. elim (leb_tells k (place d n).x) [
             | inr gt ↦ let less = gt.1 in omega arith
             | inl high ↦ absurd (elim (either_of v (flip (int_at_least (x.node n).x k)) (yes b)
-            (satisfies_at v (column_gives x b k) 0 m (satisfies_left v given long h) n (omega arith) (omega arith))) [
-              | inl off ↦ cc (sym (value-flip v (int_at_least (x.node n).x k)) ∙ off, reads n lt ∙ high.0)
-              | inr on ↦ cc (s, on)
-            ])
+                (satisfies_at v (column_gives x b k) 0 m (satisfies_left v given long h) n (omega arith) (omega arith))) [
+                  | inl off ↦ cc (sym (value-flip v (int_at_least (x.node n).x k)) ∙ off, reads n lt ∙ high.0)
+                  | inr on ↦ cc (s, on)
+                ])
           ]) in
           absurd (omega arith)
     ]
@@ -122,8 +122,8 @@ columns_or v x k n zero = inr (λ i from to. absurd (omega arith))
 columns_or v x k n (suc rest) = cases (value v (int_at_least (x.node n).x k)) refl (columns_or v x k (n + 1) rest)
   where
     cases : (b : Bool) → value v (int_at_least (x.node n).x k) ≡ b →
-    (SomeTrue v (node_columns x k (n + 1) rest) ⊎ ((i : ℕ) → n + 1 ≤ i → i < n + 1 + rest → value v (int_at_least (x.node i).x k) ≡ false)) →
-    SomeTrue v (node_columns x k n (suc rest)) ⊎ ((i : ℕ) → n ≤ i → i < n + suc rest → value v (int_at_least (x.node i).x k) ≡ false)
+        (SomeTrue v (node_columns x k (n + 1) rest) ⊎ ((i : ℕ) → n + 1 ≤ i → i < n + 1 + rest → value v (int_at_least (x.node i).x k) ≡ false)) →
+        SomeTrue v (node_columns x k n (suc rest)) ⊎ ((i : ℕ) → n ≤ i → i < n + suc rest → value v (int_at_least (x.node i).x k) ≡ false)
     cases true s other = inl (inl s)
     cases false s (inl a) = inl (inr a)
     cases false s (inr f) = inr (λ i from to. elim (first_or_later n i from) [
@@ -177,15 +177,18 @@ width_extends v vars g x grid d last cap a le r =
       to = w;
       same = same;
       holds = satisfies_each w (λ k. width_at g x (last + k) k) 1 cap (λ k from to. width_holds w g x grid d (last + k) k q from
-      (set_bound v last cap (width_of d) k from (omega arith)));
+          (set_bound v last cap (width_of d) k from (omega arith)));
     }
 
 -- where its variables lie
 pub columns_within : (vars : ℕ) (g : Graph) (x : DrawingVars) (width k n rest : ℕ) → AreVars vars g x width → n + rest ≤ length g.nodes →
     AreWithin vars (node_columns x k n rest)
 columns_within vars g x width k n zero a le = tt
-columns_within vars g x width k n (suc rest) a le = (at_least_within vars (x.node n).x k (a.node_x n (omega arith)), columns_within vars g x width k (n + 1)
-    rest a (omega arith))
+columns_within vars g x width k n (suc rest) a le = (
+  at_least_within vars (x.node n).x k (a.node_x n (omega arith)),
+  columns_within vars g x width k (n + 1)
+      rest a (omega arith),
+)
 
 width_at_there : (vars : ℕ) (g : Graph) (x : DrawingVars) (width b k : ℕ) → AreVars vars g x width → 1 ≤ b → b ≤ vars → AllThere vars (width_at g x b k)
 width_at_there vars g x width b k a from to =

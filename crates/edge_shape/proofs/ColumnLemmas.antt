@@ -18,9 +18,9 @@ pub record AreColumns (v : Assignment) (e : EdgeLits) (width : ℕ) (y : ℕ →
   pub steps : (c : ℕ) → c < width → StepFacts (v (e.inside c)) (v (e.inside (c + 1))) (v (e.up c)) (v (e.down c))
   pub goes : (c : ℕ) → c < width → GoesBy (v (e.up c)) (v (e.down c)) (y c) (y (c + 1))
   pub seen : (c : ℕ) → c < width → v (e.seen c) ≡ (value v (before e.seen c) || (v (e.inside c) &&
-  (v (e.inside (c + 1)) && (not (v (e.up c)) && not (v (e.down c))))))
+      (v (e.inside (c + 1)) && (not (v (e.up c)) && not (v (e.down c))))))
   pub shape : (c : ℕ) → c < width → ShapeFacts (value v (before e.up c)) (value v (before e.down c)) (value v (before e.seen c)) (v (e.inside (c + 1)))
-  (v (e.up c)) (v (e.down c))
+      (v (e.up c)) (v (e.down c))
 
 pub before-next : (v : Assignment) (x : ℕ → ℕ) (c : ℕ) → value v (before x (c + 1)) ≡ v (x c)
 before-next v x c = let z : c + 1 ≡ suc c = omega arith in ap (λ k. value v (before x k)) z

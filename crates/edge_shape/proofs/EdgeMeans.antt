@@ -50,9 +50,10 @@ step_part v e high c h =
     let C = rule_clauses (seen_rules e c) in
     let D = rule_clauses (shape_rules e c) in
     let l = satisfies_left v (A ++ B) (C ++ D) h in
-    let r = satisfies_right v (A ++ B) (C ++ D) h in
-    ((rules_say v (step_rules e c) (satisfies_left v A B l), satisfies_right v A B l),
-    (rules_say v (seen_rules e c) (satisfies_left v C D r), rules_say v (shape_rules e c) (satisfies_right v C D r)))
+    let r = satisfies_right v (A ++ B) (C ++ D) h in (
+      (rules_say v (step_rules e c) (satisfies_left v A B l), satisfies_right v A B l),
+      (rules_say v (seen_rules e c) (satisfies_left v C D r), rules_say v (shape_rules e c) (satisfies_right v C D r)),
+    )
 
 pub columns_say : (v : Assignment) (e : EdgeLits) (west east : NodeInts) (high width w n : ℕ) (y : ℕ → ℕ) → HasRows e high width → Reads v west.x w →
     Reads v east.x (w + n + 1) → ((c : ℕ) → c ≤ width → Reads v (e.height c) (y c)) → SatisfiesAll v (column_clauses e west east high width) →
@@ -66,7 +67,7 @@ columns_say v e west east high width w n y rows rw rz ry h =
     (step_part v e high c (at c lt)).0.0 in
     record {
       inside = λ c le. range_means v e west.x east.x c w (w + n + 1) rw rz (rules_say v (range_rules e west.x east.x c)
-      (satisfies_at v (λ k. rule_clauses (range_rules e west.x east.x k)) 0 (width + 1) ranges c (omega arith) (omega arith)));
+          (satisfies_at v (λ k. rule_clauses (range_rules e west.x east.x k)) 0 (width + 1) ranges c (omega arith) (omega arith)));
       steps = facts;
       goes = λ c lt.
           let ra = ry c (omega arith) in
@@ -127,11 +128,11 @@ edge_reads v e west east high width w n y size rx rz ry a h inner =
       east_up = eu;
       east_down = ed;
       first_bend = bend_means v e.first_bend e.west_up e.west_down (e.seen (width - 1))
-      (rules_say v (bend_rules e.first_bend e.west_up e.west_down (e.seen (width - 1))) (satisfies_left v C D bends))
+          (rules_say v (bend_rules e.first_bend e.west_up e.west_down (e.seen (width - 1))) (satisfies_left v C D bends))
           ∙ ap (λ b. (b || v e.west_down) && v (e.seen (width - 1))) wu ∙ ap (λ b. (is_up (step_slope y w) || b) && v (e.seen (width - 1))) wd
           ∙ ap (λ b. b && v (e.seen (width - 1))) (diagonal_bool (step_slope y w)) ∙ ap (λ b. not (is_level (step_slope y w)) && b) level;
       second_bend = bend_means v e.second_bend e.east_up e.east_down (e.seen (width - 1))
-      (rules_say v (bend_rules e.second_bend e.east_up e.east_down (e.seen (width - 1))) (satisfies_right v C D bends))
+          (rules_say v (bend_rules e.second_bend e.east_up e.east_down (e.seen (width - 1))) (satisfies_right v C D bends))
           ∙ ap (λ b. (b || v e.east_down) && v (e.seen (width - 1))) eu ∙ ap (λ b. (is_up (step_slope y (w + n)) || b) && v (e.seen (width - 1))) ed
           ∙ ap (λ b. b && v (e.seen (width - 1))) (diagonal_bool (step_slope y (w + n))) ∙ ap (λ b. not (is_level (step_slope y (w + n))) && b) level;
     }
@@ -220,7 +221,7 @@ edge_means v e west east least high width w z a b rows some size rx ra rz rb h =
     }
   where
     past_east : (c : ℕ) → w + (z - w - 1) + 1 ≤ width → AreColumns v e width (heights v e width) w (z - w - 1) → w + (z - w - 1) + 1 ≤ c →
-    heights v e width width ≡ heights v e width (w + (z - w - 1) + 1) → heights v e width c ≡ heights v e width (w + (z - w - 1) + 1)
+        heights v e width width ≡ heights v e width (w + (z - w - 1) + 1) → heights v e width c ≡ heights v e width (w + (z - w - 1) + 1)
     past_east c fits columns le behind =
         let k = min c width in
         let same : min c width ≡ min k width = omega arith in

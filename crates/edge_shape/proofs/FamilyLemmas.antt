@@ -16,8 +16,13 @@ range_bool : (i a b : Bool) → (Is i × (Is a × ⊤) → ⊥) × ((Is i × ⊤
 range_bool i a b h = grind (arith, h.0, h.1.0, h.1.1.0)
 
 range_back : (i a b : Bool) → i ≡ (not a && b) → (Is i × (Is a × ⊤) → ⊥) × ((Is i × ⊤ → Is b ⊎ ⊥) × ((Is b × ⊤ → Is a ⊎ (Is i ⊎ ⊥)) × ⊤))
-range_back i a b e = ((λ p. grind (arith, e, p.0, p.1.0)), ((λ p. inl (grind (arith, e, p.0))),
-    ((λ p. elim a as (λ (x : Bool). i ≡ (not x && b) → Is x ⊎ (Is i ⊎ ⊥)) [ true ↦ λ q. inl refl | false ↦ λ q. inr (inl (q ∙ p.0)) ] e), tt)))
+range_back i a b e = (
+  (λ p. grind (arith, e, p.0, p.1.0)),
+  (
+    (λ p. inl (grind (arith, e, p.0))),
+    ((λ p. elim a as (λ (x : Bool). i ≡ (not x && b) → Is x ⊎ (Is i ⊎ ⊥)) [ true ↦ λ q. inl refl | false ↦ λ q. inr (inl (q ∙ p.0)) ] e), tt),
+  ),
+)
 
 pub range_means : (v : Assignment) (e : EdgeLits) (x z : IntVars) (c w m : ℕ) → Reads v x w → Reads v z m → FollowsRules v (range_rules e x z c) →
     v (e.inside c) ≡ (nat_le w c && nat_le c m)
@@ -57,8 +62,16 @@ step_means v e c h = record {
 
 pub step_holds : (v : Assignment) (e : EdgeLits) (c : ℕ) → StepFacts (v (e.inside c)) (v (e.inside (c + 1))) (v (e.up c)) (v (e.down c)) →
     FollowsRules v (step_rules e c)
-step_holds v e c f = ((λ a. inl (f.up_west a.0)), ((λ a. inl (f.up_east a.0)), ((λ a. inl (f.down_west a.0)),
-    ((λ a. inl (f.down_east a.0)), ((λ a. f.one a.0 a.1.0), tt)))))
+step_holds v e c f = (
+  (λ a. inl (f.up_west a.0)),
+  (
+    (λ a. inl (f.up_east a.0)),
+    (
+      (λ a. inl (f.down_west a.0)),
+      ((λ a. inl (f.down_east a.0)), ((λ a. f.one a.0 a.1.0), tt)),
+    ),
+  ),
+)
 
 pub seen_means : (v : Assignment) (e : EdgeLits) (c : ℕ) → FollowsRules v (seen_rules e c) →
     v (e.seen c) ≡ (value v (before e.seen c) || (v (e.inside c) && (v (e.inside (c + 1)) && (not (v (e.up c)) && not (v (e.down c))))))
@@ -67,7 +80,7 @@ seen_means v e c h = cases (value v (before e.seen c)) (v (e.inside c)) (v (e.in
     (λ a b. only (h.1.1.1.1.1.0 (a, (b, tt))))
   where
     cases : (p i j u d s : Bool) → (Is i → Is j → Is u ⊎ (Is d ⊎ (Is s ⊎ ⊥))) → (Is p → Is s) → (Is s → Is p ⊎ (Is i ⊎ ⊥)) → (Is s → Is p ⊎ (Is j ⊎ ⊥)) →
-    (Is s → Is u → Is p) → (Is s → Is d → Is p) → s ≡ (p || (i && (j && (not u && not d))))
+        (Is s → Is u → Is p) → (Is s → Is d → Is p) → s ≡ (p || (i && (j && (not u && not d))))
     cases p i j u d s f1 f2 f3 f4 f5 f6 = grind (arith, f1, f2, f3, f4, f5, f6)
 
 pub seen_holds : (v : Assignment) (e : EdgeLits) (c : ℕ) → v (e.seen c) ≡ (value v (before e.seen c) ||
@@ -75,8 +88,8 @@ pub seen_holds : (v : Assignment) (e : EdgeLits) (c : ℕ) → v (e.seen c) ≡ 
 seen_holds v e c h = cases (value v (before e.seen c)) (v (e.inside c)) (v (e.inside (c + 1))) (v (e.up c)) (v (e.down c)) (v (e.seen c)) h
   where
     cases : (p i j u d s : Bool) → s ≡ (p || (i && (j && (not u && not d)))) →
-    ((Is i × (Is j × ⊤)) → Is u ⊎ (Is d ⊎ (Is s ⊎ ⊥))) × ((Is p × ⊤ → Is s ⊎ ⊥) ×
-    ((Is s × ⊤ → Is p ⊎ (Is i ⊎ ⊥)) × ((Is s × ⊤ → Is p ⊎ (Is j ⊎ ⊥)) × ((Is s × (Is u × ⊤) → Is p ⊎ ⊥) × ((Is s × (Is d × ⊤) → Is p ⊎ ⊥) × ⊤)))))
+        ((Is i × (Is j × ⊤)) → Is u ⊎ (Is d ⊎ (Is s ⊎ ⊥))) × ((Is p × ⊤ → Is s ⊎ ⊥) ×
+        ((Is s × ⊤ → Is p ⊎ (Is i ⊎ ⊥)) × ((Is s × ⊤ → Is p ⊎ (Is j ⊎ ⊥)) × ((Is s × (Is u × ⊤) → Is p ⊎ ⊥) × ((Is s × (Is d × ⊤) → Is p ⊎ ⊥) × ⊤)))))
     cases p i j u d s e = (
       (λ a. grind (arith, e, a.0, a.1.0)),
       (
@@ -111,8 +124,16 @@ shape_means v e c h = record {
 
 pub shape_holds : (v : Assignment) (e : EdgeLits) (c : ℕ) → ShapeFacts (value v (before e.up c)) (value v (before e.down c)) (value v (before e.seen c))
     (v (e.inside (c + 1))) (v (e.up c)) (v (e.down c)) → FollowsRules v (shape_rules e c)
-shape_holds v e c f = ((λ a. f.no_peak a.0 a.1.0), ((λ a. f.no_dip a.0 a.1.0), ((λ a. inl (f.rises_on a.0 a.1.0 a.1.1.0)),
-    ((λ a. inl (f.falls_on a.0 a.1.0 a.1.1.0)), tt))))
+shape_holds v e c f = (
+  (λ a. f.no_peak a.0 a.1.0),
+  (
+    (λ a. f.no_dip a.0 a.1.0),
+    (
+      (λ a. inl (f.rises_on a.0 a.1.0 a.1.1.0)),
+      ((λ a. inl (f.falls_on a.0 a.1.0 a.1.1.0)), tt),
+    ),
+  ),
+)
 
 pub same_means : (v : Assignment) (x : IntVars) (c a b n : ℕ) → Reads v x n → n ≡ c → FollowsRules v (same_where x c a b) → v a ≡ v b
 same_means v x c a b n r is h =
@@ -131,7 +152,7 @@ same_holds v x c a b n r same = (
 )
   where
     later : (s t : Bool) → value v (int_at_least x c) ≡ nat_le c n → value v (int_at_least x (c + 1)) ≡ nat_le (c + 1) n → Is (value v (int_at_least x c)) →
-    Is s → (n ≡ c → s ≡ t) → Is (value v (int_at_least x (c + 1))) ⊎ (Is t ⊎ ⊥)
+        Is s → (n ≡ c → s ≡ t) → Is (value v (int_at_least x (c + 1))) ⊎ (Is t ⊎ ⊥)
     later s t e f p q eq = elim (leb_tells (c + 1) n) [
       | inl far ↦ inl (f ∙ far.0)
       | inr near ↦
@@ -152,9 +173,14 @@ pub bend_holds : (v : Assignment) (b r f l : ℕ) → v b ≡ ((v r || v f) && v
 bend_holds v b r f l e = cases (v b) (v r) (v f) (v l) e
   where
     cases : (b r f l : Bool) → b ≡ ((r || f) && l) → ((Is b × ⊤) → Is r ⊎ (Is f ⊎ ⊥)) ×
-    (((Is b × ⊤) → Is l ⊎ ⊥) × (((Is r × (Is l × ⊤)) → Is b ⊎ ⊥) × (((Is f × (Is l × ⊤)) → Is b ⊎ ⊥) × ⊤)))
-    cases b r f l e = ((λ a. grind (arith, e, a.0)), ((λ a. inl (grind (arith, e, a.0))),
-    ((λ a. inl (grind (arith, e, a.0, a.1.0))), ((λ a. inl (grind (arith, e, a.0, a.1.0))), tt))))
+        (((Is b × ⊤) → Is l ⊎ ⊥) × (((Is r × (Is l × ⊤)) → Is b ⊎ ⊥) × (((Is f × (Is l × ⊤)) → Is b ⊎ ⊥) × ⊤)))
+    cases b r f l e = (
+      (λ a. grind (arith, e, a.0)),
+      (
+        (λ a. inl (grind (arith, e, a.0))),
+        ((λ a. inl (grind (arith, e, a.0, a.1.0))), ((λ a. inl (grind (arith, e, a.0, a.1.0))), tt)),
+      ),
+    )
 
 pub inner_means : (v : Assignment) (e : EdgeLits) (c : ℕ) → (Is (v (e.up c)) → Is (v (e.down c)) → ⊥) → (Is (v (e.up (c + 1))) → Is (v (e.down (c + 1))) → ⊥) →
     FollowsRules v (inner_rules e c)
@@ -167,7 +193,7 @@ inner_means v e c one two h = cases (v (e.bend (c + 1))) (v (e.inside c)) (v (e.
     (λ a b g. h.1.1.1.1.1.1.1.1.0 (a, (b, (g, tt))))
   where
     cases : (b i k u p d q : Bool) → (Is u → Is d → ⊥) → (Is p → Is q → ⊥) → (Is b → Is i) → (Is b → Is k) → (Is b → Is u → Is p → ⊥) →
-    (Is b → Is d → Is q → ⊥) → (Is b → Is u ⊎ (Is d ⊎ (Is p ⊎ (Is q ⊎ ⊥))))
+        (Is b → Is d → Is q → ⊥) → (Is b → Is u ⊎ (Is d ⊎ (Is p ⊎ (Is q ⊎ ⊥))))
         → (Is i → Is k → Is u → Is p ⊎ (Is b ⊎ ⊥)) → (Is i → Is k → Is p → Is u ⊎ (Is b ⊎ ⊥)) → (Is i → Is k → Is d → Is q ⊎ (Is b ⊎ ⊥)) →
         (Is i → Is k → Is q → Is d ⊎ (Is b ⊎ ⊥))
         → b ≡ (i && (k && ((u && not p || p && not u) || (d && not q || q && not d))))
@@ -231,10 +257,15 @@ pub level_holds : (v : Assignment) (e : EdgeLits) (level : ℕ) → Is (v level)
 level_holds v e level h = cases (v e.west_up) (v e.west_down) (v e.east_up) (v e.east_down) (v level) h
   where
     cases : (u d p q l : Bool) → Is l ⊎ ((Is u ⊎ Is d) × ((u ≡ p) × (d ≡ q))) →
-    (⊤ → Is u ⊎ (Is d ⊎ (Is l ⊎ ⊥))) × ((⊤ → Is p ⊎ (Is q ⊎ (Is l ⊎ ⊥))) × (((Is u × ⊤) → Is p ⊎ (Is l ⊎ ⊥)) ×
-    (((Is d × ⊤) → Is q ⊎ (Is l ⊎ ⊥)) × (((Is p × ⊤) → Is u ⊎ (Is l ⊎ ⊥)) × (((Is q × ⊤) → Is d ⊎ (Is l ⊎ ⊥)) × ⊤)))))
-    cases u d p q l (inl s) = ((λ a. inr (inr (inl s))), ((λ a. inr (inr (inl s))),
-    ((λ a. inr (inl s)), ((λ a. inr (inl s)), ((λ a. inr (inl s)), ((λ a. inr (inl s)), tt))))))
+        (⊤ → Is u ⊎ (Is d ⊎ (Is l ⊎ ⊥))) × ((⊤ → Is p ⊎ (Is q ⊎ (Is l ⊎ ⊥))) × (((Is u × ⊤) → Is p ⊎ (Is l ⊎ ⊥)) ×
+        (((Is d × ⊤) → Is q ⊎ (Is l ⊎ ⊥)) × (((Is p × ⊤) → Is u ⊎ (Is l ⊎ ⊥)) × (((Is q × ⊤) → Is d ⊎ (Is l ⊎ ⊥)) × ⊤)))))
+    cases u d p q l (inl s) = (
+      (λ a. inr (inr (inl s))),
+      (
+        (λ a. inr (inr (inl s))),
+        ((λ a. inr (inl s)), ((λ a. inr (inl s)), ((λ a. inr (inl s)), ((λ a. inr (inl s)), tt)))),
+      ),
+    )
     cases u d p q l (inr (some, same)) =
         let e = same.0 in
         let f = same.1 in (

@@ -45,7 +45,7 @@ setting_at b first high width c (suc d) x from to le = elim (eqb_tells c (suc d)
 ]
   where
     here : (b : EdgeBits) (first high width c x : ℕ) → nat_le (column first high c) x ≡ true → 0 ≤ c →
-    setting b first high width c x ≡ bits (flags b width c) (b.height c) (x - column first high c)
+        setting b first high width c x ≡ bits (flags b width c) (b.height c) (x - column first high c)
     here b first high width zero x t le = rw t refl
     here b first high width (suc c) x t le = rw t refl
 
@@ -169,9 +169,9 @@ inside_set b first high width v c some le =
     let wide = size_least high c in
     ap (set_edge b first high width v) z ∙ elim (eqb_tells c width) [
       | inl same ↦ subst (λ d. set_edge b first high width v (column first high d + 0) ≡ b.inside d) (sym same.1)
-      (last_set b first high width v 0 some (omega arith) ∙ ap (λ (f : List Bool). bits f (b.height width) 0) (last_flags b width))
+          (last_set b first high width v 0 some (omega arith) ∙ ap (λ (f : List Bool). bits f (b.height width) 0) (last_flags b width))
       | inr other ↦ let ne = other.1 in let lt : c < width = omega arith in place_set b first high width v c 0 some lt (omega arith)
-      ∙ ap (λ (f : List Bool). bits f (b.height c) 0) (inner_flags b width c lt)
+          ∙ ap (λ (f : List Bool). bits f (b.height c) 0) (inner_flags b width c lt)
     ]
 
 bend_set : (b : EdgeBits) (first high width : ℕ) (v : Assignment) (c : ℕ) → 1 ≤ width → c + 1 < width →
@@ -210,12 +210,12 @@ steps_set : (b : EdgeBits) (first high width : ℕ) (v : Assignment) (c k : ℕ)
     set_edge b first high width v (height_first first high width c + k) ≡ nat_lt k (b.height c)
 steps_set b first high width v c k some le small = elim (eqb_tells c width) [
   | inl same ↦ subst (λ d. set_edge b first high width v (height_first first high width d + k) ≡ nat_lt k (b.height d)) (sym same.1)
-  (at_last b first high width v k some small)
+      (at_last b first high width v k some small)
   | inr other ↦ let ne = other.1 in at_inner b first high width v c k some (omega arith) small
 ]
   where
     at_inner : (b : EdgeBits) (first high width : ℕ) (v : Assignment) (c k : ℕ) → 1 ≤ width → c < width → k < high →
-    set_edge b first high width v (height_first first high width c + k) ≡ nat_lt k (b.height c)
+        set_edge b first high width v (height_first first high width c + k) ≡ nat_lt k (b.height c)
     at_inner b first high width v c k some lt small =
         let n = length (flags b width c) in
         let size = few_flags b high width c lt in
@@ -223,7 +223,7 @@ steps_set b first high width v c k some le small = elim (eqb_tells c width) [
         ap (set_edge b first high width v) z ∙ place_set b first high width v c (n + k) some lt (omega arith) ∙ bits_after (flags b width c) (b.height c) k
 
     at_last : (b : EdgeBits) (first high width : ℕ) (v : Assignment) (k : ℕ) → 1 ≤ width → k < high →
-    set_edge b first high width v (height_first first high width width + k) ≡ nat_lt k (b.height width)
+        set_edge b first high width v (height_first first high width width + k) ≡ nat_lt k (b.height width)
     at_last b first high width v k some small =
         let n = length (flags b width width) in
         let one : n ≡ 1 = ap (λ (x : List Bool). length x) (last_flags b width) in
@@ -238,11 +238,11 @@ edge_set b first high width v some =
     record {
       inside = λ c le. inside_set b first high width v c some le;
       up = λ c lt. let wide = size_least high c in place_set b first high width v c 1 some lt (omega arith)
-      ∙ ap (λ (f : List Bool). bits f (b.height c) 1) (inner_flags b width c lt);
+          ∙ ap (λ (f : List Bool). bits f (b.height c) 1) (inner_flags b width c lt);
       down = λ c lt. let wide = size_least high c in place_set b first high width v c 2 some lt (omega arith)
-      ∙ ap (λ (f : List Bool). bits f (b.height c) 2) (inner_flags b width c lt);
+          ∙ ap (λ (f : List Bool). bits f (b.height c) 2) (inner_flags b width c lt);
       seen = λ c lt. let wide = size_least high c in place_set b first high width v c 3 some lt (omega arith)
-      ∙ ap (λ (f : List Bool). bits f (b.height c) 3) (inner_flags b width c lt);
+          ∙ ap (λ (f : List Bool). bits f (b.height c) 3) (inner_flags b width c lt);
       bend = λ c lt. bend_set b first high width v c some lt;
       height = λ c le top. reads_from_steps w ((edge_lits first high width).height c) (b.height c) (omega arith) top (λ k small.
           let z : b.height c ≡ b.height c - 0 = omega arith in

@@ -65,7 +65,7 @@ next q r found here after same judged searched = subst (IsJudged q (r + 1)) (sym
     step : (found here : Option LawBreak) → IsJudged q r found → IsSearched q r here → IsJudged q (r + 1) (option_or found here)
     step (Some b) here judged searched = judged
     step None None below at = record {
-    each = λ i less is. elim (below_or_is (law_rank i) r less) [ inl lower ↦ below.each i lower is | inr same ↦ at.each i same is ]
+      each = λ i less is. elim (below_or_is (law_rank i) r less) [ inl lower ↦ below.each i lower is | inr same ↦ at.each i same is ];
     }
     step None (Some b) below least = record {
       instance = least.instance;
@@ -91,12 +91,12 @@ pub record IsOfOne (r : ℕ) (make : ℕ → Instance) : Type 0 where
 module _ {X : Type 0} (q : Asked) (r : ℕ) (make : ℕ → Instance) (one : IsOfOne r make) (number : X → ℕ) (name : X → LawBreak)
     (named : (x : X) → name x ≡ break_of (make (number x))) where
   pub searched_one : (found : Option X) (told : Option LawBreak) → told ≡ option_map name found →
-  MatchOption found (HoldsForAll (λ n. Speaks q (make n)) (λ n. Holds q (make n))) (λ x. FailsFirst (λ n. Speaks q (make n)) (λ n. Holds q (make n)) (number x))
-  → IsSearched q r told
+      MatchOption found (HoldsForAll (λ n. Speaks q (make n)) (λ n. Holds q (make n)))
+      (λ x. FailsFirst (λ n. Speaks q (make n)) (λ n. Holds q (make n)) (number x)) → IsSearched q r told
   searched_one found told same h = subst (IsSearched q r) (sym same) (of found h)
     where
       of : (found : Option X) → MatchOption found (HoldsForAll (λ n. Speaks q (make n)) (λ n. Holds q (make n)))
-      (λ x. FailsFirst (λ n. Speaks q (make n)) (λ n. Holds q (make n)) (number x)) → IsSearched q r (option_map name found)
+          (λ x. FailsFirst (λ n. Speaks q (make n)) (λ n. Holds q (make n)) (number x)) → IsSearched q r (option_map name found)
       of None all = record {
         each = λ i same is. let here = one.only i same in subst (Holds q) here ((all.each (first_of i)).met (subst (Speaks q) (sym here) is));
       }
@@ -109,7 +109,7 @@ module _ {X : Type 0} (q : Asked) (r : ℕ) (make : ℕ → Instance) (one : IsO
             let here = one.only j same in
             elim earlier [
               | inl less ↦ subst (Holds q) here ((first.before.each (first_of j) (subst (λ (n : ℕ). first_of j < n) (one.first (number x)) less)).met
-              (subst (Speaks q) (sym here) is))
+                  (subst (Speaks q) (sym here) is))
               | inr tie ↦ (let less = tie.1 in let none = one.second (number x) in absurd (omega (arith, less, none)))
             ];
         named = named x;
@@ -126,12 +126,12 @@ pub record IsOfTwo (r : ℕ) (make : ℕ → ℕ → Instance) : Type 0 where
 module _ {X : Type 0} (q : Asked) (r : ℕ) (make : ℕ → ℕ → Instance) (two : IsOfTwo r make) (first_no second_no : X → ℕ) (name : X → LawBreak)
     (named : (x : X) → name x ≡ break_of (make (first_no x) (second_no x))) where
   pub searched_two : (found : Option X) (told : Option LawBreak) → told ≡ option_map name found →
-  MatchOption found (HoldsForPairs (λ a b. Speaks q (make a b)) (λ a b. Holds q (make a b)))
-  (λ x. FailsFirstPair (λ a b. Speaks q (make a b)) (λ a b. Holds q (make a b)) (first_no x) (second_no x)) → IsSearched q r told
+      MatchOption found (HoldsForPairs (λ a b. Speaks q (make a b)) (λ a b. Holds q (make a b)))
+      (λ x. FailsFirstPair (λ a b. Speaks q (make a b)) (λ a b. Holds q (make a b)) (first_no x) (second_no x)) → IsSearched q r told
   searched_two found told same h = subst (IsSearched q r) (sym same) (of found h)
     where
       of : (found : Option X) → MatchOption found (HoldsForPairs (λ a b. Speaks q (make a b)) (λ a b. Holds q (make a b)))
-      (λ x. FailsFirstPair (λ a b. Speaks q (make a b)) (λ a b. Holds q (make a b)) (first_no x) (second_no x)) → IsSearched q r (option_map name found)
+          (λ x. FailsFirstPair (λ a b. Speaks q (make a b)) (λ a b. Holds q (make a b)) (first_no x) (second_no x)) → IsSearched q r (option_map name found)
       of None all = record {
         each = λ i same is. let here = two.only i same in subst (Holds q) here ((all.each (first_of i) (second_of i)).met (subst (Speaks q) (sym here) is));
       }
@@ -212,14 +212,14 @@ of_parted = record { only = only; ranked = λ a b. refl; first = λ a b. refl; s
 
 pub searched_node : (q : Asked) (r law : ℕ) (make : ℕ → Instance) → IsOfOne r make → ((n : ℕ) → law_break law (node_party n) None ≡ break_of (make n)) →
     (found : Option NodeNo) (told : Option LawBreak) → told ≡ option_map (λ (n : NodeNo). law_break law (node_party n.0) None) found →
-    MatchOption found (HoldsForAll (λ n. Speaks q (make n)) (λ n. Holds q (make n))) (λ n. FailsFirst (λ m. Speaks q (make m)) (λ m. Holds q (make m)) n.0) →
-    IsSearched q r told
+    MatchOption found (HoldsForAll (λ n. Speaks q (make n)) (λ n. Holds q (make n))) (λ n. FailsFirst (λ m. Speaks q (make m)) (λ m. Holds q (make m)) n.0)
+    → IsSearched q r told
 searched_node q r law make one named = searched_one q r make one (λ n. n.0) (λ (n : NodeNo). law_break law (node_party n.0) None) (λ n. named n.0)
 
 pub searched_edge : (q : Asked) (r law : ℕ) (make : ℕ → Instance) → IsOfOne r make → ((n : ℕ) → law_break law (edge_party n) None ≡ break_of (make n)) →
     (found : Option EdgeNo) (told : Option LawBreak) → told ≡ option_map (λ (e : EdgeNo). law_break law (edge_party e.0) None) found →
-    MatchOption found (HoldsForAll (λ n. Speaks q (make n)) (λ n. Holds q (make n))) (λ e. FailsFirst (λ m. Speaks q (make m)) (λ m. Holds q (make m)) e.0) →
-    IsSearched q r told
+    MatchOption found (HoldsForAll (λ n. Speaks q (make n)) (λ n. Holds q (make n))) (λ e. FailsFirst (λ m. Speaks q (make m)) (λ m. Holds q (make m)) e.0)
+    → IsSearched q r told
 searched_edge q r law make one named = searched_one q r make one (λ e. e.0) (λ (e : EdgeNo). law_break law (edge_party e.0) None) (λ e. named e.0)
 
 pub searched_nodes : (q : Asked) (r law : ℕ) (make : ℕ → ℕ → Instance) → IsOfTwo r make →

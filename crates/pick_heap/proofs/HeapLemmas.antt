@@ -36,8 +36,8 @@ module _ (vars leaves : ℕ) (held : List Bool) (acts tree given_acts given_tree
       (won_raised vars leaves held acts tree k v n mid (omega arith) won_old (gone_from vars leaves held acts tree k v mid from to won_old empty others_old)))
 
   pub heap_raised_at : (n word : ℕ) (more given new got : List ℕ) → n ≤ HALVED_AT → more ≡ set acts v n → given ≡ mid → got ≡ new → length new ≡ length given →
-  HaveActivities more new → IsWon more new leaves → entry_at new (leaves + v - 1) ≡ word → word ≡ leaf_word held v →
-  KeepsOthers leaves given new (leaves + v - 1) →
+      HaveActivities more new → IsWon more new leaves → entry_at new (leaves + v - 1) ≡ word → word ≡ leaf_word held v →
+      KeepsOthers leaves given new (leaves + v - 1) →
       IsHeap vars leaves held (set acts v n) got
   heap_raised_at n word more given new got most em eg en size2 named2 won2 leaf is others2 =
       subst (λ (g : List ℕ). IsHeap vars leaves held (set acts v n) g) (sym en)
@@ -49,7 +49,7 @@ halves_within : (acts : List ℕ) → AreActivities acts → AreActivities (map 
 halves_within acts within = λ j. elim (cases_lt j (length acts)) [
   | inl lt ↦ let e : entry_at (map (λ a. a / 2) acts) j ≡ entry_at acts j / 2 = get_or-map (λ a. a / 2) acts j 0 0 lt in let old = within j in omega arith
   | inr ge ↦ let e : entry_at (map (λ a. a / 2) acts) j ≡ 0 = get_or_past (map (λ a. a / 2) acts) j 0 (omega (arith, length-map acts (λ a. a / 2), ge)) in omega
-  arith
+      arith
 ]
 
 pub heap_halved_at : (vars leaves : ℕ) (held : List Bool) (acts tree less given_less given_tree new got_less got : List ℕ) → IsHeap vars leaves held acts tree →

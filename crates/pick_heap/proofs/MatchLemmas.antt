@@ -41,7 +41,7 @@ module _ (acts tree : List ℕ) (leaves p w : ℕ) (within : p < length tree) wh
 
   -- by its own match: only the match above may be wrong
   pub won_up : 1 ≤ p → IsWinner acts (entry_at tree (2 * p)) (entry_at tree (2 * p + 1)) w → IsWonBut acts tree leaves p →
-  IsWonBut acts (set tree p w) leaves (p / 2)
+      IsWonBut acts (set tree p w) leaves (p / 2)
   won_up from here but = record {
     won = λ k from2 to ne. elim (cases_eq k p) [
       | inl e ↦ subst (λ n. IsWonAt acts (set tree p w) n) (sym e) (won_here from here)
@@ -55,7 +55,7 @@ module _ (acts tree : List ℕ) (leaves p w : ℕ) (within : p < length tree) wh
 
   -- from the last to the first
   pub won_down : 1 ≤ p → IsWinner acts (entry_at tree (2 * p)) (entry_at tree (2 * p + 1)) w → ((k : ℕ) → p < k → k < leaves → IsWonAt acts tree k) → (k : ℕ) →
-  p ≤ k → k < leaves → IsWonAt acts (set tree p w) k
+      p ≤ k → k < leaves → IsWonAt acts (set tree p w) k
   won_down from here above k from2 to = elim (cases_eq k p) [
     | inl e ↦ subst (λ n. IsWonAt acts (set tree p w) n) (sym e) (won_here from here)
     | inr other ↦ won_other k other (omega arith) (omega arith) (above k (omega arith) to)
@@ -82,9 +82,9 @@ module _ (acts tree : List ℕ) (leaves : ℕ) (all : IsWon acts tree leaves) wh
         let won = all.won (k / 2) (omega arith) (omega arith) in
         elim (cases_lt (2 * (k / 2)) k) [
           | inl odd ↦ let e : rank_of acts (entry_at tree k) ≡ rank_of acts (entry_at tree (2 * (k / 2) + 1)) = ap (λ n. rank_of acts (entry_at tree n))
-          (omega arith) in let x = won.second in omega arith
+              (omega arith) in let x = won.second in omega arith
           | inr even ↦ let e : rank_of acts (entry_at tree k) ≡ rank_of acts (entry_at tree (2 * (k / 2))) = ap (λ n. rank_of acts (entry_at tree n))
-          (omega arith) in let x = won.first in omega arith
+              (omega arith) in let x = won.first in omega arith
         ]
   ]
 
@@ -183,7 +183,7 @@ module _ (vars leaves : ℕ) (held : List Bool) (acts tree : List ℕ) (k : IsHe
 
   -- the leaf of one variable has changed
   pub heap_set : (v : ℕ) (b : Bool) (new : List ℕ) → 1 ≤ v → v ≤ vars → length new ≡ length tree → HaveActivities acts new → IsWon acts new leaves →
-  entry_at new (leaves + v - 1) ≡ leaf_word (set held v b) v → KeepsOthers leaves tree new (leaves + v - 1) →
+      entry_at new (leaves + v - 1) ≡ leaf_word (set held v b) v → KeepsOthers leaves tree new (leaves + v - 1) →
       IsHeap vars leaves (set held v b) acts new
   heap_set v b new from to size named won leaf others = record {
     limit = k.limit;
@@ -205,7 +205,7 @@ module _ (vars leaves : ℕ) (held : List Bool) (acts tree : List ℕ) (k : IsHe
 
   -- the activity of a variable that no node has
   pub won_raised : (v n : ℕ) (mid : List ℕ) → v ≢ 0 → IsWon acts mid leaves → ((j : ℕ) → 1 ≤ j → j < 2 * leaves → entry_at mid j ≢ v) →
-  IsWon (set acts v n) mid leaves
+      IsWon (set acts v n) mid leaves
   won_raised v n mid some won gone = record {
     won = λ j from to.
         let x = won.won j from to in
@@ -225,7 +225,7 @@ module _ (vars leaves : ℕ) (held : List Bool) (acts tree : List ℕ) (k : IsHe
 
   -- which it is once its leaf is empty
   pub gone_from : (v : ℕ) (mid : List ℕ) → 1 ≤ v → v ≤ vars → IsWon acts mid leaves → entry_at mid (leaves + v - 1) ≡ 0 →
-  KeepsOthers leaves tree mid (leaves + v - 1) → (j : ℕ) → 1 ≤ j → j < 2 * leaves → entry_at mid j ≢ v
+      KeepsOthers leaves tree mid (leaves + v - 1) → (j : ℕ) → 1 ≤ j → j < 2 * leaves → entry_at mid j ≢ v
   gone_from v mid from to won empty others = λ j one below is.
       let x = from_leaf acts mid leaves won j one below in
       let lt = x.1 in
@@ -240,7 +240,7 @@ module _ (vars leaves : ℕ) (held : List Bool) (acts tree : List ℕ) (k : IsHe
       ]
 
   pub heap_raised : (v n : ℕ) (mid new : List ℕ) → 1 ≤ v → v ≤ vars → n ≤ HALVED_AT → length mid ≡ length tree → length new ≡ length mid →
-  KeepsOthers leaves tree mid (leaves + v - 1) →
+      KeepsOthers leaves tree mid (leaves + v - 1) →
       HaveActivities (set acts v n) new → IsWon (set acts v n) new leaves → entry_at new (leaves + v - 1) ≡ leaf_word held v →
       KeepsOthers leaves mid new (leaves + v - 1) → IsHeap vars leaves held (set acts v n) new
   heap_raised v n mid new from to most size size2 others named won leaf others2 = record {
@@ -252,7 +252,7 @@ module _ (vars leaves : ℕ) (held : List Bool) (acts tree : List ℕ) (k : IsHe
     activities_size = length-set acts v n ∙ k.activities_size;
     within = λ j. elim (cases_eq j v) [
       | inl e ↦ let same : entry_at (set acts v n) j ≡ n = ap (entry_at (set acts v n)) e
-      ∙ get_or-set_same acts v n 0 (let large = k.activities_size in omega arith) in omega arith
+          ∙ get_or-set_same acts v n 0 (let large = k.activities_size in omega arith) in omega arith
       | inr ne ↦ let same : entry_at (set acts v n) j ≡ entry_at acts j = get_or-set_other acts v j n 0 ne in let old = k.within j in omega arith
     ];
     none = k.none;
@@ -267,7 +267,7 @@ module _ (vars leaves : ℕ) (held : List Bool) (acts tree : List ℕ) (k : IsHe
 
   -- all activities are halved, and all matches played
   pub heap_halved : (less : List ℕ) (new : List ℕ) → length less ≡ length acts → AreActivities less → length new ≡ length tree → HaveActivities less new →
-  IsWon less new leaves → KeepsLeaves leaves tree new → IsHeap vars leaves held less new
+      IsWon less new leaves → KeepsLeaves leaves tree new → IsHeap vars leaves held less new
   heap_halved less new same within size named won kept = record {
     limit = k.limit;
     some = k.some;
@@ -284,12 +284,18 @@ module _ (vars leaves : ℕ) (held : List Bool) (acts tree : List ℕ) (k : IsHe
   }
 
 pub winner_named : (acts tree : List ℕ) (a b w : ℕ) → HaveActivities acts tree → IsWinner acts (entry_at tree a) (entry_at tree b) w → w < length acts
-winner_named acts tree a b w named x = elim x.one [ inl e ↦ subst (λ n. n < length acts) (sym e) (named a) | inr e ↦ subst (λ n. n < length acts) (sym e)
-    (named b) ]
+winner_named acts tree a b w named x = elim x.one [
+  | inl e ↦ subst (λ n. n < length acts) (sym e) (named a)
+  | inr e ↦ subst (λ n. n < length acts) (sym e)
+      (named b)
+]
 
 pub zero_named : (acts tree : List ℕ) → 1 ≤ length acts → ((k : ℕ) → k < length tree → entry_at tree k ≡ 0) → HaveActivities acts tree
-zero_named acts tree some zeros = λ k. elim (cases_lt k (length tree)) [ inl lt ↦ let z = zeros k lt in omega arith | inr ge ↦ let z = get_or_past tree k 0
-    ge in omega arith ]
+zero_named acts tree some zeros = λ k. elim (cases_lt k (length tree)) [
+  | inl lt ↦ let z = zeros k lt in omega arith
+  | inr ge ↦ let z = get_or_past tree k 0
+      ge in omega arith
+]
 
 pub zero_all : (tree : List ℕ) (k : ℕ) → ((k : ℕ) → k < length tree → entry_at tree k ≡ 0) → entry_at tree k ≡ 0
 zero_all tree k zeros = elim (cases_lt k (length tree)) [ inl lt ↦ zeros k lt | inr ge ↦ get_or_past tree k 0 ge ]

@@ -132,7 +132,7 @@ none_behind up z x (w ∷ ws) steps not_yet =
     (nothing (count_by (is_passed up z) (w ∷ ws)) (count_by (is_passed up z) ws) (count_cons up z w ws false here) rest.0, behind here rest.1)
   where
     behind : is_passed up z w ≡ false → ((i : ℕ) (y : Inner) → slice_get ws i ≡ Some y → is_passed up z y ≡ false) → (i : ℕ) (y : Inner) →
-    slice_get (w ∷ ws) i ≡ Some y → is_passed up z y ≡ false
+        slice_get (w ∷ ws) i ≡ Some y → is_passed up z y ≡ false
     behind here rest zero y e = subst (λ (v : Inner). is_passed up z v ≡ false) (same_Some w y e) here
     behind here rest (suc i) y e = rest i y e
 
@@ -222,15 +222,19 @@ module _ (t : Topology) (g : Graph) (k : ℕ) (track : Track) (on : slice_get t.
       w.1 ∙ sym (ap Some (get_or_from_slice_get (spots_along t track) i w.0 (leads_to t track.begin) w.1))
 
   run : (i : ℕ) → i ≤ length track.inner → IsRun t (number i) (record {
-  track = track.id; from = get_or (spots_along t track) i (leads_to t track.begin); to = get_or (spots_along t track) (suc i) (leads_to t track.begin)
+    track = track.id;
+    from = get_or (spots_along t track) i (leads_to t track.begin);
+    to = get_or (spots_along t track) (suc i) (leads_to t track.begin);
   })
   run i low = inl (piece_at t k i track (get_or (spots_along t track) i (leads_to t track.begin))
-  (get_or (spots_along t track) (suc i) (leads_to t track.begin)) on (there i (omega (arith, low))) (there (suc i) (omega (arith, low))))
+      (get_or (spots_along t track) (suc i) (leads_to t track.begin)) on (there i (omega (arith, low))) (there (suc i) (omega (arith, low))))
 
   from_mile : (i : ℕ) → i ≤ length track.inner → mileage g (node_number t (place i)) ≡ mile i
   from_mile i low =
       let w = run_site_from t resolved (number i) (record {
-      track = track.id; from = get_or (spots_along t track) i (leads_to t track.begin); to = get_or (spots_along t track) (suc i) (leads_to t track.begin)
+        track = track.id;
+        from = get_or (spots_along t track) i (leads_to t track.begin);
+        to = get_or (spots_along t track) (suc i) (leads_to t track.begin);
       }) (run i low) in
       let at = w.at in
       let is = (graph.graph.each w.site (contains_in (sites t) w.site w.there)).mileage in
@@ -239,7 +243,9 @@ module _ (t : Topology) (g : Graph) (k : ℕ) (track : Track) (on : slice_get t.
   to_mile : (i : ℕ) → i ≤ length track.inner → mileage g (node_number t (place (suc i))) ≡ mile (suc i)
   to_mile i low =
       let w = run_site_to t resolved (number i) (record {
-      track = track.id; from = get_or (spots_along t track) i (leads_to t track.begin); to = get_or (spots_along t track) (suc i) (leads_to t track.begin)
+        track = track.id;
+        from = get_or (spots_along t track) i (leads_to t track.begin);
+        to = get_or (spots_along t track) (suc i) (leads_to t track.begin);
       }) (run i low) in
       let at = w.at in
       let is = (graph.graph.each w.site (contains_in (sites t) w.site w.there)).mileage in
@@ -253,13 +259,15 @@ module _ (t : Topology) (g : Graph) (k : ℕ) (track : Track) (on : slice_get t.
 
   forward : (i : ℕ) → i ≤ length track.inner → mileage g (edge g (number i)).west <ℤ mileage g (edge g (number i)).east
   forward i low = graph.station.track_graph.forward (number i) (edge_within t g.edges (number i) (record {
-  track = track.id; from = get_or (spots_along t track) i (leads_to t track.begin); to = get_or (spots_along t track) (suc i) (leads_to t track.begin)
+    track = track.id;
+    from = get_or (spots_along t track) i (leads_to t track.begin);
+    to = get_or (spots_along t track) (suc i) (leads_to t track.begin);
   }) graph.graph.edges (run i low))
 
   lower : (i m n : ℕ) → i ≤ length track.inner → (edge g (number i)).west ≡ node_number t m → (edge g (number i)).east ≡ node_number t n →
-  mileage g (node_number t m) <ℤ mileage g (node_number t n)
+      mileage g (node_number t m) <ℤ mileage g (node_number t n)
   lower i m n low west east = subst (λ (a : ℕ). mileage g a <ℤ mileage g (node_number t n)) west
-  (subst (λ (b : ℕ). mileage g (edge g (number i)).west <ℤ mileage g b) east (forward i low))
+      (subst (λ (b : ℕ). mileage g (edge g (number i)).west <ℤ mileage g b) east (forward i low))
 
   next_miles : (a b c d : ℤ) → a <ℤ b → a ≡ c → b ≡ d → c <ℤ d
   next_miles a b c d less e f = subst (λ z. z <ℤ d) e (subst (λ z. a <ℤ z) f less)
@@ -267,29 +275,41 @@ module _ (t : Topology) (g : Graph) (k : ℕ) (track : Track) (on : slice_get t.
   goes : (i : ℕ) → i ≤ length track.inner → (up : Bool) × Goes i up
   goes i low =
       let is = edge_is t g.edges (number i) (record {
-      track = track.id; from = get_or (spots_along t track) i (leads_to t track.begin); to = get_or (spots_along t track) (suc i) (leads_to t track.begin)
+        track = track.id;
+        from = get_or (spots_along t track) i (leads_to t track.begin);
+        to = get_or (spots_along t track) (suc i) (leads_to t track.begin);
       }) graph.graph.edges (run i low) in
       let west = ap (λ (x : Edge). x.west) is in
       let east = ap (λ (x : Edge). x.east) is in
       elim (west_cases (record {
-      track = track.id; from = get_or (spots_along t track) i (leads_to t track.begin); to = get_or (spots_along t track) (suc i) (leads_to t track.begin)
+        track = track.id;
+        from = get_or (spots_along t track) i (leads_to t track.begin);
+        to = get_or (spots_along t track) (suc i) (leads_to t track.begin);
       })) [
         | inl c ↦
             (let a = c.0 in let b = c.1 in
             let from : (edge g (number i)).west ≡ node_number t (place i) = cc in
-            let to : (edge g (number i)).east ≡ node_number t (place (suc i)) = cc in
-            (true, record {
-            next = next_miles (mileage g (node_number t (place i))) (mileage g (node_number t (place (suc i)))) (mile i) (mile (suc i))
-            (lower i (place i) (place (suc i)) low from to) (from_mile i low) (to_mile i low); west = from; east = to
-            }))
+            let to : (edge g (number i)).east ≡ node_number t (place (suc i)) = cc in (
+              true,
+              record {
+                next = next_miles (mileage g (node_number t (place i))) (mileage g (node_number t (place (suc i)))) (mile i) (mile (suc i))
+                    (lower i (place i) (place (suc i)) low from to) (from_mile i low) (to_mile i low);
+                west = from;
+                east = to;
+              },
+            ))
         | inr c ↦
             (let a = c.0 in let b = c.1 in
             let from : (edge g (number i)).west ≡ node_number t (place (suc i)) = cc in
-            let to : (edge g (number i)).east ≡ node_number t (place i) = cc in
-            (false, record {
-            next = next_miles (mileage g (node_number t (place (suc i)))) (mileage g (node_number t (place i))) (mile (suc i)) (mile i)
-            (lower i (place (suc i)) (place i) low from to) (to_mile i low) (from_mile i low); west = from; east = to
-            }))
+            let to : (edge g (number i)).east ≡ node_number t (place i) = cc in (
+              false,
+              record {
+                next = next_miles (mileage g (node_number t (place (suc i)))) (mileage g (node_number t (place i))) (mile (suc i)) (mile i)
+                    (lower i (place (suc i)) (place i) low from to) (to_mile i low) (from_mile i low);
+                west = from;
+                east = to;
+              },
+            ))
       ]
 
   numbers_differ : (i : ℕ) (up : Bool) → i ≤ length track.inner → Next up (mile i) (mile (suc i)) → node_number t (place i) ≡ node_number t (place (suc i)) → ⊥
@@ -302,11 +322,11 @@ module _ (t : Topology) (g : Graph) (k : ℕ) (track : Track) (on : slice_get t.
   from_side : (i : ℕ) (up : Bool) → i ≤ length track.inner → Goes i up → side_at g.edges (node_number t (place i)) (number i) ≡ cond up East West
   from_side i true low h = ap (λ (b : Bool). cond b East West) (same_numbers (edge g (number i)).west (node_number t (place i)) h.west)
   from_side i false low h = ap (λ (b : Bool). cond b East West) (other_numbers (edge g (number i)).west (node_number t (place i))
-  (λ s. numbers_differ i false low h.next (sym s ∙ h.west)))
+      (λ s. numbers_differ i false low h.next (sym s ∙ h.west)))
 
   to_side : (i : ℕ) (up : Bool) → i ≤ length track.inner → Goes i up → side_at g.edges (node_number t (place (suc i))) (number i) ≡ cond up West East
   to_side i true low h = ap (λ (b : Bool). cond b East West) (other_numbers (edge g (number i)).west (node_number t (place (suc i)))
-  (λ s. numbers_differ i true low h.next (sym h.west ∙ s)))
+      (λ s. numbers_differ i true low h.next (sym h.west ∙ s)))
   to_side i false low h = ap (λ (b : Bool). cond b East West) (same_numbers (edge g (number i)).west (node_number t (place (suc i))) h.west)
 
   inner_is : (i : ℕ) (x : Inner) → slice_get track.inner i ≡ Some x → get_or (spots_along t track) (suc i) (leads_to t track.begin) ≡ inner_spot x
@@ -320,7 +340,7 @@ module _ (t : Topology) (g : Graph) (k : ℕ) (track : Track) (on : slice_get t.
 
   end_mile : mile (suc (length track.inner)) ≡ (leads_to t track.end).mile.0
   end_mile = let e = get_or_from_slice_get (spots_along t track) (suc (length track.inner)) (leads_to t track.end) (leads_to t track.begin)
-  (spot_of_end t track) in cc
+      (spot_of_end t track) in cc
 
   -- past a switch or crossing the track goes on the same way
   goes_on : (up : Bool) (i : ℕ) (x : Inner) → slice_get track.inner i ≡ Some x → Goes i up → Goes (suc i) up
@@ -353,7 +373,7 @@ module _ (t : Topology) (g : Graph) (k : ℕ) (track : Track) (on : slice_get t.
   module _ (up : Bool) (way : (i : ℕ) → i ≤ length track.inner → Goes i up) where
     steps : Steps up track.inner
     steps i x y is is' = by up (way (suc i) (let lt = slice_get_within track.inner (suc i) y is' in omega (arith, lt))).next (inner_mile i x is)
-    (inner_mile (suc i) y is')
+        (inner_mile (suc i) y is')
       where
         by : (up : Bool) → Next up (mile (suc i)) (mile (suc (suc i))) → mile (suc i) ≡ x.mile.0 → mile (suc (suc i)) ≡ y.mile.0 → Next up x.mile.0 y.mile.0
         by true n e f = next_miles (mile (suc i)) (mile (suc (suc i))) x.mile.0 y.mile.0 n e f
@@ -374,7 +394,7 @@ module _ (t : Topology) (g : Graph) (k : ℕ) (track : Track) (on : slice_get t.
     -- so many switches and crossings are passed, whichever way the track goes
     passed_by : (z : ℤ) (xs : List Inner) → track.inner ≡ xs → piece_passed t g k track z ≡ count_by (is_passed up z) track.inner
     passed_by z [] e = ap (λ (ys : List Inner). count_by (is_passed (goes_east t g k track) z) ys) e
-    ∙ sym (ap (λ (ys : List Inner). count_by (is_passed up z) ys) e)
+        ∙ sym (ap (λ (ys : List Inner). count_by (is_passed up z) ys) e)
     passed_by z (x ∷ xs) e =
         let is : slice_get track.inner 0 ≡ Some x = ap (λ (ys : List Inner). slice_get ys 0) e in
         ap (λ (b : Bool). count_by (is_passed b z) track.inner) (ap (λ (o : Option Inner). option_map_or
@@ -384,7 +404,7 @@ module _ (t : Topology) (g : Graph) (k : ℕ) (track : Track) (on : slice_get t.
     module _ (z : ℤ) (along : IsAlong t track z) where
       ends : AtMost up (mile 0) z × AtMost up z (mile (suc (length track.inner)))
       ends = within up (mile 0) (mile (suc (length track.inner))) z (far (length track.inner) (omega arith))
-      (subst (λ (y : ℤ). LiesBetween (mile 0) y z) (sym end_mile) along)
+          (subst (λ (y : ℤ). LiesBetween (mile 0) y z) (sym end_mile) along)
 
       after_spot : (i : ℕ) → i ≡ count_by (is_passed up z) track.inner → AtMost up (mile i) z
       after_spot zero e = ends.0
@@ -400,7 +420,7 @@ module _ (t : Topology) (g : Graph) (k : ℕ) (track : Track) (on : slice_get t.
           subst (λ (y : ℤ). AtMost up z y) (sym (inner_mile i x.0 x.1)) ((splits up z track.inner steps i x.0 x.1).behind (omega (arith, e)))
 
       on_run : (up : Bool) (i : ℕ) → i ≤ length track.inner → Goes i up → AtMost up (mile i) z → AtMost up z (mile (suc i)) →
-      (mileage g (edge g (number i)).west ≤ℤ z) × (z ≤ℤ mileage g (edge g (number i)).east)
+          (mileage g (edge g (number i)).west ≤ℤ z) × (z ≤ℤ mileage g (edge g (number i)).east)
       on_run true i low h a b = (
         subst (λ y. y ≤ℤ z) (sym (ap (mileage g) h.west ∙ from_mile i low)) a,
         subst (λ y. z ≤ℤ y) (sym (ap (mileage g) h.east ∙ to_mile i low)) b,
@@ -417,7 +437,7 @@ module _ (t : Topology) (g : Graph) (k : ℕ) (track : Track) (on : slice_get t.
           on_run up i low (way i low) (after_spot i e) (before_spot i e (last_or_before i (length track.inner) low))
 
   on_edge : (z : ℤ) → IsAlong t track z → (mileage g (edge g (number (piece_passed t g k track z))).west ≤ℤ z) ×
-  (z ≤ℤ mileage g (edge g (number (piece_passed t g k track z))).east)
+      (z ≤ℤ mileage g (edge g (number (piece_passed t g k track z))).east)
   on_edge z along =
       let first = goes 0 (omega arith) in
       let way = all_go first.0 first.1 in

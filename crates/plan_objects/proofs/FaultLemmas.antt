@@ -62,17 +62,17 @@ module _ (s : Station) (signals : List SignalElem) where
 
   -- one more kind that no signal has
   pub none_of_more : (what : SignalWhat) → HasNoneBelow s signals (number_of what) → NoneBefore (HasKind s signals what) signals (length signals) →
-  HasNoneBelow s signals (number_of what + 1)
+      HasNoneBelow s signals (number_of what + 1)
   none_of_more what none here = record { none = λ other below. by other below (cases_eq (number_of other) (number_of what)) }
     where
       by : (other : SignalWhat) → number_of other < number_of what + 1 → (number_of other ≡ number_of what) ⊎ (number_of other ≡ number_of what → ⊥) →
-      NoneBefore (HasKind s signals other) signals (length signals)
+          NoneBefore (HasKind s signals other) signals (length signals)
       by other below (inl same) = subst (λ (k : SignalWhat). NoneBefore (HasKind s signals k) signals (length signals)) (sym (one_kind other what same)) here
       by other below (inr differ) = none.none other (omega (arith, differ))
 
   pub none_at_all : HasNoneBelow s signals 8 → HasNoSignalFault s signals
   none_at_all none what at first fault = (none.none what (numbers_to_seven what)).none fault.number fault.signal
-  (slice_get_within signals fault.number fault.signal fault.is) fault.is (first, fault.fault)
+      (slice_get_within signals fault.number fault.signal fault.is) fault.is (first, fault.fault)
 
   -- ---- what is looked for is a kind of fault
 
@@ -83,7 +83,10 @@ module _ (s : Station) (signals : List SignalElem) where
   too_many many =
       let there = get_within signals MAX_SIGNALS many in
       record {
-      x = there.0; is = there.1; holds = ([], (refl, refl)); before = record { none = λ i x below at had. (let is = had.1.0 in omega (arith, is, below)) }
+        x = there.0;
+        is = there.1;
+        holds = ([], (refl, refl));
+        before = record { none = λ i x below at had. (let is = had.1.0 in omega (arith, is, below)) };
       }
 
   some_told : (o : Option (List ℕ)) → IsSome o → (first : List ℕ) × (o ≡ Some first)
@@ -99,7 +102,7 @@ module _ (s : Station) (signals : List SignalElem) where
 
   pub missing_first : (i : ℕ) → IsFirst Lacks signals i → IsFirst (HasKind s signals Missing) signals i
   missing_first i f = first_restated {P = Lacks} {Q = HasKind s signals Missing} (λ i x at h. some_told (first_lacking x) h)
-  (λ i x at h. told_some (first_lacking x) h.0 h.1) f
+      (λ i x at h. told_some (first_lacking x) h.0 h.1) f
 
   pub missing_none : NoneBefore Lacks signals (length signals) → NoneBefore (HasKind s signals Missing) signals (length signals)
   missing_none n = none_restated {P = Lacks} {Q = HasKind s signals Missing} (λ i x at h. told_some (first_lacking x) h.0 h.1) n
@@ -118,10 +121,10 @@ module _ (s : Station) (signals : List SignalElem) where
 
   pub outside_first : (i : ℕ) → IsFirst (λ _ x. LiesOutside s.rows s.topology x) signals i → IsFirst (HasKind s signals OutsideTrack) signals i
   outside_first i f = first_restated {P = λ _ x. LiesOutside s.rows s.topology x} {Q = HasKind s signals OutsideTrack} (λ i x at h. (id_of x, (h, refl)))
-  (λ i x at h. h.1.0) f
+      (λ i x at h. h.1.0) f
 
   pub outside_none : NoneBefore (λ _ x. LiesOutside s.rows s.topology x) signals (length signals) →
-  NoneBefore (HasKind s signals OutsideTrack) signals (length signals)
+      NoneBefore (HasKind s signals OutsideTrack) signals (length signals)
   outside_none n = none_restated {P = λ _ x. LiesOutside s.rows s.topology x} {Q = HasKind s signals OutsideTrack} (λ i x at h. h.1.0) n
 
   -- ---- none of the kinds up to here
@@ -133,16 +136,16 @@ module _ (s : Station) (signals : List SignalElem) where
   none_below_3 few a = none_of_more Missing (none_below_2 few) (missing_none a)
 
   pub none_below_4 : length signals ≤ MAX_SIGNALS → NoneBefore Lacks signals (length signals) → NoneBefore (λ _ x. HasBadId x) signals (length signals) →
-  HasNoneBelow s signals 4
+      HasNoneBelow s signals 4
   none_below_4 few a b = none_of_more Id (none_below_3 few a) (id_none b)
 
   pub none_below_5 : length signals ≤ MAX_SIGNALS → NoneBefore Lacks signals (length signals) → NoneBefore (λ _ x. HasBadId x) signals (length signals) →
-  NoneBefore (λ i _. (id : List ℕ) × RepeatsId signals i id) signals (length signals) → HasNoneBelow s signals 5
+      NoneBefore (λ i _. (id : List ℕ) × RepeatsId signals i id) signals (length signals) → HasNoneBelow s signals 5
   none_below_5 few a b c = none_of_more RepeatedId (none_below_4 few a b) c
 
   pub none_below_6 : length signals ≤ MAX_SIGNALS → NoneBefore Lacks signals (length signals) → NoneBefore (λ _ x. HasBadId x) signals (length signals) →
-  NoneBefore (λ i _. (id : List ℕ) × RepeatsId signals i id) signals (length signals) → NoneBefore (λ _ x. HasNoNumber x) signals (length signals) →
-  HasNoneBelow s signals 6
+      NoneBefore (λ i _. (id : List ℕ) × RepeatsId signals i id) signals (length signals) → NoneBefore (λ _ x. HasNoNumber x) signals (length signals) →
+      HasNoneBelow s signals 6
   none_below_6 few a b c d = none_of_more Number (none_below_5 few a b c) (number_none d)
 
   pub none_below_7 : HasNoneBelow s signals 6 → NoneBefore (λ _ x. LiesOutside s.rows s.topology x) signals (length signals) → HasNoneBelow s signals 7

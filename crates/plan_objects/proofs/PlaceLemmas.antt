@@ -97,7 +97,7 @@ module _ (rows : List Elem) (formed : AreFormed rows) (track : Track) (signal : 
   one_mileage z w = by signal.abs_pos
     where
       by : (o : Option (List ℕ)) → MatchOption o (IsMeasuredAlong rows track signal z) (λ text. ReadsMetres text z) →
-      MatchOption o (IsMeasuredAlong rows track signal w) (λ text. ReadsMetres text w) → z ≡ w
+          MatchOption o (IsMeasuredAlong rows track signal w) (λ text. ReadsMetres text w) → z ≡ w
       by None a b = measured_once z w a b
       by (Some text) a b = one_number text z w a b
 
@@ -202,7 +202,11 @@ pub measured_mileage : (rows : List Elem) (track : Track) (signal : SignalElem) 
 measured_mileage rows track signal here from none start gives begin near close =
     let z : ℤ = word (word (word track.begin.mile.0 +ℤ word here) -ℤ word from) in
     let measured : IsMeasuredAlong rows track signal z = record {
-    from = from; begin_at = begin; to = here; signal_at = gives; sum = sum_is track.begin.mile.0 here from start near close
+      from = from;
+      begin_at = begin;
+      to = here;
+      signal_at = gives;
+      sum = sum_is track.begin.mile.0 here from start near close;
     } in
     subst (λ (o : Option (List ℕ)). MatchOption o (IsMeasuredAlong rows track signal z) (λ text. ReadsMetres text z)) (sym (no_text signal.abs_pos none))
     measured
@@ -227,16 +231,16 @@ module _ (s : Station) (signals : List SignalElem) (places : List SignalPlace) (
         is = there.1;
         holds = (id_of there.0, (record { places = places; are = are; full = f.holds }, refl));
         before = record {
-        none = λ j x below at had. (let p = get_within places j (omega (arith, below, within)) in not_crowded j x (λ full. f.before.none j p.0 below p.1 full)
-        had)
+          none = λ j x below at had. (let p = get_within places j (omega (arith, below, within)) in not_crowded j x
+              (λ full. f.before.none j p.0 below p.1 full) had);
         };
       }
 
   pub crowded_none : NoneBefore (λ i _. earlier_on_edge places i ≡ SIGNALS_OF_AN_EDGE) places (length places) →
-  NoneBefore (HasKind s signals Crowded) signals (length signals)
+      NoneBefore (HasKind s signals Crowded) signals (length signals)
   crowded_none n = record {
-  none = λ j x below at had. (let within : j < length places = omega (arith, as_many, below) in let p = get_within places j within in not_crowded j x
-  (λ full. n.none j p.0 within p.1 full) had)
+    none = λ j x below at had. (let within : j < length places = omega (arith, as_many, below) in let p = get_within places j within in not_crowded j x
+        (λ full. n.none j p.0 within p.1 full) had);
   }
 
 pub uncrowded_up_to : (places : List SignalPlace) → NoneBefore (λ i _. earlier_on_edge places i ≡ SIGNALS_OF_AN_EDGE) places (length places) → (e n : ℕ) →

@@ -130,7 +130,7 @@ due_nodes edition g places size = let all : 0 + length places ≡ length g.nodes
   where
     none_left : node_due edition g (length g.nodes) ≡ (EdgesDue edition)
     none_left = ap (λ (b : Bool). if b then NodeDue edition (length g.nodes) else EdgesDue edition)
-    (le-ltb (length g.nodes) (length g.nodes) (le_refl (length g.nodes)))
+        (le-ltb (length g.nodes) (length g.nodes) (le_refl (length g.nodes)))
 
 pub due_edges : (edition : Edition) (g : Graph) (lines : List (List Point)) → length lines ≡ length g.edges →
     due_after g (edge_due edition g 0) (drawn_lines edition g 0 lines) ≡ ValuesDue
@@ -139,7 +139,7 @@ due_edges edition g lines size = let all : 0 + length lines ≡ length g.edges =
   where
     none_left : edge_due edition g (length g.edges) ≡ ValuesDue
     none_left = ap (λ (b : Bool). if b then EdgeDue edition (length g.edges) else ValuesDue)
-    (le-ltb (length g.edges) (length g.edges) (le_refl (length g.edges)))
+        (le-ltb (length g.edges) (length g.edges) (le_refl (length g.edges)))
 
 pub due_parts : (edition : Edition) (g : Graph) (d : Drawing) → HasSizeOf g d → due_after g (BodyDue edition true) (parts_of edition g d) ≡ ValuesDue
 due_parts edition g d size =
@@ -288,8 +288,11 @@ body_read edition g before lines text rest count h = let first = h.right.0 in re
 begins_so : (edition : Edition) (text rest : List ℕ) → text ≡ rest → (line : SheetLine) → BeginsWithLine (BodyDue edition false) rest line →
     IsNoUndrawnEnding text → ((line : SheetLine) → BeginsWithLine (BodyDue edition true) rest line → ⊥) → ⊥
 begins_so edition text rest same (NodesLine count) b none h = h (NodesLine count) (record {
-    is_due = tt; form = b.form; behind = b.behind; spelled = b.spelled
-    })
+  is_due = tt;
+  form = b.form;
+  behind = b.behind;
+  spelled = b.spelled;
+})
 begins_so edition text rest same (EndLine e) b none h = none e b.behind b.form b.is_due (same ∙ b.spelled)
 begins_so edition text rest same line b none h = b.is_due
 
@@ -299,9 +302,16 @@ no_range edition g before rest (line, b, not) = b.is_due
 
 same_graph : (edition : Edition) (g : Graph) (before : List SheetLine) (rest : List ℕ) → HasWrongLine g before (BodyDue edition true) rest whats.Graph →
     HasWrongLine g before (BodyDue edition false) rest whats.Graph
-same_graph edition g before rest (NodesLine count, b, not) = (NodesLine count, record {
-    is_due = tt; form = b.form; behind = b.behind; spelled = b.spelled
-    }, not)
+same_graph edition g before rest (NodesLine count, b, not) = (
+  NodesLine count,
+  record {
+    is_due = tt;
+    form = b.form;
+    behind = b.behind;
+    spelled = b.spelled;
+  },
+  not,
+)
 same_graph edition g before rest (line, b, not) = absurd b.is_due
 
 no_shape : (edition : Edition) (g : Graph) (before : List SheetLine) (rest : List ℕ) → HasWrongLine g before (BodyDue edition true) rest whats.Shape → ⊥
@@ -364,6 +374,13 @@ pub settled_fault : (edition : Edition) (g : Graph) (before : List SheetLine) (t
     MayEnd false told → text ≡ text_of_line (EndLine told) ++ rest → what ≡ whats.Range → ((order : List Criterion) → StatesSettled order false told → ⊥) →
     HasWrongLine g before (BodyDue edition false) text what
 settled_fault edition g before text rest told what small may is range out =
-    subst (HasWrongLine g before (BodyDue edition false) text) (sym range) (EndLine told, record {
-    is_due = may; form = small; behind = rest; spelled = is
-    }, out (order_told before))
+    subst (HasWrongLine g before (BodyDue edition false) text) (sym range) (
+      EndLine told,
+      record {
+        is_due = may;
+        form = small;
+        behind = rest;
+        spelled = is;
+      },
+      out (order_told before),
+    )

@@ -162,8 +162,12 @@ right_nodes edition g grid before k (p ∷ places) station names is fits on =
     subst (λ (due : LineDue). AreRightLines g before due (placed_lines edition g k (p ∷ places))) (sym (node_due_at edition g k less)) (
       record {
         is_due = mileage_told edition g k;
-        form = (names k less, (small, small_point grid p is (All-head (IsOnGrid grid) p places on)), mileage_form edition g k
-        (All-get_or (λ (n : Node). IsMileage n.mileage) g.nodes k no_node less station.mileages));
+        form = (
+          names k less,
+          (small, small_point grid p is (All-head (IsOnGrid grid) p places on)),
+          mileage_form edition g k
+              (All-get_or (λ (n : Node). IsMileage n.mileage) g.nodes k no_node less station.mileages),
+        );
         range = tt;
         of_graph = (refl, refl, refl);
         shape = tt;
@@ -190,16 +194,21 @@ right_edges edition g grid before k (l ∷ lines) station tracks is fits are on 
     subst (λ (due : LineDue). AreRightLines g before due (drawn_lines edition g k (l ∷ lines))) (sym (edge_due_at edition g k less)) (
       record {
         is_due = track_told edition g k;
-        form = (record {
-        from = points.0; to = points.1
-        }, (small, (west, (east, small_points grid l is (All-head (All (IsOnGrid grid)) l lines on)))), track_form edition g k (tracks k less));
+        form = (
+          record {
+            from = points.0;
+            to = points.1;
+          },
+          (small, (west, (east, small_points grid l is (All-head (All (IsOnGrid grid)) l lines on)))),
+          track_form edition g k (tracks k less),
+        );
         range = tt;
         of_graph = (refl, refl, refl, refl);
         shape = shape;
         measured = tt;
       },
       right_edges edition g grid (before ++ line ∷ []) (k + 1) lines station tracks is (omega (arith, fits)) (All-tail (λ l. is_line l ≡ true) l lines are)
-      (All-tail (All (IsOnGrid grid)) l lines on),
+          (All-tail (All (IsOnGrid grid)) l lines on),
     )
 
 count_due : (edition : Edition) (needs_drawing : Bool) (n : ℕ) → IsDue (BodyDue edition needs_drawing) (NodesLine n)
@@ -230,7 +239,7 @@ right_parts edition g needs_drawing grid d before h =
     let edges : AreRightLines g (counted ++ placed) (EdgesDue edition) (EdgesLine e ∷ drawn_lines edition g 0 d.lines) = (
       record { is_due = tt; form = omega (arith, few_edges); range = tt; of_graph = refl; shape = tt; measured = tt },
       right_edges edition g grid ((counted ++ placed) ++ EdgesLine e ∷ []) 0 d.lines h.station h.tracks h.is_grid (omega (arith, lines)) h.are_lines
-      (All-lists (IsOnGrid grid) d.lines (all_back (IsOnGrid grid) d.places (flat_map (λ l. l) d.lines) h.on_grid)),
+          (All-lists (IsOnGrid grid) d.lines (all_back (IsOnGrid grid) d.places (flat_map (λ l. l) d.lines) h.on_grid)),
     ) in (
       record { is_due = count_due edition needs_drawing n; form = omega (arith, few_nodes); range = tt; of_graph = refl; shape = tt; measured = tt },
       right_append g counted (node_due edition g 0) placed (EdgesLine e ∷ drawn_lines edition g 0 d.lines)
@@ -253,13 +262,22 @@ right_drawn edition g needs_drawing grid order d e h is may settled =
     let last : order_told (before ++ ValuesLine (values_of d) ∷ []) ≡ order = order_kept before (ValuesLine (values_of d) ∷ []) order refl ordered in
     let values : IsRight g before ValuesDue (ValuesLine (values_of d)) =
     record {
-    is_due = tt; form = small_values g grid d h.station h.is_grid h.size h.on_grid h.are_lines; range = tt; of_graph = tt; shape = tt; measured = ap values_of
-    (sym told)
+      is_due = tt;
+      form = small_values g grid d h.station h.is_grid h.size h.on_grid h.are_lines;
+      range = tt;
+      of_graph = tt;
+      shape = tt;
+      measured = ap
+          values_of (sym told);
     } in
     let end : IsRight g (before ++ ValuesLine (values_of d) ∷ []) EndDue (EndLine e) =
     record {
-    is_due = may; form = small_ending order true e is settled; range = subst (λ (o : List Criterion). StatesSettled o true e) (sym last) settled; of_graph = tt;
-    shape = tt; measured = tt
+      is_due = may;
+      form = small_ending order true e is settled;
+      range = subst (λ (o : List Criterion). StatesSettled o true e) (sym last) settled;
+      of_graph = tt;
+      shape = tt;
+      measured = tt;
     } in
     subst (λ (lines : List SheetLine). AreRightLines g head (BodyDue edition needs_drawing) lines) (sym (lines_are edition g d e h.size))
     (right_append g head (BodyDue edition needs_drawing) parts (ValuesLine (values_of d) ∷ EndLine e ∷ []) (right_parts edition g needs_drawing grid d head h)
@@ -281,9 +299,15 @@ right_head edition g needs_drawing grid order is_grid stands is_order = (
     record { is_due = refl; form = grid_form edition grid is_grid stands; range = is_grid; of_graph = tt; shape = tt; measured = tt },
     (
       record {
-      is_due = tt; form = record {
-      from = is_order.some; to = few_criteria order is_order.each_once
-      }; range = is_order; of_graph = tt; shape = tt; measured = tt
+        is_due = tt;
+        form = record {
+          from = is_order.some;
+          to = few_criteria order is_order.each_once;
+        };
+        range = is_order;
+        of_graph = tt;
+        shape = tt;
+        measured = tt;
       },
       tt,
     ),
@@ -326,7 +350,7 @@ right_found : (edition : Edition) (g : Graph) (s : Sheet) (needs_drawing : Bool)
 right_found edition g s needs_drawing h drawn = by_case needs_drawing s.found drawn h.draws_all h.on_grid h.kept.are_lines h.kept.may_end h.settled
   where
     by_case : (needs_drawing : Bool) (found : Option Drawing) → (needs_drawing ≡ true → is_some found ≡ true) → IfSome found (HasSizeOf g) →
-    IfSome found (λ d. All (IsOnGrid s.grid) (all_points d)) → IfSome found (λ d. All (λ l. is_line l ≡ true) d.lines) →
+        IfSome found (λ d. All (IsOnGrid s.grid) (all_points d)) → IfSome found (λ d. All (λ l. is_line l ≡ true) d.lines) →
         MayEnd (is_some found) s.ending → StatesSettled s.order (is_some found) s.ending →
         AreRightLines g (head_lines edition s.grid s.order) (BodyDue edition needs_drawing) (found_lines edition g found ++ EndLine s.ending ∷ [])
     by_case true None drawn size on are may settled = absurd (false≢true (drawn refl))
@@ -342,6 +366,6 @@ written edition g s needs_drawing stands h drawn = record {
   edition = edition;
   draws_all = h.draws_all;
   right = right_append g [] (TitleDue needs_drawing) (head_lines edition s.grid s.order) (found_lines edition g s.found ++ EndLine s.ending ∷ [])
-  (right_head edition g needs_drawing s.grid s.order h.kept.is_grid stands h.kept.is_order) (right_found edition g s needs_drawing h drawn);
+      (right_head edition g needs_drawing s.grid s.order h.kept.is_grid stands h.kept.is_order) (right_found edition g s needs_drawing h drawn);
   spelled = refl;
 }

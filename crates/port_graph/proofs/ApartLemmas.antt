@@ -57,7 +57,9 @@ piece_forward : (t : Topology) → AllForward t → (k i : ℕ) (track : Track) 
     slice_get (spots_along t track) i ≡ Some a → slice_get (spots_along t track) (suc i) ≡ Some b → a ≢ b
 piece_forward t forward k i track a b here from to same =
     forward (piece_number t k i) (record {
-    track = track.id; from = a; to = b
+      track = track.id;
+      from = a;
+      to = b;
     }) (inl (piece_at t k i track a b here from to)) (ap (λ (s : Spot). s.mile.0) same)
 
 -- the one piece of a track without switches and crossings doesn't lead from a node to that node
@@ -145,7 +147,7 @@ no_join t k i track at here within same = let low = piece_below t k i track here
 
 data Beyond (t : Topology) (k i m : ℕ) (x : Inner) (c : Conn) : Type 0 where
   to_end : (track : Track) (last : Bool) → slice_get t.tracks c.to.track ≡ Some track → c.to ≡ end_place c.to.track last →
-  edge_beyond t c ≡ own t c.to.track last → leads_to t (end_of track last) ≡ inner_spot x → Beyond t k i m x c
+      edge_beyond t c ≡ own t c.to.track last → leads_to t (end_of track last) ≡ inner_spot x → Beyond t k i m x c
   to_inner : is_track_end c.to.part ≡ false → Beyond t k i m x c
 
 beyond_by : (t : Topology) (k i m : ℕ) (track : Track) (x : Inner) (c other : Conn) → slice_get t.tracks k ≡ Some track → slice_get track.inner i ≡ Some x →
@@ -199,8 +201,12 @@ begun_by t resolved k i m track x c other here at_i at_m inner there back (at_in
     let joined' : joined_at t other ≡ c.at = joined_is t other c (ap (connection t) back ∙ from) in
     elim (cases_lt c.at other.at) [
       | inl less ↦ (join_from t x c, join_there t k i m track x c here at_i at_m (begins_yes t c inner (omega arith)), omega arith)
-      | inr more ↦ (join_from t x2 other, join_there t c.to.track i2 m2 track2 x2 other here2 at_i2 at_m2 (begins_yes t other inner' (omega arith)), omega
-      arith)
+      | inr more ↦ (
+        join_from t x2 other,
+        join_there t c.to.track i2 m2 track2 x2 other here2 at_i2 at_m2 (begins_yes t other inner' (omega arith)),
+        omega
+            arith,
+      )
     ]
 
 begun_at : (t : Topology) → IsResolved t → (k i m : ℕ) (track : Track) (x : Inner) (c : Conn) → slice_get t.tracks k ≡ Some track →

@@ -146,14 +146,14 @@ end_site_there t k track true here node =
 -- a node is that of a track's end, or of a switch or crossing
 pub data SiteOf (t : Topology) (s : Site) : Type 0 where
   of_end : (k : ℕ) (track : Track) (last : Bool) → slice_get t.tracks k ≡ Some track → has_node t (end_of track last) ≡ true →
-  site_of_end t (end_of track last) (own t k last) ≡ s → SiteOf t s
+      site_of_end t (end_of track last) (own t k last) ≡ s → SiteOf t s
   of_inner : (k i : ℕ) (track : Track) (x : Inner) → slice_get t.tracks k ≡ Some track → slice_get track.inner i ≡ Some x → inner_site t k i x ≡ s → SiteOf t s
 
 of_inner_list : (t : Topology) (k : ℕ) (track : Track) (s : Site) → slice_get t.tracks k ≡ Some track → In s (inner_list t k track) → SiteOf t s
 of_inner_list t k track s here h = go (enumerate_from 0 track.inner) (λ ix g. there_numbered 0 track.inner ix g) h
   where
     go : (l : List (ℕ × Inner)) → ((ix : ℕ × Inner) → In ix l → (i : ℕ) × (slice_get track.inner i ≡ Some ix.1) × (ix.0 ≡ 0 + i)) →
-    In s (map (λ (ix : ℕ × Inner). inner_site t k ix.0 ix.1) l) → SiteOf t s
+        In s (map (λ (ix : ℕ × Inner). inner_site t k ix.0 ix.1) l) → SiteOf t s
     go [] from h = absurd h
     go (ix ∷ l) from (inl is) =
         let f = from ix (inl refl) in
@@ -250,7 +250,7 @@ pub leads_with : (t : Topology) → IsResolved t → (k : ℕ) (track : Track) (
 leads_with t resolved k track last here = by_node (has_node t (end_of track last)) refl
   where
     by_joined : (o : Option Conn) → (end_of track last).joined ≡ o → has_node t (end_of track last) ≡ false →
-    SiteWith t (leads_to t (end_of track last)) (own t k last)
+        SiteWith t (leads_to t (end_of track last)) (own t k last)
     by_joined None joined node = absurd (false≢true (sym node ∙ ap (is_node t (end_of track last)) joined))
     by_joined (Some c) joined node =
         let from : connection t (end_place k last) ≡ Some c = end_connection t k track last here ∙ joined in

@@ -95,7 +95,7 @@ joined_spot-mirrored : (t : Topology) (e : TrackEnd) → joined_spot (mirrored_t
 joined_spot-mirrored t e = go e.joined
   where
     go : (joined : Option Conn) → option_and_then (λ (c : Conn). spot_at (mirrored_topology t) c.to) joined ≡ option_and_then (λ (c : Conn). spot_at t c.to)
-    joined
+        joined
     go None = refl
     go (Some c) = spot_at-mirrored t c.to
 
@@ -174,7 +174,7 @@ last_piece-mirrored t k =
     ∙ ap (piece_number t k) (inner_count t.tracks k)
   where
     inner_count : (tracks : List Track) (k : ℕ) → option_map_or (λ (track : Track). length track.inner) (slice_get (map mirrored_track tracks) k) 0
-    ≡ option_map_or (λ (track : Track). length track.inner) (slice_get tracks k) 0
+        ≡ option_map_or (λ (track : Track). length track.inner) (slice_get tracks k) 0
     inner_count [] k = refl
     inner_count (track ∷ tracks) zero = length-map track.inner mirrored_inner
     inner_count (track ∷ tracks) (suc k) = inner_count tracks k
@@ -211,7 +211,7 @@ end_sites-mirrored t e own own' same =
     site_of m = record { id = e.id; spot = end_spot e; meets = m }
 
     choice : (b : Bool) → cond b (site_of (mirrored_meeting (end_meeting t own e.joined)) ∷ []) [] ≡ map mirrored_site
-    (cond b (site_of (end_meeting t own e.joined) ∷ []) [])
+        (cond b (site_of (end_meeting t own e.joined) ∷ []) [])
     choice true = refl
     choice false = refl
 

@@ -47,7 +47,7 @@ inner_place k what i m = record { track = k; part = inner_part what i m }
 pub data Where (t : Topology) (p : Place) (c : Conn) : Type 0 where
   at_end : (track : Track) (last : Bool) → slice_get t.tracks p.track ≡ Some track → p.part ≡ end_part last → (end_of track last).joined ≡ Some c → Where t p c
   at_inner : (track : Track) (i m : ℕ) (x : Inner) → slice_get t.tracks p.track ≡ Some track → slice_get track.inner i ≡ Some x →
-  p.part ≡ inner_part x.what i m → slice_get (connections x.what) m ≡ Some c → Where t p c
+      p.part ≡ inner_part x.what i m → slice_get (connections x.what) m ≡ Some c → Where t p c
 
 branch_there : (what : InnerKind) (i : ℕ) (c : Conn) → branch_of what ≡ Some c → (Branch i ≡ inner_part what i 0) × (slice_get (connections what) 0 ≡ Some c)
 branch_there (Switch outgoing hand track_diverges conn) i c is = (refl, is)
@@ -231,7 +231,7 @@ ends_apart t resolved k k' track track' last last' here here' differ =
 data On (track : Track) (part : Part) (c : Conn) : Type 0 where
   on_end : (last : Bool) → part ≡ end_part last → (end_of track last).joined ≡ Some c → On track part c
   on_inner : (i m : ℕ) (x : Inner) → slice_get track.inner i ≡ Some x → part ≡ inner_part x.what i m → slice_get (connections x.what) m ≡ Some c →
-  On track part c
+      On track part c
 
 one_inner : (track : Track) (i m m' : ℕ) (x : Inner) (part part' : Part) (c d : Conn) → AllPairs Differ (inner_elements x) → part ≢ part' →
     part ≡ inner_part x.what i m → part' ≡ inner_part x.what i m' → slice_get (connections x.what) m ≡ Some c → slice_get (connections x.what) m' ≡ Some d →

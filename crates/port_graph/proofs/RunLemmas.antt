@@ -35,7 +35,7 @@ append_right (x ∷ xs) ys (suc n) i is = append_right xs ys n i (omega arith)
 module _ {X Y : Type 0} (f : X → List Y) (g : X → ℕ) (long : (x : X) → length (f x) ≡ g x) where
   -- the i-th element of the k-th part
   pub flat_at : (xs : List X) (k i n : ℕ) (x : X) → slice_get xs k ≡ Some x → i < length (f x) → n ≡ sum_by g (take k xs) + i →
-  slice_get (flat_map f xs) n ≡ slice_get (f x) i
+      slice_get (flat_map f xs) n ≡ slice_get (f x) i
   flat_at [] k i n x here within is = absurd (none-some x here)
   flat_at (z ∷ zs) zero i n x here within is =
       let one : z ≡ x = same_Some z x here in
@@ -49,7 +49,7 @@ module _ {X Y : Type 0} (f : X → List Y) (g : X → ℕ) (long : (x : X) → l
 
   -- the part in which the n-th element stands, and where
   pub at_flat : (xs : List X) (n : ℕ) (y : Y) → slice_get (flat_map f xs) n ≡ Some y →
-  (k : ℕ) × (i : ℕ) × (x : X) × (slice_get xs k ≡ Some x) × (slice_get (f x) i ≡ Some y) × (n ≡ sum_by g (take k xs) + i)
+      (k : ℕ) × (i : ℕ) × (x : X) × (slice_get xs k ≡ Some x) × (slice_get (f x) i ≡ Some y) × (n ≡ sum_by g (take k xs) + i)
   at_flat [] n y is = absurd (none-some y is)
   at_flat (z ∷ zs) n y is =
       elim (cases_lt n (length (f z))) [
@@ -148,7 +148,7 @@ pub spot_cases : (t : Topology) (track : Track) (i : ℕ) (s : Spot) → slice_g
 spot_cases t track i s is = mid track.inner i is
   where
     mid : (xs : List Inner) (i : ℕ) → slice_get (map inner_spot xs ++ leads_to t track.end ∷ []) i ≡ Some s →
-    ((x : Inner) × (slice_get xs i ≡ Some x) × (inner_spot x ≡ s)) ⊎ ((i ≡ length xs) × (leads_to t track.end ≡ s))
+        ((x : Inner) × (slice_get xs i ≡ Some x) × (inner_spot x ≡ s)) ⊎ ((i ≡ length xs) × (leads_to t track.end ≡ s))
     mid [] zero is = inr (refl, same_Some (leads_to t track.end) s is)
     mid [] (suc i) is = absurd (none-some s is)
     mid (y ∷ ys) zero is = inl (y, refl, same_Some (inner_spot y) s is)
@@ -158,7 +158,9 @@ spot_cases t track i s is = mid track.inner i is
 
 pub piece_at : (t : Topology) (k i : ℕ) (track : Track) (a b : Spot) → slice_get t.tracks k ≡ Some track → slice_get (spots_along t track) i ≡ Some a →
     slice_get (spots_along t track) (suc i) ≡ Some b → slice_get (pieces_of_tracks t) (piece_number t k i) ≡ Some (record {
-    track = track.id; from = a; to = b
+      track = track.id;
+      from = a;
+      to = b;
     })
 piece_at t k i track a b here is is' =
     let run = spots_run track.id (spots_along t track) i a b is is' in

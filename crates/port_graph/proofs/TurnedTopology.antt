@@ -87,7 +87,7 @@ joined_spot-turned : (t : Topology) (e : TrackEnd) → joined_spot (turned_topol
 joined_spot-turned t e = go e.joined
   where
     go : (joined : Option Conn) → option_and_then (λ (c : Conn). spot_at (turned_topology t) c.to) joined ≡ option_map turned_spot
-    (option_and_then (λ (c : Conn). spot_at t c.to) joined)
+        (option_and_then (λ (c : Conn). spot_at t c.to) joined)
     go None = refl
     go (Some c) = spot_at-turned t c.to
 
@@ -162,7 +162,7 @@ begun_join-turned t x c =
     run_to from to = record { at = c.at; run = record { track = c.id; from = from; to = to } }
 
     choice : (b : Bool) → cond b (run_to (turned_spot (inner_spot x)) (turned_spot (unwrap_or (spot_at t c.to) (inner_spot x))) ∷ []) [] ≡ map turned_join
-    (cond b (run_to (inner_spot x) (unwrap_or (spot_at t c.to) (inner_spot x)) ∷ []) [])
+        (cond b (run_to (inner_spot x) (unwrap_or (spot_at t c.to) (inner_spot x)) ∷ []) [])
     choice true = refl
     choice false = refl
 
@@ -196,7 +196,7 @@ last_piece-turned t k =
     ∙ ap (piece_number t k) (inner_count t.tracks k)
   where
     inner_count : (tracks : List Track) (k : ℕ) → option_map_or (λ (track : Track). length track.inner) (slice_get (map turned_track tracks) k) 0
-    ≡ option_map_or (λ (track : Track). length track.inner) (slice_get tracks k) 0
+        ≡ option_map_or (λ (track : Track). length track.inner) (slice_get tracks k) 0
     inner_count [] k = refl
     inner_count (track ∷ tracks) zero = length-map track.inner turned_inner
     inner_count (track ∷ tracks) (suc k) = inner_count tracks k
@@ -234,7 +234,7 @@ end_sites-turned t e own own' same =
     site_of s m = record { id = e.id; spot = s; meets = m }
 
     choice : (b : Bool) → cond b (site_of (turned_spot (end_spot e)) (end_meeting t own e.joined) ∷ []) [] ≡ map turned_site
-    (cond b (site_of (end_spot e) (end_meeting t own e.joined) ∷ []) [])
+        (cond b (site_of (end_spot e) (end_meeting t own e.joined) ∷ []) [])
     choice true = refl
     choice false = refl
 

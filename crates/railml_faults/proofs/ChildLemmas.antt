@@ -43,7 +43,7 @@ two_found p numbers i found within before some here = by found before some
 
     whole : filter p numbers ≡ (filter p (take i numbers) ++ get_or numbers i 0 ∷ []) ++ filter p (drop (i + 1) numbers)
     whole = ap (filter p) (sym (take-append-drop (i + 1) numbers)) ∙ (filter-append p (take (i + 1) numbers) (drop (i + 1) numbers)
-    ∙ ap (λ l. l ++ filter p (drop (i + 1) numbers)) more)
+        ∙ ap (λ l. l ++ filter p (drop (i + 1) numbers)) more)
 
     by : (f : Option ℕ) → filter p (take i numbers) ≡ option_to_list f → is_some f ≡ true → only_of (filter p numbers) ≡ None
     by None before some = absurd (true≢false (sym some))
@@ -73,10 +73,11 @@ one_more rows n row k within is =
 pub listed_none : (rows : List Elem) (n : ℕ) (row : Elem) (table : List (Vec ℕ Global)) → Listed rows n table → n < length rows → row ≡ get_or rows n row →
     row.parent ≡ None → Listed rows (n + 1) table
 listed_none rows n row table l within is none = record {
-    whole = l.whole; lists = λ k list at. l.lists k list at ∙ sym (one_more rows n row k within is
-    ∙ ap (λ p. if option_map_or (λ parent. parent == k) p false then numbers_from (is_child_of k) 0 (take n rows) ++ n ∷ [] else numbers_from (is_child_of k) 0
-    (take n rows)) none)
-    }
+  whole = l.whole;
+  lists = λ k list at. l.lists k list at ∙ sym (one_more rows n row k within is
+      ∙ ap (λ p. if option_map_or (λ parent. parent == k) p false then numbers_from (is_child_of k) 0 (take n rows) ++ n ∷ [] else numbers_from
+      (is_child_of k) 0 (take n rows)) none);
+}
 
 -- row n is a child of row p
 pub listed_child : (rows : List Elem) (n : ℕ) (row : Elem) (p : ℕ) (old new : List (Vec ℕ Global)) → Listed rows n old → n < length rows →
@@ -88,17 +89,17 @@ listed_child rows n row p old new l within is has adds same = record { whole = s
 
     step : (k : ℕ) (b : Bool) → (p == k) ≡ b → numbers_from (is_child_of k) 0 (take (n + 1) rows) ≡ (if b then numbers k ++ n ∷ [] else numbers k)
     step k b e = one_more rows n row k within is ∙ ap (λ c. if c then numbers k ++ n ∷ [] else numbers k)
-    (ap (λ q. option_map_or (λ parent. parent == k) q false) has ∙ e)
+        (ap (λ q. option_map_or (λ parent. parent == k) q false) has ∙ e)
 
     here : (k : ℕ) (list : Vec ℕ Global) → slice_get new k ≡ Some list → p ≡ k → (p == k) ≡ true →
-    list.items ≡ numbers_from (is_child_of k) 0 (take (n + 1) rows)
+        list.items ≡ numbers_from (is_child_of k) 0 (take (n + 1) rows)
     here k list at e t =
         let a = adds.added list (subst (λ j. slice_get new j ≡ Some list) (sym e) at) in
         let before : a.0.items ≡ numbers k = l.lists k a.0 (subst (λ j. slice_get old j ≡ Some a.0) e a.1) in
         a.2 ∙ (ap (λ m. m ++ n ∷ []) before ∙ sym (step k true t))
 
     by : (k : ℕ) (list : Vec ℕ Global) → slice_get new k ≡ Some list → (((p == k) ≡ true) × (p ≡ k)) ⊎ (((p == k) ≡ false) × (p ≢ k)) →
-    list.items ≡ numbers_from (is_child_of k) 0 (take (n + 1) rows)
+        list.items ≡ numbers_from (is_child_of k) 0 (take (n + 1) rows)
     by k list at (inl e) = here k list at e.1 e.0
     by k list at (inr e) = l.lists k list (sym (adds.others k (λ q. e.1 (sym q))) ∙ at) ∙ sym (step k false e.0)
 
@@ -115,7 +116,7 @@ adds_child table parent child before after at is = record {
 }
   where
     by : (list : Vec ℕ Global) → ((parent ≡ parent) × (list ≡ after)) ⊎ ((parent ≢ parent) × (slice_get table parent ≡ Some list)) →
-    (b : Vec ℕ Global) × (slice_get table parent ≡ Some b) × (list.items ≡ b.items ++ child ∷ [])
+        (b : Vec ℕ Global) × (slice_get table parent ≡ Some b) × (list.items ≡ b.items ++ child ∷ [])
     by list (inl e) = (before, at, ap (λ (v : Vec ℕ Global). v.items) e.1 ∙ is)
     by list (inr e) = absurd (e.0 refl)
 

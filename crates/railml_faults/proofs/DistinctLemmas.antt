@@ -28,15 +28,20 @@ lists_more rows n row old new listed within is more j id h = by (cases_lt j n)
     kept : (o : Option (List ℕ)) → ListsOneMore old new o n → IsListedAs old id j → IsListedAs new id j
     kept None same l = subst (λ ids. IsListedAs ids id j) (sym same) l
     kept (Some own) added l = record {
-    one = l.one; there = subst (λ ids. Contains ids l.one) (sym added.1) (Contains-append_left old (added.0 ∷ []) l.one l.there); text = l.text;
-    numbered = l.numbered
+      one = l.one;
+      there = subst (λ ids. Contains ids l.one) (sym added.1) (Contains-append_left old (added.0 ∷ []) l.one l.there);
+      text = l.text;
+      numbered = l.numbered;
     }
 
     here : (o : Option (List ℕ)) → own_id row ≡ o → ListsOneMore old new o n → own_id row ≡ Some id → IsListedAs new id n
     here None e same own = absurd (none-some id (sym e ∙ own))
     here (Some own) e added is_id = record {
-    one = added.0; there = subst (λ ids. Contains ids added.0) (sym added.1) (Contains-push old added.0); text = added.2
-    ∙ same_Some own id (sym e ∙ is_id); numbered = added.3
+      one = added.0;
+      there = subst (λ ids. Contains ids added.0) (sym added.1) (Contains-push old added.0);
+      text = added.2
+          ∙ same_Some own id (sym e ∙ is_id);
+      numbered = added.3;
     }
 
     by : (j < n) ⊎ (n ≤ j) → IsListedAs new id j
@@ -107,7 +112,7 @@ distinct_ids rows ids sorted listed moved apart i repeated = by (cases_order p.0
 
     one : p.0 ≡ q.0 → i ≡ j
     one same = sym a.numbered ∙ ap (λ (l : ListedId). l.2) (sym p.2 ∙ ap (λ k. get_or sorted k a.one) same ∙ get_or_default sorted q.0 a.one b.one q.1 ∙ q.2)
-    ∙ b.numbered
+        ∙ b.numbered
 
     by : (p.0 ≡ q.0) ⊎ ((p.0 < q.0) ⊎ (q.0 < p.0)) → ⊥
     by (inl same) = let e : i ≡ j = one same in let before : j < i = repeated.1.before in omega arith

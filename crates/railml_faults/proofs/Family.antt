@@ -79,7 +79,7 @@ numbered p n [] k a = absurd a
 numbered p n (row ∷ rows) k a = choose (p row) refl a (numbered p (suc n) rows k)
   where
     choose : (v : Bool) → p row ≡ v → Among (cond v (n ∷ numbers_from p (suc n) rows) (numbers_from p (suc n) rows)) k →
-    (Among (numbers_from p (suc n) rows) k → (j : ℕ) × (k ≡ suc n + j) × Passes p rows j) → (j : ℕ) × (k ≡ n + j) × Passes p (row ∷ rows) j
+        (Among (numbers_from p (suc n) rows) k → (j : ℕ) × (k ≡ suc n + j) × Passes p rows j) → (j : ℕ) × (k ≡ n + j) × Passes p (row ∷ rows) j
     choose true e (inl here) ih = (0, omega arith, record { row = row; is = refl; passes = e })
     choose true e (inr there) ih = later p n k row rows (ih there)
     choose false e there ih = later p n k row rows (ih there)
@@ -96,7 +96,7 @@ has_number p n (r ∷ rows) (suc j) row e h =
     choose (p r) rest
   where
     choose : (v : Bool) → Among (numbers_from p (suc n) rows) (n + suc j) →
-    Among (cond v (n ∷ numbers_from p (suc n) rows) (numbers_from p (suc n) rows)) (n + suc j)
+        Among (cond v (n ∷ numbers_from p (suc n) rows) (numbers_from p (suc n) rows)) (n + suc j)
     choose true rest = inr rest
     choose false rest = rest
 
@@ -107,7 +107,7 @@ among_filtered q [] k a = absurd a
 among_filtered q (x ∷ xs) k a = choose (q x) refl a (among_filtered q xs k)
   where
     choose : (v : Bool) → q x ≡ v → Among (cond v (x ∷ filter q xs) (filter q xs)) k → (Among (filter q xs) k → Among xs k × (q k ≡ true)) →
-    Among (x ∷ xs) k × (q k ≡ true)
+        Among (x ∷ xs) k × (q k ≡ true)
     choose true e (inl here) ih = (inl here, ap q here ∙ e)
     choose true e (inr there) ih = let r = ih there in (inr r.0, r.1)
     choose false e there ih = let r = ih there in (inr r.0, r.1)

@@ -82,7 +82,7 @@ pub none_of_more : {rows : List Elem} (what : TopologyWhat) → HasNoneBelow row
 none_of_more {rows} what none here = record { none = λ other below. by other below (cases_eq (number_of other) (number_of what)) }
   where
     by : (other : TopologyWhat) → number_of other < number_of what + 1 → (number_of other ≡ number_of what) ⊎ (number_of other ≡ number_of what → ⊥) →
-    NoneBefore (HasKind rows other) rows (length rows)
+        NoneBefore (HasKind rows other) rows (length rows)
     by other below (inl same) = subst (λ (k : TopologyWhat). NoneBefore (HasKind rows k) rows (length rows)) (sym (one_kind other what same)) here
     by other below (inr differ) = none.none other (omega (arith, differ))
 
@@ -114,7 +114,7 @@ module _ {P Q : ℕ → Elem → Type 0} (to : (i : ℕ) (row : Elem) → P i ro
 module _ (rows : List Elem) (r : Option ℕ) where
   pub finds_missing : FindsFirst (λ _ row. (a : Attribute) × Lacks rows row a) rows r → FindsFirst (HasKind rows Missing) rows r
   finds_missing = finds_as {P = λ _ row. (a : Attribute) × Lacks rows row a} {Q = HasKind rows Missing}
-  (λ i row h. (attribute_name h.0, [], (h.0, h.1, refl, refl))) (λ i row h. (h.2.0, h.2.1)) rows r
+      (λ i row h. (attribute_name h.0, [], (h.0, h.1, refl, refl))) (λ i row h. (h.2.0, h.2.1)) rows r
 
   pub finds_bad_id : FindsFirst (λ _ row. HasBadId row) rows r → FindsFirst (HasKind rows Id) rows r
   finds_bad_id = finds_as {P = λ _ row. HasBadId row} {Q = HasKind rows Id} (λ i row h. ([], [], (h, refl, refl))) (λ i row h. h.2.0) rows r
@@ -124,33 +124,33 @@ module _ (rows : List Elem) (r : Option ℕ) where
 
   pub finds_bad_number : FindsFirst (λ _ row. (a : Attribute) × HasNoNumber row a) rows r → FindsFirst (HasKind rows Number) rows r
   finds_bad_number = finds_as {P = λ _ row. (a : Attribute) × HasNoNumber row a} {Q = HasKind rows Number}
-  (λ i row h. (id_of row, attribute_name h.0, (h.0, h.1, refl, refl))) (λ i row h. (h.2.0, h.2.1)) rows r
+      (λ i row h. (id_of row, attribute_name h.0, (h.0, h.1, refl, refl))) (λ i row h. (h.2.0, h.2.1)) rows r
 
   pub finds_unknown_ref : FindsFirst (λ _ row. RefersToNone rows row) rows r → FindsFirst (HasKind rows UnknownRef) rows r
   finds_unknown_ref = finds_as {P = λ _ row. RefersToNone rows row} {Q = HasKind rows UnknownRef} (λ i row h. (id_of row, [], (h, refl, refl)))
-  (λ i row h. h.2.0) rows r
+      (λ i row h. h.2.0) rows r
 
   pub finds_not_mutual : FindsFirst (λ _ row. (name : List ℕ) × IsNotReferredBack rows row name) rows r → FindsFirst (HasKind rows NotMutual) rows r
   finds_not_mutual = finds_as {P = λ _ row. (name : List ℕ) × IsNotReferredBack rows row name} {Q = HasKind rows NotMutual}
-  (λ i row h. (id_of row, h.0, (h.1, refl))) (λ i row h. (h.1, h.2.0)) rows r
+      (λ i row h. (id_of row, h.0, (h.1, refl))) (λ i row h. (h.1, h.2.0)) rows r
 
   pub finds_self_ref : FindsFirst (λ _ row. RefersToItself row) rows r → FindsFirst (HasKind rows SelfRef) rows r
   finds_self_ref = finds_as {P = λ _ row. RefersToItself row} {Q = HasKind rows SelfRef} (λ i row h. (id_of row, [], (h, refl, refl))) (λ i row h. h.2.0) rows r
 
   pub finds_end_kind : FindsFirst (λ i row. LacksItsParts rows i row) rows r → FindsFirst (HasKind rows EndKind) rows r
   finds_end_kind = finds_as {P = λ i row. LacksItsParts rows i row} {Q = HasKind rows EndKind} (λ i row h. (id_of row, [], (h, refl, refl))) (λ i row h. h.2.0)
-  rows r
+      rows r
 
   pub finds_course : FindsFirst (λ _ row. HasBadCourse rows row) rows r → FindsFirst (HasKind rows Course) rows r
   finds_course = finds_as {P = λ _ row. HasBadCourse rows row} {Q = HasKind rows Course} (λ i row h. (id_of row, [], (h, refl, refl))) (λ i row h. h.2.0) rows r
 
   pub finds_orientation : FindsFirst (λ _ row. HasBadOrientation rows row) rows r → FindsFirst (HasKind rows Orientation) rows r
   finds_orientation = finds_as {P = λ _ row. HasBadOrientation rows row} {Q = HasKind rows Orientation} (λ i row h. (id_of row, [], (h, refl, refl)))
-  (λ i row h. h.2.0) rows r
+      (λ i row h. h.2.0) rows r
 
   pub finds_outside : FindsFirst (λ _ row. LiesOutside rows row row.kind) rows r → FindsFirst (HasKind rows OutsideTrack) rows r
   finds_outside = finds_as {P = λ _ row. LiesOutside rows row row.kind} {Q = HasKind rows OutsideTrack} (λ i row h. (id_of row, [], (h, refl, refl)))
-  (λ i row h. h.2.0) rows r
+      (λ i row h. h.2.0) rows r
 
 -- ---- too many tracks
 
@@ -159,7 +159,7 @@ numbers_within p n [] k m h = absurd (none-some m h)
 numbers_within p n (row ∷ rows) k m h = by (p row) k h (λ j at. numbers_within p (suc n) rows j m at)
   where
     by : (b : Bool) (k : ℕ) → slice_get (if b then n ∷ numbers_from p (suc n) rows else numbers_from p (suc n) rows) k ≡ Some m →
-    ((j : ℕ) → slice_get (numbers_from p (suc n) rows) j ≡ Some m → m < suc n + length rows) → m < n + length (row ∷ rows)
+        ((j : ℕ) → slice_get (numbers_from p (suc n) rows) j ≡ Some m → m < suc n + length rows) → m < n + length (row ∷ rows)
     by true zero h rest = let same : n ≡ m = same_Some n m h in omega arith
     by true (suc k) h rest = let less = rest k h in omega arith
     by false k h rest = let less = rest k h in omega arith

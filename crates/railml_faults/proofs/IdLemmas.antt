@@ -55,7 +55,7 @@ module _ (id_at : Elem → Option (List ℕ)) (rows : List Elem) where
       none id = ap (lookup (is_at (λ (k : Bor (List ℕ)). slice_cmp nat_cmp id k.now))) empty
 
   pub keeps_more : (n : ℕ) (row : Elem) (old new : BTreeMap (Bor (List ℕ)) ℕ) → KeepsIds id_at rows n old → n < length rows → row ≡ get_or rows n row →
-  AddsId old new (id_at row) n → KeepsIds id_at rows (n + 1) new
+      AddsId old new (id_at row) n → KeepsIds id_at rows (n + 1) new
   keeps_more n row old new kept within is adds = by (id_at row) refl adds
     where
       at : slice_get rows n ≡ Some row
@@ -82,7 +82,7 @@ module _ (id_at : Elem → Option (List ℕ)) (rows : List Elem) where
       }
         where
           found_by : (b : Bool) (id : List ℕ) (j : ℕ) → bytes_eq own id ≡ b → (if bytes_eq own id then Some n else number_in old id) ≡ Some j →
-          HasIdAt id_at rows (n + 1) j id
+              HasIdAt id_at rows (n + 1) j id
           found_by true id j t there =
               let same : n ≡ j = same_Some n j (sym (ap (λ c. if c then Some n else number_in old id) t) ∙ there) in
               let own_is : own ≡ id = (bytes_eq-Decides own id).0 t in
@@ -90,10 +90,10 @@ module _ (id_at : Elem → Option (List ℕ)) (rows : List Elem) where
           found_by false id j t there = later id_at rows n j id (kept.found id j (sym (ap (λ c. if c then Some n else number_in old id) t) ∙ there))
 
           missed_by : (b : Bool) (id : List ℕ) (j : ℕ) → bytes_eq own id ≡ b → (if bytes_eq own id then Some n else number_in old id) ≡ None →
-          HasIdAt id_at rows (n + 1) j id → (j < n) ⊎ (n ≤ j) → ⊥
+              HasIdAt id_at rows (n + 1) j id → (j < n) ⊎ (n ≤ j) → ⊥
           missed_by true id j t gone has order = none-some n (sym gone ∙ ap (λ c. if c then Some n else number_in old id) t)
           missed_by false id j t gone has (inl before) = kept.missed id j (sym (ap (λ c. if c then Some n else number_in old id) t)
-          ∙ gone) (earlier j id has before)
+              ∙ gone) (earlier j id has before)
           missed_by false id j t gone has (inr from) =
               let own_is : own ≡ id = same_Some own id (sym e ∙ here j id has from) in
               true≢false (sym ((bytes_eq-Decides own id).1 own_is) ∙ t)

@@ -45,7 +45,7 @@ module _ (rows : List Elem) (i : ℕ) (row : Elem) (first second one other : Lis
   both f s g t = (f ∙ sym g, s ∙ sym t)
 
   one_telling : (what : TopologyWhat) → HasTopologyFault rows what i row first second → HasTopologyFault rows what i row one other →
-  (first ≡ one) × (second ≡ other)
+      (first ≡ one) × (second ≡ other)
   one_telling NoTracks h k = absurd h
   one_telling TooMany h k = both h.1 h.2 k.1 k.2
   one_telling Missing h k =
@@ -88,7 +88,7 @@ module _ (rows : List Elem) (at : ℕ) (first second one other : List ℕ) (form
       of_no_row a b k none = subst (λ (w : TopologyWhat). HasTopologyFault rows w k.number k.row a b) none k.fault
 
       by : ((what ≡ NoTracks) × HasNoTracks rows at first second) ⊎ HasFaultAt rows what at first second →
-      ((what ≡ NoTracks) × HasNoTracks rows at one other) ⊎ HasFaultAt rows what at one other → (first ≡ one) × (second ≡ other)
+          ((what ≡ NoTracks) × HasNoTracks rows at one other) ⊎ HasFaultAt rows what at one other → (first ≡ one) × (second ≡ other)
       by (inl h) (inl k) = (h.1.no_first ∙ sym k.1.no_first, h.1.no_second ∙ sym k.1.no_second)
       by (inl h) (inr k) = absurd (of_no_row one other k h.0)
       by (inr h) (inl k) = absurd (of_no_row first second h k.0)

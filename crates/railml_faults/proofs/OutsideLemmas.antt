@@ -46,28 +46,31 @@ module _ (rows : List Elem) (kind : ElemKind) (only : List (Option ℕ)) (positi
   beside_is m h = by (row.parent) refl h
     where
       last : (t c : ℕ) → row.parent ≡ Some t → children rows t kind ≡ c ∷ [] → (o : Option (Option Micro)) → slice_get positions c ≡ o →
-      option_and_then (λ x. x) o ≡ Some m → (other : Elem) × HasOnBeside rows row kind other × HasPosition other m.0
+          option_and_then (λ x. x) o ≡ Some m → (other : Elem) × HasOnBeside rows row kind other × HasPosition other m.0
       last t c inside one None e h = absurd (none-some m h)
       last t c inside one (Some p) e h =
           let other = get_within rows c (child_within rows kind t c one) in
           (other.0, record { topology = t; number = c; inside = inside; only = one; is = other.1 }, kept_is other.0 p m (has.entry c p e other.0 other.1) h)
 
       second : (t : ℕ) → row.parent ≡ Some t → (o : Option ℕ) → entry_in only t ≡ o → option_and_then (entry_in positions) o ≡ Some m →
-      (other : Elem) × HasOnBeside rows row kind other × HasPosition other m.0
+          (other : Elem) × HasOnBeside rows row kind other × HasPosition other m.0
       second t inside None e h = absurd (none-some m h)
       second t inside (Some c) e h = last t c inside (only_child rows kind only t c has_only (topology_within t inside) e) (slice_get positions c) refl h
 
       by : (o : Option ℕ) → row.parent ≡ o → option_and_then (entry_in positions) (option_and_then (entry_in only) o) ≡ Some m →
-      (other : Elem) × HasOnBeside rows row kind other × HasPosition other m.0
+          (other : Elem) × HasOnBeside rows row kind other × HasPosition other m.0
       by None e h = absurd (none-some m h)
       by (Some t) e h = second t e (entry_in only t) refl h
 
   is_beside : (other : Elem) (z : ℤ) → HasOnBeside rows row kind other → HasPosition other z → (m : Micro) × (beside_in only positions row ≡ Some m) × (m.0 ≡ z)
   is_beside other z b p =
       let kept = is_kept other (entry_in positions b.number) z (own_position rows positions b.number other has b.is) p in
-      let one = only_child_entry rows kind only b.topology b.number has_only (topology_within b.topology b.inside) b.only in
-      (kept.0, ap (λ o. option_and_then (entry_in positions) (option_and_then (entry_in only) o)) b.inside
-      ∙ (ap (option_and_then (entry_in positions)) one ∙ kept.1), kept.2)
+      let one = only_child_entry rows kind only b.topology b.number has_only (topology_within b.topology b.inside) b.only in (
+        kept.0,
+        ap (λ o. option_and_then (entry_in positions) (option_and_then (entry_in only) o)) b.inside
+            ∙ (ap (option_and_then (entry_in positions)) one ∙ kept.1),
+        kept.2,
+      )
 
 -- ---- the two ways to lie outside
 
@@ -91,10 +94,17 @@ module _ (rows : List Elem) (t : Tables) (i : ℕ) (row : Elem) (formed : AreFor
       let here = entry_in t.positions.items i in
       let beside = beside_in t.begins.items t.positions.items row in
       let both = less_both here beside h in
-      let begin = beside_is rows Begin t.begins.items t.positions.items i row formed tables.begins tables.positions at both.2 both.3 in
-      (begin.0, begin.1, record {
-      from = both.0.0; to = both.2.0; a_at = kept_is row here both.0 own both.1; b_at = begin.2; less = less_some here beside h both.0 both.2 both.1 both.3
-      })
+      let begin = beside_is rows Begin t.begins.items t.positions.items i row formed tables.begins tables.positions at both.2 both.3 in (
+        begin.0,
+        begin.1,
+        record {
+          from = both.0.0;
+          to = both.2.0;
+          a_at = kept_is row here both.0 own both.1;
+          b_at = begin.2;
+          less = less_some here beside h both.0 both.2 both.1 both.3;
+        },
+      )
 
   before_begin_by : IsBeforeBegin rows row → IsBeforeBeginBy t i row
   before_begin_by h =
@@ -110,10 +120,17 @@ module _ (rows : List Elem) (t : Tables) (i : ℕ) (row : Elem) (formed : AreFor
       let here = entry_in t.positions.items i in
       let beside = beside_in t.ends.items t.positions.items row in
       let both = less_both beside here h in
-      let end = beside_is rows End t.ends.items t.positions.items i row formed tables.ends tables.positions at both.0 both.1 in
-      (end.0, end.1, record {
-      from = both.0.0; to = both.2.0; a_at = end.2; b_at = kept_is row here both.2 own both.3; less = less_some beside here h both.0 both.2 both.1 both.3
-      })
+      let end = beside_is rows End t.ends.items t.positions.items i row formed tables.ends tables.positions at both.0 both.1 in (
+        end.0,
+        end.1,
+        record {
+          from = both.0.0;
+          to = both.2.0;
+          a_at = end.2;
+          b_at = kept_is row here both.2 own both.3;
+          less = less_some beside here h both.0 both.2 both.1 both.3;
+        },
+      )
 
   behind_end_by : IsBehindEnd rows row → IsBehindEndBy t i row
   behind_end_by h =

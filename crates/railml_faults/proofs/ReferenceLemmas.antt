@@ -21,16 +21,19 @@ is_connection kind h = absurd (true≢false (sym h))
 
 refers : (row : Elem) (name : List ℕ) → reference_of row ≡ Some name → RefersTo row name
 refers row name h = let parts = under (same_kind row.kind Connection) row.attrs.reference name h in record {
-    connection = is_connection row.kind parts.0; refers = parts.1
-    }
+  connection = is_connection row.kind parts.0;
+  refers = parts.1;
+}
 
 reference : (row : Elem) (name : List ℕ) → RefersTo row name → reference_of row ≡ Some name
 reference row name h = ap (λ k. if same_kind k Connection then row.attrs.reference else None) h.connection ∙ h.refers
 
 named : (rows : List Elem) (n j : ℕ) (id : List ℕ) (h : HasIdAt connection_id rows n j id) → IsConnectionNamed rows j id h.row
 named rows n j id h = let parts = under (same_kind h.row.kind Connection) h.row.attrs.id id h.has in record {
-    is = h.is; connection = is_connection h.row.kind parts.0; has = parts.1
-    }
+  is = h.is;
+  connection = is_connection h.row.kind parts.0;
+  has = parts.1;
+}
 
 names : (row : Elem) (id : List ℕ) → row.kind ≡ Connection → row.attrs.id ≡ Some id → connection_id row ≡ Some id
 names row id kind has = ap (λ k. if same_kind k Connection then row.attrs.id else None) kind ∙ has
@@ -45,13 +48,19 @@ target_entry rows numbers row target kept is = subst (IsTargetOf rows row) (sym 
     unnamed name e gone j h =
         let same : name ≡ h.name = same_Some name h.name (sym e ∙ reference row h.name h.refers) in
         kept.missed h.name j (subst (λ q. number_in numbers q ≡ None) same gone) (record {
-        row = h.other; before = slice_get_within rows j h.other h.named.is; is = h.named.is; has = names h.other h.name h.named.connection h.named.has
+          row = h.other;
+          before = slice_get_within rows j h.other h.named.is;
+          is = h.named.is;
+          has = names h.other h.name h.named.connection h.named.has;
         })
 
     found : (name : List ℕ) → reference_of row ≡ Some name → (o : Option ℕ) → number_in numbers name ≡ o → IsTargetOf rows row o
     found name e None gone = unnamed name e gone
     found name e (Some j) at = let h = kept.found name j at in record {
-    name = name; other = h.row; refers = refers row name e; named = named rows (length rows) j name h
+      name = name;
+      other = h.row;
+      refers = refers row name e;
+      named = named rows (length rows) j name h;
     }
 
     by : (o : Option (List ℕ)) → reference_of row ≡ o → IsTargetOf rows row (option_and_then (number_in numbers) o)
@@ -67,7 +76,9 @@ unknown rows row None t h = by (reference_of row) refl h
     by : (o : Option (List ℕ)) → reference_of row ≡ o → (is_some o && true) ≡ true → RefersToNone rows row
     by None e h = absurd (true≢false (sym h))
     by (Some name) e h = record {
-    name = name; refers = refers row name e; none = λ j other there. t j (record { name = name; other = other; refers = refers row name e; named = there })
+      name = name;
+      refers = refers row name e;
+      none = λ j other there. t j (record { name = name; other = other; refers = refers row name e; named = there });
     }
 unknown rows row (Some j) t h = by (is_some (reference_of row)) h
   where
@@ -88,10 +99,16 @@ pub not_answered : (rows : List Elem) (row : Elem) (target : Option ℕ) → IsT
     (name : List ℕ) × IsNotReferredBack rows row name
 not_answered rows row None t h = absurd h
 not_answered rows row (Some j) t h =
-    let same : h.0 ≡ t.other = one_row rows j h.0 t.other h.1 t.named.is in
-    (t.name, record {
-    refers = t.refers; number = j; other = t.other; named = t.named; elsewhere = subst (λ (e : Elem). e.attrs.reference ≡ Some (id_of row) → ⊥) same h.2
-    })
+    let same : h.0 ≡ t.other = one_row rows j h.0 t.other h.1 t.named.is in (
+      t.name,
+      record {
+        refers = t.refers;
+        number = j;
+        other = t.other;
+        named = t.named;
+        elsewhere = subst (λ (e : Elem). e.attrs.reference ≡ Some (id_of row) → ⊥) same h.2;
+      },
+    )
 
 bears : (rows : List Elem) (j : ℕ) (id : List ℕ) (row : Elem) → IsConnectionNamed rows j id row → BearsId rows j id
 bears rows j id row h = record { row = row; is = h.is; bears = ap bears_id h.connection; has = h.has }
@@ -103,9 +120,15 @@ one_connection rows i j id a b distinct first second = by (cases_lt i j) (cases_
   where
     by : (i < j) ⊎ (j ≤ i) → (j < i) ⊎ (i ≤ j) → i ≡ j
     by (inl before) o = absurd (distinct j (id, record { here = bears rows j id b second; earlier = i; before = before; there = bears rows i id a first }))
-    by (inr from) (inl before) = absurd (distinct i (id, record {
-    here = bears rows i id a first; earlier = j; before = before; there = bears rows j id b second
-    }))
+    by (inr from) (inl before) = absurd (distinct i (
+      id,
+      record {
+        here = bears rows i id a first;
+        earlier = j;
+        before = before;
+        there = bears rows j id b second;
+      },
+    ))
     by (inr from) (inr other) = omega arith
 
 pub answered : (rows : List Elem) (row : Elem) (target : Option ℕ) → AreIdsDistinct rows → IsTargetOf rows row target →

@@ -25,7 +25,7 @@ module _ (rows : List Elem) (i : ℕ) (row : Elem) (at : slice_get rows i ≡ So
       subst (RepeatsId rows i) (sym (f ∙ own)) r
 
   pub told_texts : (what : TopologyWhat) → HasKind rows what i row → first ≡ first_told rows row what → IsSecond row what second →
-  HasTopologyFault rows what i row first second
+      HasTopologyFault rows what i row first second
   told_texts NoTracks h f s = absurd h.2
   told_texts TooMany h f s = (h.2.0, f, s)
   told_texts Missing h f s = (h.2.0, h.2.1, f ∙ ap (λ o. option_map_or attribute_name o []) h.2.1, s)
@@ -44,7 +44,7 @@ module _ (rows : List Elem) (i : ℕ) (row : Elem) (at : slice_get rows i ≡ So
 
 module _ (rows : List Elem) (at : ℕ) (first second : List ℕ) where
   pub fault_at : (what : TopologyWhat) → IsTopologyFault rows what at first second →
-  ((what ≡ NoTracks) × HasNoTracks rows at first second) ⊎ HasFaultAt rows what at first second
+      ((what ≡ NoTracks) × HasNoTracks rows at first second) ⊎ HasFaultAt rows what at first second
   fault_at NoTracks h = inl (refl, h)
   fault_at TooMany h = inr h
   fault_at Missing h = inr h
@@ -84,13 +84,13 @@ pub told_first : (rows : List Elem) (found : Finding) (told : Told) → AreForme
     IsLowest rows found.what found.row → IsToldOf rows found told → IsFirstTold rows told
 told_first rows found told formed some l t = subst (λ (what : TopologyWhat). IsFirstTopologyFault rows what told.at told.first told.second) (sym t.same)
     (record {
-  holds = is_fault rows told.at told.first told.second found.what (record { number = found.row; row = t.row; is = t.is; place = t.place; fault = t.fault });
-  lowest = λ other place a b less h. lower other place a b less (fault_at rows place a b other h);
-  least = λ place a b before h. earlier place a b before (fault_at rows place a b found.what h);
-})
+      holds = is_fault rows told.at told.first told.second found.what (record { number = found.row; row = t.row; is = t.is; place = t.place; fault = t.fault });
+      lowest = λ other place a b less h. lower other place a b less (fault_at rows place a b other h);
+      least = λ place a b before h. earlier place a b before (fault_at rows place a b found.what h);
+    })
   where
     lower : (other : TopologyWhat) (place : ℕ) (a b : List ℕ) → number_of other < number_of found.what →
-    ((other ≡ NoTracks) × HasNoTracks rows place a b) ⊎ HasFaultAt rows other place a b → ⊥
+        ((other ≡ NoTracks) × HasNoTracks rows place a b) ⊎ HasFaultAt rows other place a b → ⊥
     lower other place a b less (inl h) = some_track rows some h.1.none
     lower other place a b less (inr h) = (l.lower.none other less).none h.number h.row (slice_get_within rows h.number h.row h.is) h.is (a, b, h.fault)
 
@@ -113,7 +113,7 @@ pub no_fault : (rows : List Elem) → (slice_get (track_rows rows) 0 ≡ None �
 no_fault rows some none = λ what at first second h. by what at first second (fault_at rows at first second what h)
   where
     by : (what : TopologyWhat) (at : ℕ) (first second : List ℕ) →
-    ((what ≡ NoTracks) × HasNoTracks rows at first second) ⊎ HasFaultAt rows what at first second → ⊥
+        ((what ≡ NoTracks) × HasNoTracks rows at first second) ⊎ HasFaultAt rows what at first second → ⊥
     by what at first second (inl h) = some_track rows some h.1.none
     by what at first second (inr h) = (none what).none h.number h.row (slice_get_within rows h.number h.row h.is) h.is (first, second, h.fault)
 

@@ -33,15 +33,15 @@ module _ (bytes : List ℕ) where
   rows_or_fault rows answers.Memory g h = h
 
   given : (r : Result (List Elem) ReadFault) → IfOk r (λ rows. AreRows bytes rows) → OnOk r ((what : TextWhat) (at : ℕ) → IsTextFault bytes what at → ⊥) →
-  IfOk r (GivesRows bytes)
+      IfOk r (GivesRows bytes)
   given (Ok rows) are_rows sound = record { are_rows = are_rows; sound = sound }
   given (Err e) are_rows sound = tt
 
   pub read_exactly : (r : Result (List Elem) ReadFault) → IfOk r (λ rows. AreRows bytes rows) →
-  OnOk r ((what : TextWhat) (at : ℕ) → IsTextFault bytes what at → ⊥) → IfErr r (λ e. (e ≡ answers.Memory) ⊎ IsReadFault bytes e) →
-  AnswersExactly r answers.Memory (GivesRows bytes) (IsReadFault bytes)
+      OnOk r ((what : TextWhat) (at : ℕ) → IsTextFault bytes what at → ⊥) → IfErr r (λ e. (e ≡ answers.Memory) ⊎ IsReadFault bytes e) →
+      AnswersExactly r answers.Memory (GivesRows bytes) (IsReadFault bytes)
   read_exactly r are_rows sound fault = answers_exactly r answers.Memory (GivesRows bytes) (IsReadFault bytes) (given r are_rows sound) fault one_list
-  one_read_fault rows_or_fault
+      one_read_fault rows_or_fault
 
   one_signal_list : (signals others : List SignalElem) → GivesSignals bytes signals → GivesSignals bytes others → signals ≡ others
   one_signal_list signals others g h =
@@ -54,12 +54,12 @@ module _ (bytes : List ℕ) where
   signals_or_fault signals answers.Memory g h = h
 
   given_signals : (r : Result (List SignalElem) ReadFault) → IfOk r (λ signals. AreSignals bytes signals) →
-  OnOk r ((what : TextWhat) (at : ℕ) → IsTextFault bytes what at → ⊥) → IfOk r (GivesSignals bytes)
+      OnOk r ((what : TextWhat) (at : ℕ) → IsTextFault bytes what at → ⊥) → IfOk r (GivesSignals bytes)
   given_signals (Ok signals) are_signals sound = record { are_signals = are_signals; sound = sound }
   given_signals (Err e) are_signals sound = tt
 
   pub read_signals_exactly : (r : Result (List SignalElem) ReadFault) → IfOk r (λ signals. AreSignals bytes signals) →
-  OnOk r ((what : TextWhat) (at : ℕ) → IsTextFault bytes what at → ⊥) → IfErr r (λ e. (e ≡ answers.Memory) ⊎ IsReadFault bytes e) →
-  AnswersExactly r answers.Memory (GivesSignals bytes) (IsReadFault bytes)
+      OnOk r ((what : TextWhat) (at : ℕ) → IsTextFault bytes what at → ⊥) → IfErr r (λ e. (e ≡ answers.Memory) ⊎ IsReadFault bytes e) →
+      AnswersExactly r answers.Memory (GivesSignals bytes) (IsReadFault bytes)
   read_signals_exactly r are_signals sound fault = answers_exactly r answers.Memory (GivesSignals bytes) (IsReadFault bytes) (given_signals r are_signals sound)
-  fault one_signal_list one_read_fault signals_or_fault
+      fault one_signal_list one_read_fault signals_or_fault

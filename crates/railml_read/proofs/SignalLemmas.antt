@@ -25,7 +25,7 @@ pub record Gone (elements : Elements) (context : Context) (s : State) (tracks : 
   pub t : State
   pub same : t.stack ≡ s.stack
   pub gone : fold after_both (s, marked tracks signals) (tags_of elements ++ rest) ≡ fold after_both
-  (t, marked (tracks + tracks_from context elements) (signals ++ signals_from context tracks elements)) rest
+      (t, marked (tracks + tracks_from context elements) (signals ++ signals_from context tracks elements)) rest
 
 pub gone_by : (elements : Elements) (context : Context) (s : State) (tracks : ℕ) (signals : List SignalElem) (rest : List Tag) →
     context_in (top_frame s.stack) ≡ context → Gone elements context s tracks signals rest
@@ -33,7 +33,7 @@ gone_by none context s tracks signals rest e = record {
   t = s;
   same = refl;
   gone = ap (λ (n : ℕ). fold after_both (s, marked n signals) rest) (let same : tracks ≡ tracks + 0 = omega arith in same)
-  ∙ ap (λ (xs : List SignalElem). fold after_both (s, marked (tracks + 0) xs) rest) (sym (append-nil signals));
+      ∙ ap (λ (xs : List SignalElem). fold after_both (s, marked (tracks + 0) xs) rest) (sym (append-nil signals));
 }
 gone_by (element at name attrs children after) context s tracks signals rest e =
     let here = below context name in
@@ -62,8 +62,11 @@ gone_by (element at name attrs children after) context s tracks signals rest e =
           ∙ second.gone
           ∙ ap (λ (n : ℕ). fold after_both (second.t, marked n (((signals ++ own) ++ inside) ++ signals_from context (begun + tracks_from here children) after))
           rest) (sums tracks (own_track here) (tracks_from here children) (tracks_from context after))
-          ∙ ap (λ (xs : List SignalElem). fold after_both (second.t, marked (tracks + (own_track here + tracks_from here children + tracks_from context after))
-          xs) rest) (lists signals own inside (signals_from context (begun + tracks_from here children) after));
+          ∙ ap (λ (xs : List SignalElem). fold after_both (
+            second.t,
+            marked (tracks + (own_track here + tracks_from here children + tracks_from context after))
+                xs,
+          ) rest) (lists signals own inside (signals_from context (begun + tracks_from here children) after));
     }
   where
     sums : (a b c d : ℕ) → (a + b + c) + d ≡ a + (b + c + d)

@@ -31,18 +31,18 @@ module _ (first : Bool) (bytes : List ℕ) (at : ℕ) where
   item_or_fault v answers.Memory h k = k
 
   items : (r : Result Item ItemFault) → IfOk r (λ item. HasSoundItem first (drop at bytes) item.kind (drop item.end bytes)) →
-  IfOk r (λ item. item.end ≤ length bytes) → IfOk r (IsItemAt first bytes at)
+      IfOk r (λ item. item.end ≤ length bytes) → IfOk r (IsItemAt first bytes at)
   items (Ok item) sound within = record { sound = sound; within = within }
   items (Err e) sound within = tt
 
   faults : (r : Result Item ItemFault) → IfErr r (λ e. IsFaultAt first (drop at bytes) e) →
-  IfErr r (λ e. (e ≡ answers.Memory) ⊎ IsItemFault first (drop at bytes) e)
+      IfErr r (λ e. (e ≡ answers.Memory) ⊎ IsItemFault first (drop at bytes) e)
   faults (Ok item) h = tt
   faults (Err (answers.Item what)) h = inr h
   faults (Err answers.Memory) h = inl refl
 
   pub scanned : (r : Result Item ItemFault) → IfOk r (λ item. HasSoundItem first (drop at bytes) item.kind (drop item.end bytes)) →
-  IfOk r (λ item. item.end ≤ length bytes) → IfErr r (λ e. IsFaultAt first (drop at bytes) e) →
-  AnswersExactly r answers.Memory (IsItemAt first bytes at) (IsItemFault first (drop at bytes))
+      IfOk r (λ item. item.end ≤ length bytes) → IfErr r (λ e. IsFaultAt first (drop at bytes) e) →
+      AnswersExactly r answers.Memory (IsItemAt first bytes at) (IsItemFault first (drop at bytes))
   scanned r sound within fault = answers_exactly r answers.Memory (IsItemAt first bytes at) (IsItemFault first (drop at bytes)) (items r sound within)
-  (faults r fault) one_item_at one_item_fault item_or_fault
+      (faults r fault) one_item_at one_item_fault item_or_fault

@@ -42,7 +42,7 @@ name_at name [] e = absurd cc
 name_at name (a ∷ attrs) e = choose (bytes_eq name a.name.now) refl e (name_at name attrs)
   where
     choose : (v : Bool) → bytes_eq name a.name.now ≡ v → (v || has_name name attrs) ≡ true →
-    (has_name name attrs ≡ true → (i : ℕ) × (i < length attrs) × (slice_get (names attrs) i ≡ Some name))
+        (has_name name attrs ≡ true → (i : ℕ) × (i < length attrs) × (slice_get (names attrs) i ≡ Some name))
         → (i : ℕ) × (i < length (a ∷ attrs)) × (slice_get (names (a ∷ attrs)) i ≡ Some name)
     choose true h k ih = (zero, omega arith, ap (λ (n : List ℕ). some n) (sym ((bytes_eq-Decides name a.name.now).0 h)))
       where
@@ -78,8 +78,13 @@ at_front (b ∷ attrs) more (suc i) name e = at_front attrs more i name e
 
 repeat_more : (attrs more : List WrittenAttr) → HasRepeat (map written_of attrs) → HasRepeat (map written_of (attrs ++ more))
 repeat_more attrs more r = record {
-    name = r.name; i = r.i; j = r.j; earlier = r.earlier; at_i = at_front attrs more r.i r.name r.at_i; at_j = at_front attrs more r.j r.name r.at_j
-    }
+  name = r.name;
+  i = r.i;
+  j = r.j;
+  earlier = r.earlier;
+  at_i = at_front attrs more r.i r.name r.at_i;
+  at_j = at_front attrs more r.j r.name r.at_j;
+}
 
 repeat_last : (attrs : List WrittenAttr) (a : WrittenAttr) → has_name a.name.now attrs ≡ true → HasRepeat (map written_of (attrs ++ a ∷ []))
 repeat_last attrs a e =
@@ -170,8 +175,14 @@ value_utf8 attrs i d h lt = (utf8_at attrs i d h lt).1
 
 any_at : (P : Written → Type 0) (attrs : List WrittenAttr) (i : ℕ) (d : WrittenAttr) → i < length attrs → P (written_of (get_or attrs i d)) →
     Any P (map written_of attrs)
-any_at P attrs i d lt h = (i, written_of (get_or attrs i d), subst (λ (n : ℕ). i < n) (sym (length-map attrs written_of)) lt, get_or-map written_of attrs i d
-    (written_of (get_or attrs i d)) lt, h)
+any_at P attrs i d lt h = (
+  i,
+  written_of (get_or attrs i d),
+  subst (λ (n : ℕ). i < n) (sym (length-map attrs written_of)) lt,
+  get_or-map written_of attrs i d
+      (written_of (get_or attrs i d)) lt,
+  h,
+)
 
 pub value_fault : (attrs : List WrittenAttr) (i : ℕ) (d : WrittenAttr) (e : ItemFault) → i < length attrs → IsValueFault (get_or attrs i d).value.now e →
     IsAttrsFault (map written_of attrs) e

@@ -62,7 +62,7 @@ bracket_takes k c [] x rest e = absurd cc
 bracket_takes k c (b ∷ bytes) x rest e = choose (begins_with (k ∷ c) (b ∷ bytes)) refl e (bracket_takes k c bytes x rest)
   where
     choose : (v : Bool) → begins_with (k ∷ c) (b ∷ bytes) ≡ v → cond {A = Option (List ℕ)} v (Some (drop (length (k ∷ c)) (b ∷ bytes)))
-    (past_first (k ∷ c) bytes) ≡ Some rest
+        (past_first (k ∷ c) bytes) ≡ Some rest
         → (past_first (k ∷ c) bytes ≡ Some rest → Taken (UpToFirst (k ∷ c)) bytes x rest) → Taken (UpToFirst (k ∷ c)) (b ∷ bytes) x rest
     choose true p h ih =
         let r : drop (length (k ∷ c)) (b ∷ bytes) ≡ rest = cc in
@@ -81,7 +81,7 @@ bracket_takes k c (b ∷ bytes) x rest e = choose (begins_with (k ∷ c) (b ∷ 
         }
       where
         first : (t : Taken (UpToFirst (k ∷ c)) bytes x rest) → b ∷ bytes ≡ (b ∷ (t.is.inner ++ k ∷ c)) ++ rest → (before after : List ℕ) →
-        b ∷ (t.is.inner ++ k ∷ c) ≡ before ++ ((k ∷ c) ++ after) → after ≡ []
+            b ∷ (t.is.inner ++ k ∷ c) ≡ before ++ ((k ∷ c) ++ after) → after ≡ []
         first t whole [] after q =
             let e : b ∷ bytes ≡ (k ∷ c) ++ (after ++ rest) = whole ∙ ap (λ (u : List ℕ). u ++ rest) q ∙ append_assoc (k ∷ c) after rest in
             absurd (both_ways (begins_with (k ∷ c) (b ∷ bytes)) p (ap (begins_with (k ∷ c)) e ∙ begins-append (k ∷ c) (after ++ rest)))
@@ -111,7 +111,7 @@ bracket_cut x k c (b ∷ bytes) tail l e = choose (begins_with (k ∷ c) (b ∷ 
     more = (k ∷ c) ++ tail
 
     choose : (v : Bool) → begins_with (k ∷ c) (b ∷ bytes) ≡ v → cond {A = Option (List ℕ)} v (Some (drop (length (k ∷ c)) (b ∷ bytes)))
-    (past_first (k ∷ c) bytes) ≡ None
+        (past_first (k ∷ c) bytes) ≡ None
         → (past_first (k ∷ c) bytes ≡ None → past_first (k ∷ c) (bytes ++ (x ∷ ((k ∷ c) ++ tail))) ≡ Some tail) →
         past_first (k ∷ c) (b ∷ (bytes ++ (x ∷ ((k ∷ c) ++ tail)))) ≡ Some tail
     choose true p h ih = absurd cc

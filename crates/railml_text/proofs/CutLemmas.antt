@@ -209,9 +209,15 @@ pub Cuts-push : (first : Bool) (at : ℕ) (bytes : List ℕ) (items : List Place
 Cuts-push first at bytes [] rest place kind after next h p s n =
     let here : place ≡ at = omega (arith, p, ap length h) in
     (next, after, here, subst (λ (u : List ℕ). HasSoundItem first u kind after) (sym h) s, omega (arith, n, p), refl)
-Cuts-push first at bytes (i ∷ items) rest place kind after next h p s n =
-    (h.0, h.1, h.2, h.3, h.4, Cuts-push false h.0 h.1 items rest place kind after next h.5 (omega (arith, p, h.4))
-    (subst (λ (v : Bool). HasSoundItem v rest kind after) (sym (first_after-false items)) s) n)
+Cuts-push first at bytes (i ∷ items) rest place kind after next h p s n = (
+  h.0,
+  h.1,
+  h.2,
+  h.3,
+  h.4,
+  Cuts-push false h.0 h.1 items rest place kind after next h.5 (omega (arith, p, h.4))
+      (subst (λ (v : Bool). HasSoundItem v rest kind after) (sym (first_after-false items)) s) n,
+)
 
 -- one more item of a file
 pub ComesTo-push : (bytes : List ℕ) (items : List Placed) (at : ℕ) (rest : List ℕ) (kind : ItemKind) (after : List ℕ) (next : ℕ) → ComesTo bytes items at rest →
@@ -219,7 +225,7 @@ pub ComesTo-push : (bytes : List ℕ) (items : List Placed) (at : ℕ) (rest : L
     → HasSoundItem (is_first items) rest kind after → next + length after ≡ length bytes → ComesTo bytes (items ++ placed at kind ∷ []) next after
 ComesTo-push bytes items at rest kind after next h w s n = record {
   cut = Cuts-push true (start_of bytes) (drop (start_of bytes) bytes) items rest at kind after next h.cut
-  (omega (arith, h.place, length-drop (start_of bytes) bytes, w))
+      (omega (arith, h.place, length-drop (start_of bytes) bytes, w))
       (subst (λ (v : Bool). HasSoundItem v rest kind after) (sym (first_after-is_first items)) s) (omega (arith, n, h.place));
   place = n;
 }
@@ -253,7 +259,7 @@ start_boundary bytes u = cases (starts_with nat_eq bytes byte_order_mark) refl
   where
     cases : (v : Bool) → starts_with nat_eq bytes byte_order_mark ≡ v → IsCharBoundary bytes (cond v 3 0)
     cases true e = IsCharBoundary-at_seam bytes byte_order_mark (drop 3 bytes) (mark_parts bytes e)
-    (IsUtf8-past_char bytes (drop 3 bytes) 65279 u (mark_parts bytes e))
+        (IsUtf8-past_char bytes (drop 3 bytes) 65279 u (mark_parts bytes e))
     cases false e = IsCharBoundary-start bytes u
 
 pub ComesTo-none : (bytes : List ℕ) → ComesTo bytes [] (start_of bytes) (drop (start_of bytes) bytes)

@@ -62,7 +62,9 @@ Law-same l to from says said = record {
   more = λ bytes x rest after h. to (bytes ++ after) (Ok (x, rest ++ after)) (l.more bytes x rest after (from bytes (Ok (x, rest)) h));
   bad = λ bytes after h. to (bytes ++ after) (Err Bad) (l.bad bytes after (from bytes (Err Bad) h));
   cut = λ bytes h. let c = l.cut bytes (from bytes (Err Cut) h) in record {
-  more = c.more; read = c.read; whole = λ tail f. to (bytes ++ (c.more ++ tail)) (Ok (c.read, tail)) (c.whole tail f)
+    more = c.more;
+    read = c.read;
+    whole = λ tail f. to (bytes ++ (c.more ++ tail)) (Ok (c.read, tail)) (c.whole tail f);
   };
   once = λ bytes r s h k. l.once bytes r s (from bytes r h) (from bytes s k);
 }
@@ -142,10 +144,19 @@ pub record SomeText {Y : Type 0} (Js : List ℕ → Y → Type 0) : Type 0 where
 pub SomeText-turn : {X Y Z : Type 0} (h : X → Y → Z) {Is : List ℕ → X → Type 0} {Js : List ℕ → Y → Type 0} → SomeText Is → SomeText Js →
     SomeText (TurnText h Is Js)
 SomeText-turn h s t = record {
-    text = s.text ++ t.text; read = h s.read t.read; is = record {
-    a = s.text; b = t.text; x = s.read; y = t.read; is_a = s.is; is_b = t.is; parts = refl; made = refl
-    }
-    }
+  text = s.text ++ t.text;
+  read = h s.read t.read;
+  is = record {
+    a = s.text;
+    b = t.text;
+    x = s.read;
+    y = t.read;
+    is_a = s.is;
+    is_b = t.is;
+    parts = refl;
+    made = refl;
+  };
+}
 
 pub Law-turn : {X Y Z : Type 0} (h : X → Y → Z) (f : List ℕ → Read X) (S : List ℕ → Read Y → Type 0) {Is : List ℕ → X → Type 0} {Js : List ℕ → Y → Type 0}
     {F G : List ℕ → Type 0}
@@ -181,10 +192,10 @@ Law-turn {X = X} {Y = Y} {Z = Z} h f S {Is = Is} {Js = Js} {F = F} {G = G} lf ls
         along (text ++ rest) (Ok (t.x, t.b ++ rest)) (Ok (z, rest)) e (t.y, ls.again t.b t.y rest t.is_b g, t.made)
 
     more : (bytes : List ℕ) (z : Z) (rest after : List ℕ) (r : Read X) → f bytes ≡ r → InTurn h r S (Ok (z, rest)) →
-    InTurn h (f (bytes ++ after)) S (Ok (z, rest ++ after))
+        InTurn h (f (bytes ++ after)) S (Ok (z, rest ++ after))
     more bytes z rest after (Err m) e t = absurd cc
     more bytes z rest after (Ok x) e t = along (bytes ++ after) (Ok (x.0, x.1 ++ after)) (Ok (z, rest ++ after)) (lf.more bytes x.0 x.1 after e)
-    (t.0, ls.more x.1 t.0 rest after t.1, t.2)
+        (t.0, ls.more x.1 t.0 rest after t.1, t.2)
 
     bad : (bytes after : List ℕ) (r : Read X) → f bytes ≡ r → InTurn h r S (Err Bad) → InTurn h (f (bytes ++ after)) S (Err Bad)
     bad bytes after (Err m) e t =
@@ -216,7 +227,7 @@ Law-turn {X = X} {Y = Y} {Z = Z} h f S {Is = Is} {Js = Js} {F = F} {G = G} lf ls
           more = c.more;
           read = h x.0 c.read;
           whole = λ tail g. along (bytes ++ (c.more ++ tail)) (Ok (x.0, x.1 ++ (c.more ++ tail))) (Ok (h x.0 c.read, tail))
-          (lf.more bytes x.0 x.1 (c.more ++ tail) e) (c.read, c.whole tail g, refl);
+              (lf.more bytes x.0 x.1 (c.more ++ tail) e) (c.read, c.whole tail g, refl);
         }
 
     once : (q : Read X) (r s : Read Z) → InTurn h q S r → InTurn h q S s → r ≡ s
@@ -281,11 +292,15 @@ Law-gap {X = X} f {Is = Is} {F = F} l none begins = record {
       record {
         text = front is_blank bytes ++ t.text;
         is = record {
-        blanks = front is_blank bytes; thing = t.text; blank = front_passes is_blank bytes; is = subst (λ (v : Bool). Is v t.text x) (blank-front bytes) t.is;
-        parts = refl
+          blanks = front is_blank bytes;
+          thing = t.text;
+          blank = front_passes is_blank bytes;
+          is = subst (λ (v : Bool). Is v t.text x) (blank-front bytes)
+              t.is;
+          parts = refl;
         };
         parts = sym (front-past is_blank bytes) ∙ ap (λ (u : List ℕ). front is_blank bytes ++ u) t.parts
-        ∙ sym (append_assoc (front is_blank bytes) t.text rest);
+            ∙ sym (append_assoc (front is_blank bytes) t.text rest);
       };
   again = λ text x rest t g.
       let n = begins (begins_blank t.blanks) t.thing x t.is in
@@ -296,7 +311,7 @@ Law-gap {X = X} f {Is = Is} {F = F} l none begins = record {
       (ap (past is_blank) whole ∙ past_run is_blank t.blanks n.head (n.tail ++ rest) t.blank n.no_blank ∙ ap (λ (u : List ℕ). u ++ rest) (sym n.parts))
       ((l (begins_blank t.blanks)).again t.thing x rest t.is g);
   more = λ bytes x rest after e. more bytes after (Ok (x, rest)) (Ok (x, rest ++ after)) (past is_blank bytes) refl e (λ h. cc)
-  (λ c r h. (l (begins_blank bytes)).more (c ∷ r) x rest after h);
+      (λ c r h. (l (begins_blank bytes)).more (c ∷ r) x rest after h);
   bad = λ bytes after e. more bytes after (Err Bad) (Err Bad) (past is_blank bytes) refl e (λ h. cc) (λ c r h. (l (begins_blank bytes)).bad (c ∷ r) after h);
   cut = λ bytes e. cut bytes (past is_blank bytes) refl e;
   once = λ bytes r s e k. sym e ∙ k;
@@ -306,11 +321,11 @@ Law-gap {X = X} f {Is = Is} {F = F} l none begins = record {
     at bytes v rest r p q e = ap (λ (w : Bool). f w (past is_blank bytes)) p ∙ ap (f v) q ∙ e
 
     more : (bytes after : List ℕ) (r s : Read X) (p : List ℕ) → past is_blank bytes ≡ p → f (begins_blank bytes) (past is_blank bytes) ≡ r → (Err Cut ≡ r → ⊥) →
-    ((c : ℕ) (t : List ℕ) → f (begins_blank bytes) (c ∷ t) ≡ r → f (begins_blank bytes) (c ∷ (t ++ after)) ≡ s)
+        ((c : ℕ) (t : List ℕ) → f (begins_blank bytes) (c ∷ t) ≡ r → f (begins_blank bytes) (c ∷ (t ++ after)) ≡ s)
         → past_gap f (bytes ++ after) ≡ s
     more bytes after r s [] e k never go = absurd (never (sym (none (begins_blank bytes)) ∙ ap (f (begins_blank bytes)) (sym e) ∙ k))
     more bytes after r s (c ∷ t) e k never go = at (bytes ++ after) (begins_blank bytes) (c ∷ (t ++ after)) s (blank-more bytes c t after e)
-    (past_more is_blank bytes c t after e) (go c t (ap (f (begins_blank bytes)) (sym e) ∙ k))
+        (past_more is_blank bytes c t after e) (go c t (ap (f (begins_blank bytes)) (sym e) ∙ k))
 
     flag : (bytes : List ℕ) (c : ℕ) (rest : List ℕ) → is_blank c ≡ false → begins_blank (bytes ++ c ∷ rest) ≡ begins_blank bytes
     flag bytes c rest n = blank-run bytes c rest n
@@ -338,7 +353,7 @@ Law-gap {X = X} f {Is = Is} {F = F} l none begins = record {
           more = c.more;
           read = c.read;
           whole = λ tail g. at (bytes ++ (c.more ++ tail)) v (b ∷ (r ++ (c.more ++ tail))) (Ok (c.read, tail)) (blank-more bytes b r (c.more ++ tail) e)
-          (past_more is_blank bytes b r (c.more ++ tail) e) (c.whole tail g);
+              (past_more is_blank bytes b r (c.more ++ tail) e) (c.whole tail g);
         }
 
 -- ---- by the first byte
@@ -378,9 +393,13 @@ Law-ByFirst {X = X} c R S {Is = Is} {Js = Js} {F = F} lr ls some others = record
         choose true e k =
             let t = lr.takes bytes x rest k in
             record {
-            text = c ∷ t.text; is = inl (record {
-            thing = t.text; is = t.is; parts = refl
-            }); parts = ap (λ (d : ℕ). d ∷ bytes) (same_if_eq b c e) ∙ ap (λ (u : List ℕ). c ∷ u) t.parts
+              text = c ∷ t.text;
+              is = inl (record {
+                thing = t.text;
+                is = t.is;
+                parts = refl;
+              });
+              parts = ap (λ (d : ℕ). d ∷ bytes) (same_if_eq b c e) ∙ ap (λ (u : List ℕ). c ∷ u) t.parts;
             }
         choose false e k = let t = ls.takes (b ∷ bytes) x rest k in record { text = t.text; is = inr t.is; parts = t.parts }
 
@@ -392,7 +411,7 @@ Law-ByFirst {X = X} c R S {Is = Is} {Js = Js} {F = F} lr ls some others = record
 
     again : (text : List ℕ) (x : X) (rest : List ℕ) → FirstText c Is Js text x → F rest → ByFirst c R S (text ++ rest) (Ok (x, rest))
     again text x rest (inl t) f = subst (λ (u : List ℕ). ByFirst c R S (u ++ rest) (Ok (x, rest))) (sym t.parts)
-    (first_to (t.thing ++ rest) (Ok (x, rest)) (lr.again t.thing x rest t.is f))
+        (first_to (t.thing ++ rest) (Ok (x, rest)) (lr.again t.thing x rest t.is f))
     again text x rest (inr j) f =
         let o = others text x j in
         let k = subst (λ (u : List ℕ). S (u ++ rest) (Ok (x, rest))) o.parts (ls.again text x rest j f) in
@@ -403,7 +422,7 @@ Law-ByFirst {X = X} c R S {Is = Is} {Js = Js} {F = F} lr ls some others = record
     more (b ∷ bytes) x rest after h = choose (b == c) h
       where
         choose : (v : Bool) → MatchBool v (R bytes (Ok (x, rest))) (S (b ∷ bytes) (Ok (x, rest))) →
-        MatchBool v (R (bytes ++ after) (Ok (x, rest ++ after))) (S (b ∷ (bytes ++ after)) (Ok (x, rest ++ after)))
+            MatchBool v (R (bytes ++ after) (Ok (x, rest ++ after))) (S (b ∷ (bytes ++ after)) (Ok (x, rest ++ after)))
         choose true k = lr.more bytes x rest after k
         choose false k = ls.more (b ∷ bytes) x rest after k
 
@@ -412,13 +431,16 @@ Law-ByFirst {X = X} c R S {Is = Is} {Js = Js} {F = F} lr ls some others = record
     bad (b ∷ bytes) after h = choose (b == c) h
       where
         choose : (v : Bool) → MatchBool v (R bytes (Err Bad)) (S (b ∷ bytes) (Err Bad)) →
-        MatchBool v (R (bytes ++ after) (Err Bad)) (S (b ∷ (bytes ++ after)) (Err Bad))
+            MatchBool v (R (bytes ++ after) (Err Bad)) (S (b ∷ (bytes ++ after)) (Err Bad))
         choose true k = lr.bad bytes after k
         choose false k = ls.bad (b ∷ bytes) after k
 
     cut : (bytes : List ℕ) → ByFirst c R S bytes (Err Cut) → GoesOn (ByFirst c R S) F bytes
     cut [] h = record {
-    more = c ∷ some.text; read = some.read; whole = λ tail f. first_to (some.text ++ tail) (Ok (some.read, tail)) (lr.again some.text some.read tail some.is f)
+      more = c ∷ some.text;
+      read = some.read;
+      whole = λ tail f. first_to (some.text ++ tail) (Ok (some.read, tail))
+          (lr.again some.text some.read tail some.is f);
     }
     cut (b ∷ bytes) h = choose (b == c) refl h
       where
@@ -429,7 +451,7 @@ Law-ByFirst {X = X} c R S {Is = Is} {Js = Js} {F = F} lr ls some others = record
               more = g.more;
               read = g.read;
               whole = λ tail f. subst (λ (v : Bool). MatchBool v (R (bytes ++ (g.more ++ tail)) (Ok (g.read, tail)))
-              (S (b ∷ (bytes ++ (g.more ++ tail))) (Ok (g.read, tail)))) (sym e) (g.whole tail f);
+                  (S (b ∷ (bytes ++ (g.more ++ tail))) (Ok (g.read, tail)))) (sym e) (g.whole tail f);
             }
         choose false e k =
             let g = ls.cut (b ∷ bytes) k in
@@ -484,14 +506,14 @@ Law-by_class {X = X} class f g {Is = Is} {Js = Js} {F = F} lf lg some inside out
   takes = takes;
   again = again;
   more = λ bytes x rest after e. step bytes after (Ok (x, rest)) (Ok (x, rest ++ after)) e (λ h. cc) (λ k. lf.more bytes x rest after k)
-  (λ k. lg.more bytes x rest after k);
+      (λ k. lg.more bytes x rest after k);
   bad = λ bytes after e. step bytes after (Err Bad) (Err Bad) e (λ h. cc) (λ k. lf.bad bytes after k) (λ k. lg.bad bytes after k);
   cut = cut;
   once = λ bytes r s e k. sym e ∙ k;
 }
   where
     at : (v : Bool) (b : ℕ) (bytes : List ℕ) (r : Read X) → class b ≡ v → cond {A = Read X} v (f (b ∷ bytes)) (g (b ∷ bytes)) ≡ r →
-    by_class class f g (b ∷ bytes) ≡ r
+        by_class class f g (b ∷ bytes) ≡ r
     at v b bytes r e h = ap (λ (w : Bool). cond {A = Read X} w (f (b ∷ bytes)) (g (b ∷ bytes))) e ∙ h
 
     takes : (bytes : List ℕ) (x : X) (rest : List ℕ) → by_class class f g bytes ≡ Ok (x, rest) → Taken (EitherText Is Js) bytes x rest
@@ -503,7 +525,7 @@ Law-by_class {X = X} class f g {Is = Is} {Js = Js} {F = F} lf lg some inside out
         choose false k = let t = lg.takes (b ∷ bytes) x rest k in record { text = t.text; is = inr t.is; parts = t.parts }
 
     begun : (v : Bool) (text rest : List ℕ) (r : Read X) → ClassFirst class v text → cond {A = Read X} v (f (text ++ rest)) (g (text ++ rest)) ≡ r →
-    by_class class f g (text ++ rest) ≡ r
+        by_class class f g (text ++ rest) ≡ r
     begun v text rest r c h =
         let e : text ++ rest ≡ c.head ∷ (c.tail ++ rest) = ap (λ (u : List ℕ). u ++ rest) c.parts in
         ap (by_class class f g) e ∙ at v c.head (c.tail ++ rest) r c.is (ap (λ (u : List ℕ). cond {A = Read X} v (f u) (g u)) (sym e) ∙ h)
@@ -513,12 +535,12 @@ Law-by_class {X = X} class f g {Is = Is} {Js = Js} {F = F} lf lg some inside out
     again text x rest (inr t) h = begun false text rest (Ok (x, rest)) (outside text x t) (lg.again text x rest t h)
 
     step : (bytes after : List ℕ) (r s : Read X) → by_class class f g bytes ≡ r → (Err Cut ≡ r → ⊥) → (f bytes ≡ r → f (bytes ++ after) ≡ s) →
-    (g bytes ≡ r → g (bytes ++ after) ≡ s) → by_class class f g (bytes ++ after) ≡ s
+        (g bytes ≡ r → g (bytes ++ after) ≡ s) → by_class class f g (bytes ++ after) ≡ s
     step [] after r s e never p q = absurd (never e)
     step (b ∷ bytes) after r s e never p q = choose (class b) e
       where
         choose : (v : Bool) → cond {A = Read X} v (f (b ∷ bytes)) (g (b ∷ bytes)) ≡ r →
-        cond {A = Read X} v (f (b ∷ (bytes ++ after))) (g (b ∷ (bytes ++ after))) ≡ s
+            cond {A = Read X} v (f (b ∷ (bytes ++ after))) (g (b ∷ (bytes ++ after))) ≡ s
         choose true k = p k
         choose false k = q k
 
@@ -552,7 +574,7 @@ Law-done {X = X} x = record {
   takes = λ bytes y rest e. record { text = []; is = (refl, sym (done_read x y bytes rest e)); parts = done_rest x y bytes rest e };
   again = λ text y rest t f. ap (λ (u : List ℕ). done x (u ++ rest)) t.0 ∙ ap (λ (v : X). done v rest) (sym t.1);
   more = λ bytes y rest after e. ap (λ (u : List ℕ). done x (u ++ after)) (done_rest x y bytes rest e)
-  ∙ ap (λ (v : X). done v (rest ++ after)) (done_read x y bytes rest e);
+      ∙ ap (λ (v : X). done v (rest ++ after)) (done_read x y bytes rest e);
   bad = λ bytes after e. absurd cc;
   cut = λ bytes e. absurd cc;
   once = λ bytes r s e k. sym e ∙ k;

@@ -71,7 +71,9 @@ Law-bang : Law (graph bang_at) BangText Anything
 Law-bang = Law-by_first 45 comment_at (by_first 91 cdata_at (by_first 68 doctype_at nothing_at)) Law-comment
     (Law-by_first 91 cdata_at (by_first 68 doctype_at nothing_at) Law-cdata
     (Law-by_first 68 doctype_at nothing_at Law-doctype (Law-nothing Anything) (record {
-    text = codes "OCTYPE"; read = doctype; is = record { read = tt; is = refl; made = refl }
+      text = codes "OCTYPE";
+      read = doctype;
+      is = record { read = tt; is = refl; made = refl };
     }) (λ text x n. absurd n))
     (SomeText-turn (λ _ _. item cdata) (SomeText-word (codes "CDATA[")) some_cdata_end) others)
     some_comment more_others
@@ -92,8 +94,11 @@ DeclarationText = TurnText declared (SkipText IsAttr) (TailText Declaration)
 
 attr_no_blank : (text : List ℕ) (attr : Written) → IsAttr text attr → NoBlankFirst text
 attr_no_blank text attr i = let b = attr_begins text attr i in record {
-    head = b.head; tail = b.tail; no_blank = name_no_blank b.head b.begins; parts = b.parts
-    }
+  head = b.head;
+  tail = b.tail;
+  no_blank = name_no_blank b.head b.begins;
+  parts = b.parts;
+}
 
 Law-declaration : Law DeclarationRead DeclarationText Anything
 unfolding attr_at
@@ -175,8 +180,12 @@ thing_begins thing found t = cases t.is_a.blanks refl
     cases [] e =
         let n = attr_no_blank t.is_a.thing t.x t.is_a.is in
         (n.head, n.tail ++ t.b, t.parts ∙ ap (λ (u : List ℕ). u ++ t.b) (t.is_a.parts ∙ ap (λ (u : List ℕ). u ++ t.is_a.thing) e ∙ n.parts))
-    cases (c ∷ blanks) e = (c, (blanks ++ t.is_a.thing) ++ t.b, t.parts ∙ ap (λ (u : List ℕ). u ++ t.b)
-    (t.is_a.parts ∙ ap (λ (u : List ℕ). u ++ t.is_a.thing) e))
+    cases (c ∷ blanks) e = (
+      c,
+      (blanks ++ t.is_a.thing) ++ t.b,
+      t.parts ∙ ap (λ (u : List ℕ). u ++ t.b)
+          (t.is_a.parts ∙ ap (λ (u : List ℕ). u ++ t.is_a.thing) e),
+    )
 
 Law-instruction : Law (graph instruction_at) (MappedText (λ _. item instruction) (UpToFirst (codes "?>"))) Anything
 unfolding instruction_at
@@ -207,12 +216,12 @@ Law-question first = record {
   where
     -- by whether the bytes are taken for a declaration
     at : (bytes : List ℕ) (r : Read Found) (v : Bool) → (first && goes_on_xml bytes) ≡ v →
-    MatchBool v (DeclarationRead (drop 3 bytes) r) (instruction_at bytes ≡ r) → QuestionRead first bytes r
+        MatchBool v (DeclarationRead (drop 3 bytes) r) (instruction_at bytes ≡ r) → QuestionRead first bytes r
     at bytes r v e h = subst (λ (w : Bool). MatchBool w (DeclarationRead (drop 3 bytes) r) (instruction_at bytes ≡ r)) (sym e) h
 
     -- the other way: what a reading is in either case
     of : (bytes : List ℕ) (r : Read Found) (v : Bool) → (first && goes_on_xml bytes) ≡ v → QuestionRead first bytes r →
-    MatchBool v (DeclarationRead (drop 3 bytes) r) (instruction_at bytes ≡ r)
+        MatchBool v (DeclarationRead (drop 3 bytes) r) (instruction_at bytes ≡ r)
     of bytes r v e h = subst (λ (w : Bool). MatchBool w (DeclarationRead (drop 3 bytes) r) (instruction_at bytes ≡ r)) e h
 
     as_xml : (bytes : List ℕ) (r : Read Found) → first ≡ true → BeginsXml bytes → DeclarationRead (drop 3 bytes) r → QuestionRead first bytes r
@@ -223,10 +232,10 @@ Law-question first = record {
 
     as_other : (bytes : List ℕ) (r : Read Found) → (first ≡ true → BeginsXml bytes → ⊥) → instruction_at bytes ≡ r → QuestionRead first bytes r
     as_other bytes r never h = at bytes r false (false_from_ne_true (first && goes_on_xml bytes)
-    (λ e. let b = and_parts first (goes_on_xml bytes) e in never b.0 (xml_begins bytes b.1))) h
+        (λ e. let b = and_parts first (goes_on_xml bytes) e in never b.0 (xml_begins bytes b.1))) h
 
     takes_xml : (bytes : List ℕ) (x : Found) (rest : List ℕ) → first ≡ true → BeginsXml bytes → DeclarationRead (drop 3 bytes) (Ok (x, rest)) →
-    Taken (QuestionText first) bytes x rest
+        Taken (QuestionText first) bytes x rest
     takes_xml bytes x rest f b h =
         let t = Law-declaration.takes (drop 3 bytes) x rest h in
         let n = thing_begins t.text x t.is in
@@ -265,7 +274,9 @@ Law-question first = record {
         (subst (λ (u : List ℕ). DeclarationRead u (Ok (x, rest))) dropped (Law-declaration.again t.thing x rest t.is f))
     again text x rest (inr t) f =
         as_other (text ++ rest) (Ok (x, rest)) (λ e b. t.no_xml e (within b)) (Law-instruction.again text x rest (record {
-        read = tt; is = t.up_to; made = t.is
+          read = tt;
+          is = t.up_to;
+          made = t.is;
         }) f)
       where
         -- the closing stands behind `xml` and the white space
@@ -394,8 +405,10 @@ slash_others text found (inr (inr t)) = start_others 63 refl text found t
 
 some_bang : SomeText BangText
 some_bang = record {
-    text = 45 ∷ some_comment.text; read = some_comment.read; is = inl (record { thing = some_comment.text; is = some_comment.is; parts = refl })
-    }
+  text = 45 ∷ some_comment.text;
+  read = some_comment.read;
+  is = inl (record { thing = some_comment.text; is = some_comment.is; parts = refl });
+}
 
 -- `a>`
 some_closing_tag : SomeText ClosingTagText
@@ -409,8 +422,10 @@ some_closing_tag = record {
 some_question : (first : Bool) → SomeText (QuestionText first)
 unfolding instruction_at
 some_question first = let t = (Law-question first).takes (codes "?>") (item instruction) [] (reads first) in record {
-    text = t.text; read = item instruction; is = t.is
-    }
+  text = t.text;
+  read = item instruction;
+  is = t.is;
+}
   where
     ends : instruction_at (codes "?>") ≡ Ok (item instruction, [])
     ends = refl

@@ -158,7 +158,10 @@ cut_front first bytes h = cases g.read t.is
 
     cases : (found : Found) → IsFound first t.text found → IsFront first (60 ∷ bytes)
     cases (item shape) i = inl (record {
-    text = 60 ∷ t.text; shape = shape; is = i; front = record { more = g.more; some = some; parts = ap (λ (u : List ℕ). 60 ∷ u) parts }
+      text = 60 ∷ t.text;
+      shape = shape;
+      is = i;
+      front = record { more = g.more; some = some; parts = ap (λ (u : List ℕ). 60 ∷ u) parts };
     })
     cases doctype i = inr (record { more = g.more; some = some; parts = sym i ∙ ap (λ (u : List ℕ). 60 ∷ u) parts })
 

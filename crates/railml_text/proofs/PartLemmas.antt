@@ -97,8 +97,11 @@ after_name (attr ∷ attrs) between blanks empty rest h b = gap h.0 h.3 h.4 refl
     gap : (g : List ℕ) → g ≢ [] → AreBlanks g → h.0 ≡ g → AsciiFirst (between ++ last)
     gap [] n k e = absurd (n refl)
     gap (c ∷ g) n k e = record {
-    head = c; tail = g ++ (h.1 ++ (h.2 ++ last)); small = blank_ascii c k.0; parts = attrs_text between h.0 h.1 h.2 last h.7
-    ∙ ap (λ (t : List ℕ). t ++ (h.1 ++ (h.2 ++ last))) e
+      head = c;
+      tail = g ++ (h.1 ++ (h.2 ++ last));
+      small = blank_ascii c k.0;
+      parts = attrs_text between h.0 h.1 h.2 last h.7
+          ∙ ap (λ (t : List ℕ). t ++ (h.1 ++ (h.2 ++ last))) e;
     }
 
 start_utf8 : (text name : List ℕ) (attrs : List Written) (empty : Bool) (rest : List ℕ) → IsStartTag text name attrs empty → IsUtf8 (text ++ rest) →
@@ -187,7 +190,7 @@ after_utf8 first rest shape after h u = by_sort (sort_of shape)
     by_sort : Sort shape → IsUtf8 after
     by_sort (inl m) = after_last rest h.text after (item_last first h.text shape m h.is) h.parts u
     by_sort (inr (inl r)) = let i = subst (λ (s : Shape). HasItem first rest s after) r h in after_last rest i.text after (reference_last i.text i.is.0 i.is.1)
-    i.parts u
+        i.parts u
     by_sort (inr (inr c)) = let i = subst (λ (s : Shape). HasItem first rest s after) c.1 h in after_chars i.text after rest c.0 i.longest i.parts u
 
 -- an item has a byte or more
@@ -204,5 +207,5 @@ item_some first rest shape after h = by_sort (sort_of shape)
     by_sort : Sort shape → length after < length rest
     by_sort (inl m) = let t = markup_first first h.text shape m h.is in longer h.text 60 t.0 t.1 h.parts
     by_sort (inr (inl r)) = let i = subst (λ (s : Shape). HasItem first rest s after) r h in let s = reference_shape i.text i.is.0 i.is.1 in longer i.text 38
-    (s.inner ++ 59 ∷ []) s.spelled i.parts
+        (s.inner ++ 59 ∷ []) s.spelled i.parts
     by_sort (inr (inr c)) = let i = subst (λ (s : Shape). HasItem first rest s after) c.1 h in some i.text i.is.0.some i.parts

@@ -22,7 +22,7 @@ word_takes (c ∷ word) [] x rest e = absurd cc
 word_takes (c ∷ word) (b ∷ bytes) x rest e = choose (b == c) refl e (word_takes word bytes x rest)
   where
     choose : (v : Bool) → (b == c) ≡ v → cond {A = Read ⊤} v (word_at word bytes) (Err Bad) ≡ Ok (x, rest) →
-    (word_at word bytes ≡ Ok (x, rest) → bytes ≡ word ++ rest) → b ∷ bytes ≡ c ∷ (word ++ rest)
+        (word_at word bytes ≡ Ok (x, rest) → bytes ≡ word ++ rest) → b ∷ bytes ≡ c ∷ (word ++ rest)
     choose true p h ih = ap (λ (d : ℕ). d ∷ bytes) (same_if_eq b c p) ∙ ap (λ (u : List ℕ). c ∷ u) (ih h)
     choose false p h ih = absurd cc
 
@@ -36,7 +36,7 @@ word_bad (c ∷ word) [] after e = absurd cc
 word_bad (c ∷ word) (b ∷ bytes) after e = choose (b == c) e (word_bad word bytes after)
   where
     choose : (v : Bool) → cond {A = Read ⊤} v (word_at word bytes) (Err Bad) ≡ Err Bad →
-    (word_at word bytes ≡ Err Bad → word_at word (bytes ++ after) ≡ Err Bad) → cond {A = Read ⊤} v (word_at word (bytes ++ after)) (Err Bad) ≡ Err Bad
+        (word_at word bytes ≡ Err Bad → word_at word (bytes ++ after) ≡ Err Bad) → cond {A = Read ⊤} v (word_at word (bytes ++ after)) (Err Bad) ≡ Err Bad
     choose true h ih = ih h
     choose false h ih = refl
 
@@ -46,7 +46,7 @@ word_cut (c ∷ word) [] e = record { more = c ∷ word; read = tt; whole = λ t
 word_cut (c ∷ word) (b ∷ bytes) e = choose (b == c) refl e (word_cut word bytes)
   where
     choose : (v : Bool) → (b == c) ≡ v → cond {A = Read ⊤} v (word_at word bytes) (Err Bad) ≡ Err Cut →
-    (word_at word bytes ≡ Err Cut → GoesOn (graph (word_at word)) Anything bytes) → GoesOn (graph (word_at (c ∷ word))) Anything (b ∷ bytes)
+        (word_at word bytes ≡ Err Cut → GoesOn (graph (word_at word)) Anything bytes) → GoesOn (graph (word_at (c ∷ word))) Anything (b ∷ bytes)
     choose true p h ih = let g = ih h in record { more = g.more; read = g.read; whole = λ tail f. rw p (g.whole tail f) }
     choose false p h ih = absurd cc
 
@@ -55,7 +55,7 @@ Law-word word = record {
   takes = λ bytes x rest e. record { text = word; is = refl; parts = word_takes word bytes x rest e };
   again = λ text x rest t f. ap (λ (u : List ℕ). word_at word (u ++ rest)) t ∙ word_again word rest;
   more = λ bytes x rest after e. ap (λ (u : List ℕ). word_at word (u ++ after)) (word_takes word bytes x rest e)
-  ∙ ap (word_at word) (append_assoc word rest after) ∙ word_again word (rest ++ after);
+      ∙ ap (word_at word) (append_assoc word rest after) ∙ word_again word (rest ++ after);
   bad = word_bad word;
   cut = word_cut word;
   once = λ bytes r s e k. sym e ∙ k;
@@ -97,7 +97,7 @@ name_whole : (b : ℕ) (bytes name rest : List ℕ) → name_at (b ∷ bytes) �
 name_whole b bytes name rest e = choose (begins_name b) refl (past goes_on_name bytes) refl e
   where
     choose : (v : Bool) → begins_name b ≡ v → (p : List ℕ) → past goes_on_name bytes ≡ p →
-    cond {A = Read (List ℕ)} v (ended (b ∷ front goes_on_name bytes) p) (Err Bad) ≡ Ok (name, rest) → IsWhole b bytes name rest
+        cond {A = Read (List ℕ)} v (ended (b ∷ front goes_on_name bytes) p) (Err Bad) ≡ Ok (name, rest) → IsWhole b bytes name rest
     choose true h [] p k = absurd cc
     choose true h (c ∷ r) p k = record {
       head = c;
@@ -117,7 +117,7 @@ name_takes (b ∷ bytes) name rest e =
       text = name;
       is = record { same = refl; named = subst IsXmlName w.is_name (w.begins, front_passes goes_on_name bytes) };
       parts = ap (λ (u : List ℕ). b ∷ u) (sym (front-past goes_on_name bytes)) ∙ ap (λ (u : List ℕ). b ∷ (front goes_on_name bytes ++ u)) (w.ends ∙ w.is_rest)
-      ∙ ap (λ (u : List ℕ). u ++ rest) w.is_name;
+          ∙ ap (λ (u : List ℕ). u ++ rest) w.is_name;
     }
 
 name_more : (bytes name rest after : List ℕ) → name_at bytes ≡ Ok (name, rest) → name_at (bytes ++ after) ≡ Ok (name, rest ++ after)
@@ -142,7 +142,7 @@ name_cut [] e = record { more = 97 ∷ []; read = 97 ∷ []; whole = λ tail f. 
 name_cut (b ∷ bytes) e = choose (begins_name b) refl (past goes_on_name bytes) refl e
   where
     choose : (v : Bool) → begins_name b ≡ v → (p : List ℕ) → past goes_on_name bytes ≡ p →
-    cond {A = Read (List ℕ)} v (ended (b ∷ front goes_on_name bytes) p) (Err Bad) ≡ Err Cut → GoesOn (graph name_at) EndsName (b ∷ bytes)
+        cond {A = Read (List ℕ)} v (ended (b ∷ front goes_on_name bytes) p) (Err Bad) ≡ Err Cut → GoesOn (graph name_at) EndsName (b ∷ bytes)
     choose true h [] p k = record { more = []; read = b ∷ bytes; whole = λ tail f. name_again (b ∷ bytes) tail (h, passes_all goes_on_name bytes p) f }
     choose true h (c ∷ r) p k = absurd cc
     choose false h p q k = absurd cc
@@ -179,12 +179,12 @@ value_closed : (quote : ℕ) (bytes value rest : List ℕ) → value_at quote by
 value_closed quote bytes value rest e = cases (past (is_in_value quote) bytes) refl e
   where
     cases : (p : List ℕ) → past (is_in_value quote) bytes ≡ p → closed_value quote (front (is_in_value quote) bytes) p ≡ Ok (value, rest) →
-    IsClosed quote bytes value rest
+        IsClosed quote bytes value rest
     cases [] p k = absurd cc
     cases (c ∷ r) p k = choose (c == quote) refl k
       where
         choose : (v : Bool) → (c == quote) ≡ v → cond {A = Read (List ℕ)} v (Ok (front (is_in_value quote) bytes, r)) (Err Bad) ≡ Ok (value, rest) →
-        IsClosed quote bytes value rest
+            IsClosed quote bytes value rest
         choose true h q = record {
           ends = p ∙ ap (λ (d : ℕ). d ∷ r) (same_if_eq c quote h) ∙ ap (λ (u : List ℕ). quote ∷ u) (done_rest (front (is_in_value quote) bytes) value r rest q);
           is_value = done_read (front (is_in_value quote) bytes) value r rest q;
@@ -198,14 +198,14 @@ value_takes quote bytes value rest e =
       text = value ++ quote ∷ [];
       is = record { within = subst (AllOfClass (is_in_value quote)) c.is_value (front_passes (is_in_value quote) bytes); parts = refl };
       parts = sym (front-past (is_in_value quote) bytes) ∙ ap (λ (u : List ℕ). front (is_in_value quote) bytes ++ u) c.ends
-      ∙ ap (λ (u : List ℕ). u ++ quote ∷ rest) c.is_value ∙ sym (append_assoc value (quote ∷ []) rest);
+          ∙ ap (λ (u : List ℕ). u ++ quote ∷ rest) c.is_value ∙ sym (append_assoc value (quote ∷ []) rest);
     }
 
 value_bad : (quote : ℕ) (bytes after : List ℕ) → value_at quote bytes ≡ Err Bad → value_at quote (bytes ++ after) ≡ Err Bad
 value_bad quote bytes after e = cases (past (is_in_value quote) bytes) refl e
   where
     cases : (p : List ℕ) → past (is_in_value quote) bytes ≡ p → closed_value quote (front (is_in_value quote) bytes) p ≡ Err Bad →
-    value_at quote (bytes ++ after) ≡ Err Bad
+        value_at quote (bytes ++ after) ≡ Err Bad
     cases [] p k = absurd cc
     cases (c ∷ r) p k = rw (past_more (is_in_value quote) bytes c r after p) (choose (c == quote) k)
       where
@@ -218,12 +218,12 @@ value_cut : (quote : ℕ) (bytes : List ℕ) → value_at quote bytes ≡ Err Cu
 value_cut quote bytes e = cases (past (is_in_value quote) bytes) refl e
   where
     cases : (p : List ℕ) → past (is_in_value quote) bytes ≡ p → closed_value quote (front (is_in_value quote) bytes) p ≡ Err Cut →
-    GoesOn (graph (value_at quote)) Anything bytes
+        GoesOn (graph (value_at quote)) Anything bytes
     cases [] p k = record { more = quote ∷ []; read = bytes; whole = λ tail f. value_again quote bytes tail (passes_all (is_in_value quote) bytes p) }
     cases (c ∷ r) p k = choose (c == quote) k
       where
         choose : (v : Bool) → cond {A = Read (List ℕ)} v (Ok (front (is_in_value quote) bytes, r)) (Err Bad) ≡ Err Cut →
-        GoesOn (graph (value_at quote)) Anything bytes
+            GoesOn (graph (value_at quote)) Anything bytes
         choose true q = absurd cc
         choose false q = absurd cc
 
@@ -242,7 +242,7 @@ Law-value quote = record {
   where
     again : (text value rest : List ℕ) → IsValueText quote text value → Anything rest → value_at quote (text ++ rest) ≡ Ok (value, rest)
     again text value rest t f = ap (λ (u : List ℕ). value_at quote (u ++ rest)) t.parts ∙ ap (value_at quote) (append_assoc value (quote ∷ []) rest)
-    ∙ value_again quote value rest t.within
+        ∙ value_again quote value rest t.within
 
 pub record IsQuoted (text value : List ℕ) : Type 0 where
   pub quote : ℕ
@@ -253,8 +253,11 @@ pub record IsQuoted (text value : List ℕ) : Type 0 where
 quoted_says : (text value : List ℕ) → FirstText 34 (IsValueText 34) (FirstText 39 (IsValueText 39) NoText) text value → IsQuoted text value
 quoted_says text value (inl t) = record { quote = 34; is_quote = inl refl; within = t.is.within; spelled = t.parts ∙ ap (λ (u : List ℕ). 34 ∷ u) t.is.parts }
 quoted_says text value (inr (inl t)) = record {
-    quote = 39; is_quote = inr refl; within = t.is.within; spelled = t.parts ∙ ap (λ (u : List ℕ). 39 ∷ u) t.is.parts
-    }
+  quote = 39;
+  is_quote = inr refl;
+  within = t.is.within;
+  spelled = t.parts ∙ ap (λ (u : List ℕ). 39 ∷ u) t.is.parts;
+}
 quoted_says text value (inr (inr n)) = absurd n
 
 quoted_said : (text value : List ℕ) → IsQuoted text value → FirstText 34 (IsValueText 34) (FirstText 39 (IsValueText 39) NoText) text value
@@ -346,7 +349,7 @@ attr_says text attr t =
       is_quote = quoted.is_quote;
       within = quoted.within;
       spelled = attr_parts text t.a t.b t.x s.a s.b s.y s.is_a.blanks s.is_b.blanks (quoted.quote ∷ []) t.parts t.is_a.same s.parts
-      (s.is_a.parts ∙ ap (λ (u : List ℕ). s.is_a.blanks ++ u) s.is_a.is) (s.is_b.parts ∙ ap (λ (u : List ℕ). s.is_b.blanks ++ u) quoted.spelled);
+          (s.is_a.parts ∙ ap (λ (u : List ℕ). s.is_a.blanks ++ u) s.is_a.is) (s.is_b.parts ∙ ap (λ (u : List ℕ). s.is_b.blanks ++ u) quoted.spelled);
     })
 
 attr_said : (text : List ℕ) (attr : Written) → IsAttr text attr → TurnText written IsNameText EqualsText text attr
@@ -365,9 +368,16 @@ attr_said text attr i =
         y = attr.value;
         is_a = record { blanks = i.before; thing = codes "="; blank = i.blank_before; is = refl; parts = refl };
         is_b = record {
-        blanks = i.after; thing = value; blank = i.blank_after; is = record {
-        quote = i.quote; is_quote = i.is_quote; within = i.within; spelled = refl
-        }; parts = refl
+          blanks = i.after;
+          thing = value;
+          blank = i.blank_after;
+          is = record {
+            quote = i.quote;
+            is_quote = i.is_quote;
+            within = i.within;
+            spelled = refl;
+          };
+          parts = refl;
         };
         parts = refl;
         made = refl;

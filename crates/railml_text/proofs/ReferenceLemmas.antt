@@ -65,7 +65,7 @@ find_takes [] bytes c rest e = absurd cc
 find_takes (entry ∷ table) bytes c rest e = cases (word_at entry.0 bytes) refl e (find_takes table bytes c rest)
   where
     cases : (r : Read ⊤) → word_at entry.0 bytes ≡ r → named_or r entry.1 (find_named table bytes) ≡ Some (c, rest) →
-    (find_named table bytes ≡ Some (c, rest) → TakesNamed table bytes c rest) → TakesNamed (entry ∷ table) bytes c rest
+        (find_named table bytes ≡ Some (c, rest) → TakesNamed table bytes c rest) → TakesNamed (entry ∷ table) bytes c rest
     cases (Ok x) h k ih =
         let t = (Law-word entry.0).takes bytes x.0 x.1 h in
         let character : entry.1 ≡ c = found_value entry.1 c x.1 rest k in
@@ -134,7 +134,7 @@ number_takes base bytes c rest e = counted (nat_le 1 (length digits) && nat_le (
     n = digits_value base digits
 
     character : (tail : List ℕ) → past (digit base) bytes ≡ 59 ∷ tail → (v : Bool) → (scalar n && not (n == 0)) ≡ v →
-    cond {A = Option (ℕ × List ℕ)} v (Some (n, tail)) None ≡ Some (c, rest)
+        cond {A = Option (ℕ × List ℕ)} v (Some (n, tail)) None ≡ Some (c, rest)
         → (1 ≤ length digits) × (length digits ≤ 8) → TakesNumber base bytes c rest
     character tail p true q k counts =
         let b = and_parts (scalar n) (not (n == 0)) q in
@@ -153,7 +153,7 @@ number_takes base bytes c rest e = counted (nat_le 1 (length digits) && nat_le (
     character tail p false q k counts = absurd cc
 
     ended : (p : List ℕ) → past (digit base) bytes ≡ p → ended_number n p ≡ Some (c, rest) → (1 ≤ length digits) × (length digits ≤ 8) →
-    TakesNumber base bytes c rest
+        TakesNumber base bytes c rest
     ended [] p k counts = absurd cc
     ended (b ∷ tail) p k counts = choose (b == 59) refl k
       where
@@ -162,7 +162,7 @@ number_takes base bytes c rest e = counted (nat_le 1 (length digits) && nat_le (
         choose false h q = absurd cc
 
     counted : (v : Bool) → (nat_le 1 (length digits) && nat_le (length digits) 8) ≡ v →
-    cond {A = Option (ℕ × List ℕ)} v (ended_number n (past (digit base) bytes)) None ≡ Some (c, rest) → TakesNumber base bytes c rest
+        cond {A = Option (ℕ × List ℕ)} v (ended_number n (past (digit base) bytes)) None ≡ Some (c, rest) → TakesNumber base bytes c rest
     counted true h k =
         let b = and_parts (nat_le 1 (length digits)) (nat_le (length digits) 8) h in
         ended (past (digit base) bytes) refl k (le_true 1 (length digits) b.0, le_true (length digits) 8 b.1)
@@ -173,8 +173,14 @@ number_again : (base : ℕ) (digits : List ℕ) (c : ℕ) (rest : List ℕ) → 
     → number_at base (digits ++ 59 ∷ rest) ≡ Some (c, rest)
 number_again base digits c rest no_digit some few each value is_scalar not_zero =
     let p = digits_pass base digits each in
-    rw (front_run (digit base) digits 59 rest p no_digit, past_run (digit base) digits 59 rest p no_digit, true_le 1 (length digits) some, true_le
-    (length digits) 8 few, value)
+    rw (
+      front_run (digit base) digits 59 rest p no_digit,
+      past_run (digit base) digits 59 rest p no_digit,
+      true_le 1 (length digits) some,
+      true_le
+          (length digits) 8 few,
+      value,
+    )
     (rw (is_scalar, is_not_zero c not_zero) refl)
 
 numbered_again : (base : ℕ) (opening text : List ℕ) (c : ℕ) (rest : List ℕ) (t : IsNumbered base opening text c) → digit base 59 ≡ false →
@@ -206,7 +212,7 @@ unfolding by_number_at
 by_number_takes bytes c rest e = hexadecimal (word_at (codes "&#x") bytes) refl e
   where
     numbered : (base : ℕ) (opening tail : List ℕ) → bytes ≡ opening ++ tail → number_at base tail ≡ Some (c, rest) →
-    (t : List ℕ) × IsNumbered base opening t c × (bytes ≡ t ++ rest)
+        (t : List ℕ) × IsNumbered base opening t c × (bytes ≡ t ++ rest)
     numbered base opening tail p k =
         let t = number_takes base tail c rest k in (
           opening ++ t.digits ++ codes ";",
@@ -222,7 +228,7 @@ by_number_takes bytes c rest e = hexadecimal (word_at (codes "&#x") bytes) refl 
     decimal (Err m) h k = absurd cc
 
     hexadecimal : (r : Read ⊤) → word_at (codes "&#x") bytes ≡ r → number_or r 16 (number_or (word_at (codes "&#") bytes) 10 None) ≡ Some (c, rest) →
-    TakesReference bytes c rest
+        TakesReference bytes c rest
     hexadecimal (Ok x) h k = let t = numbered 16 (codes "&#x") x.1 (parts (codes "&#x") x h) k in record { text = t.0; is = inr (inr t.1); parts = t.2 }
     hexadecimal (Err m) h k = decimal (word_at (codes "&#") bytes) refl k
 

@@ -107,8 +107,11 @@ attr_first false text step t = absurd t
 
 closing_first : (closing : Closing) (text : List ℕ) (step : Step) → MappedText ends (IsClosing closing) text step → ClassFirst begins_name false text
 closing_first closing text step t = let c = closing_begins closing text t.read t.is in record {
-    head = c.head; tail = c.tail; is = closes_no_name c.head c.which; parts = c.parts
-    }
+  head = c.head;
+  tail = c.tail;
+  is = closes_no_name c.head c.which;
+  parts = c.parts;
+}
 
 some_step : (closing : Closing) → SomeText (MappedText ends (IsClosing closing))
 some_step closing = let c = some_closing closing in record { text = c.text; read = ends c.read; is = record { read = c.read; is = c.is; made = refl } }
@@ -120,11 +123,17 @@ Law-spaced_step closing spaced = Law-spelled (Law-by_class begins_name (spaced_a
 
 step_begins : (closing : Closing) (spaced : Bool) (text : List ℕ) (step : Step) → IsStep closing spaced text step → NoBlankFirst text
 step_begins closing spaced text (attribute attr) t = let b = attr_begins text attr t.1 in record {
-    head = b.head; tail = b.tail; no_blank = name_no_blank b.head b.begins; parts = b.parts
-    }
+  head = b.head;
+  tail = b.tail;
+  no_blank = name_no_blank b.head b.begins;
+  parts = b.parts;
+}
 step_begins closing spaced text (ends empty) t = let c = closing_begins closing text empty t in record {
-    head = c.head; tail = c.tail; no_blank = closes_no_blank c.head c.which; parts = c.parts
-    }
+  head = c.head;
+  tail = c.tail;
+  no_blank = closes_no_blank c.head c.which;
+  parts = c.parts;
+}
 
 abbrev pub StepText : Closing → List ℕ → Step → Type 0
 StepText closing text step = GapText (IsStep closing) text step
@@ -157,7 +166,7 @@ attrs_taken closing (attr ∷ attrs) bytes rest h =
       between = s.is.blanks ++ s.is.thing ++ t.between;
       attributes = (s.is.blanks, s.is.thing, t.between, begun_blank s.is.blanks s.is.is.0, s.is.blank, s.is.is.1, t.attributes, refl);
       parts = s.parts ∙ ap (λ (u : List ℕ). u ++ h.0) s.is.parts ∙ ap (λ (u : List ℕ). (s.is.blanks ++ s.is.thing) ++ u) t.parts
-      ∙ sym (append_assoc (s.is.blanks ++ s.is.thing) t.between rest);
+          ∙ sym (append_assoc (s.is.blanks ++ s.is.thing) t.between rest);
     }
 
 attrs_again : (closing : Closing) (attrs : List Written) (between tail : List ℕ) → AreAttrs between attrs → Attrs closing attrs (between ++ tail) tail
@@ -165,15 +174,23 @@ attrs_again closing [] between tail h = ap (λ (u : List ℕ). u ++ tail) h
 attrs_again closing (attr ∷ attrs) between tail h =
     let e : between ++ tail ≡ (h.0 ++ h.1) ++ (h.2 ++ tail) = ap (λ (u : List ℕ). u ++ tail) h.7 ∙ append_assoc (h.0 ++ h.1) h.2 tail in
     let s = (Law-step closing).again (h.0 ++ h.1) (attribute attr) (h.2 ++ tail) (record {
-    blanks = h.0; thing = h.1; blank = h.4; is = (begins_blanks h.0 h.3 h.4, h.5); parts = refl
+      blanks = h.0;
+      thing = h.1;
+      blank = h.4;
+      is = (begins_blanks h.0 h.3 h.4, h.5);
+      parts = refl;
     }) tt in
     (h.2 ++ tail, ap (step_at closing) e ∙ s, attrs_again closing attrs h.2 tail h.6)
 
 pub attrs_more : (closing : Closing) (attrs : List Written) (bytes rest after : List ℕ) → Attrs closing attrs bytes rest →
     Attrs closing attrs (bytes ++ after) (rest ++ after)
 attrs_more closing [] bytes rest after h = ap (λ (u : List ℕ). u ++ after) h
-attrs_more closing (attr ∷ attrs) bytes rest after h = (h.0 ++ after, (Law-step closing).more bytes (attribute attr) h.0 after h.1, attrs_more closing attrs h.0
-    rest after h.2)
+attrs_more closing (attr ∷ attrs) bytes rest after h = (
+  h.0 ++ after,
+  (Law-step closing).more bytes (attribute attr) h.0 after h.1,
+  attrs_more closing attrs h.0
+      rest after h.2,
+)
 
 -- one more attribute
 pub Attrs-push : (closing : Closing) (attrs : List Written) (attr : Written) (bytes last rest : List ℕ) → Attrs closing attrs bytes last →
@@ -244,11 +261,19 @@ record Ended (closing : Closing) (bytes : List ℕ) (r : Read (List Written × B
 
 tail_ended : (closing : Closing) (bytes : List ℕ) (r : Read (List Written × Bool)) → Tail closing bytes r → Ended closing bytes r
 tail_ended closing bytes (Ok x) t = record {
-    attrs = x.0.0; last = t.0; reading = t.1; over = subst NoAttribute (sym t.2) tt; made = ap (finish x.0.0) (sym t.2)
-    }
+  attrs = x.0.0;
+  last = t.0;
+  reading = t.1;
+  over = subst NoAttribute (sym t.2) tt;
+  made = ap (finish x.0.0) (sym t.2);
+}
 tail_ended closing bytes (Err miss) t = record {
-    attrs = t.0; last = t.1; reading = t.2; over = subst NoAttribute (sym t.3) tt; made = ap (finish t.0) (sym t.3)
-    }
+  attrs = t.0;
+  last = t.1;
+  reading = t.2;
+  over = subst NoAttribute (sym t.3) tt;
+  made = ap (finish t.0) (sym t.3);
+}
 
 tail_once : (closing : Closing) (bytes : List ℕ) (r s : Read (List Written × Bool)) → Tail closing bytes r → Tail closing bytes s → r ≡ s
 tail_once closing bytes r s t u =
@@ -265,25 +290,38 @@ tail_takes closing bytes x rest t =
     record {
       text = a.between ++ (c.is.blanks ++ c.is.thing);
       is = record {
-      between = a.between; blanks = c.is.blanks; close = c.is.thing; attributes = a.attributes; blank = c.is.blank; closes = c.is.is; parts = refl
+        between = a.between;
+        blanks = c.is.blanks;
+        close = c.is.thing;
+        attributes = a.attributes;
+        blank = c.is.blank;
+        closes = c.is.is;
+        parts = refl;
       };
       parts = a.parts ∙ ap (λ (u : List ℕ). a.between ++ u) (c.parts ∙ ap (λ (u : List ℕ). u ++ rest) c.is.parts)
-      ∙ sym (append_assoc a.between (c.is.blanks ++ c.is.thing) rest);
+          ∙ sym (append_assoc a.between (c.is.blanks ++ c.is.thing) rest);
     }
 
 close_again : (closing : Closing) (blanks close : List ℕ) (empty : Bool) (rest : List ℕ) → AreBlanks blanks → IsClosing closing close empty →
     step_at closing ((blanks ++ close) ++ rest) ≡ Ok (ends empty, rest)
 close_again closing blanks close empty rest h c = (Law-step closing).again (blanks ++ close) (ends empty) rest (record {
-    blanks = blanks; thing = close; blank = h; is = c; parts = refl
-    }) tt
+  blanks = blanks;
+  thing = close;
+  blank = h;
+  is = c;
+  parts = refl;
+}) tt
 
 tail_again : (closing : Closing) (text : List ℕ) (x : List Written × Bool) (rest : List ℕ) → TailText closing text x → Anything rest →
     Tail closing (text ++ rest) (Ok (x, rest))
 tail_again closing text x rest t f =
     let last = (t.blanks ++ t.close) ++ rest in
-    let e : t.between ++ last ≡ text ++ rest = sym (ap (λ (u : List ℕ). u ++ rest) t.parts ∙ append_assoc t.between (t.blanks ++ t.close) rest) in
-    (last, subst (λ (u : List ℕ). Attrs closing x.0 u last) e (attrs_again closing x.0 t.between last t.attributes), close_again closing t.blanks t.close x.1
-    rest t.blank t.closes)
+    let e : t.between ++ last ≡ text ++ rest = sym (ap (λ (u : List ℕ). u ++ rest) t.parts ∙ append_assoc t.between (t.blanks ++ t.close) rest) in (
+      last,
+      subst (λ (u : List ℕ). Attrs closing x.0 u last) e (attrs_again closing x.0 t.between last t.attributes),
+      close_again closing t.blanks t.close x.1
+          rest t.blank t.closes,
+    )
 
 tail_cut : (closing : Closing) (bytes : List ℕ) → Tail closing bytes (Err Cut) → GoesOn (Tail closing) Anything bytes
 tail_cut closing bytes t = cases g.read g.whole
@@ -292,7 +330,7 @@ tail_cut closing bytes t = cases g.read g.whole
     g = (Law-step closing).cut t.1 t.3
 
     cases : (step : Step) → ((tail : List ℕ) → Anything tail → step_at closing (t.1 ++ (g.more ++ tail)) ≡ Ok (step, tail)) →
-    GoesOn (Tail closing) Anything bytes
+        GoesOn (Tail closing) Anything bytes
     cases (ends empty) whole = record {
       more = g.more;
       read = (t.0, empty);
@@ -308,8 +346,8 @@ tail_cut closing bytes t = cases g.read g.whole
               let e : bytes ++ more ≡ bytes ++ ((g.more ++ c.text) ++ tail) = ap (λ (u : List ℕ). bytes ++ u) (sym (append_assoc g.more c.text tail)) in (
                 c.text ++ tail,
                 subst (λ (u : List ℕ). Attrs closing (t.0 ++ attr ∷ []) u (c.text ++ tail)) e
-                (Attrs-push closing t.0 attr (bytes ++ more) (t.1 ++ more) (c.text ++ tail) (attrs_more closing t.0 bytes t.1 more t.2)
-                (whole (c.text ++ tail) tt)),
+                    (Attrs-push closing t.0 attr (bytes ++ more) (t.1 ++ more) (c.text ++ tail) (attrs_more closing t.0 bytes t.1 more t.2)
+                    (whole (c.text ++ tail) tt)),
                 close_again closing [] c.text c.read tail tt c.is,
               );
         }
@@ -326,5 +364,7 @@ Law-tail closing = record {
 
 pub some_tail : (closing : Closing) → SomeText (TailText closing)
 some_tail closing = let c = some_closing closing in record {
-    text = c.text; read = ([], c.read); is = record { between = []; blanks = []; close = c.text; attributes = refl; blank = tt; closes = c.is; parts = refl }
-    }
+  text = c.text;
+  read = ([], c.read);
+  is = record { between = []; blanks = []; close = c.text; attributes = refl; blank = tt; closes = c.is; parts = refl };
+}

@@ -38,8 +38,11 @@ reference_piece bytes text after (Some x) h e =
     let t = reference_takes bytes x.0 x.1 h in
     let last : x.1 ≡ after = found_rest (encode_utf8 x.0) text x.1 after e in
     record {
-    piece = reference t.text x.0; is = t.is; parts = t.parts ∙ ap (λ (u : List ℕ). t.text ++ u) last; made = sym
-    (found_value (encode_utf8 x.0) text x.1 after e)
+      piece = reference t.text x.0;
+      is = t.is;
+      parts = t.parts ∙ ap (λ (u : List ℕ). t.text ++ u) last;
+      made = sym
+          (found_value (encode_utf8 x.0) text x.1 after e);
     }
 
 -- a carriage return is a piece with its line feed, or alone
@@ -74,8 +77,11 @@ either_is : (b : ℕ) → ((b == 9) || (b == 10)) ≡ true → (b ≡ 9) ⊎ (b 
 either_is b e = grind (arith, nat_tests)
 
 neither_is : (b : ℕ) → ((b == 9) || (b == 10)) ≡ false → (b ≢ 9) × (b ≢ 10)
-neither_is b e = (λ h. let k : ((9 == 9) || (9 == 10)) ≡ false = subst (λ (c : ℕ). ((c == 9) || (c == 10)) ≡ false) h e in cc, λ h. let k :
-    ((10 == 9) || (10 == 10)) ≡ false = subst (λ (c : ℕ). ((c == 9) || (c == 10)) ≡ false) h e in cc)
+neither_is b e = (
+  λ h. let k : ((9 == 9) || (9 == 10)) ≡ false = subst (λ (c : ℕ). ((c == 9) || (c == 10)) ≡ false) h e in cc,
+  λ h. let k :
+      ((10 == 9) || (10 == 10)) ≡ false = subst (λ (c : ℕ). ((c == 9) || (c == 10)) ≡ false) h e in cc,
+)
 
 pub piece_takes : (bytes text after : List ℕ) → piece_at bytes ≡ Some (text, after) → TakesPiece bytes text after
 piece_takes [] text after e = absurd cc
@@ -126,14 +132,16 @@ pub piece_none : (b : ℕ) (bytes : List ℕ) → piece_at (b ∷ bytes) ≡ Non
 piece_none b bytes e = choose (b == 38) (b == 13) ((b == 9) || (b == 10)) refl e
   where
     no_reference : (o : Option (ℕ × List ℕ)) → reference_at (b ∷ bytes) ≡ o → encoded o ≡ None → (text after : List ℕ) (c : ℕ) → b ∷ bytes ≡ text ++ after →
-    IsReference text c → ⊥
+        IsReference text c → ⊥
     no_reference None h k text after c q r = let both : None ≡ found c after = sym h ∙ ap reference_at q ∙ reference_again text c after r in cc
     no_reference (Some x) h k text after c q r = cc
 
     choose : (v w u : Bool) → (b == 38) ≡ v → cond {A = Option (List ℕ × List ℕ)} v (encoded (reference_at (b ∷ bytes)))
-    (cond w (Some (32 ∷ [], past_line_feed bytes)) (cond u (Some (32 ∷ [], bytes)) (Some (b ∷ [], bytes)))) ≡ None → BeginsLoose (b ∷ bytes)
+        (cond w (Some (32 ∷ [], past_line_feed bytes)) (cond u (Some (32 ∷ [], bytes)) (Some (b ∷ [], bytes)))) ≡ None → BeginsLoose (b ∷ bytes)
     choose true w u p h = record {
-    rest = bytes; ampersand = ap (λ (c : ℕ). c ∷ bytes) (same_if_eq b 38 p); none = no_reference (reference_at (b ∷ bytes)) refl h
+      rest = bytes;
+      ampersand = ap (λ (c : ℕ). c ∷ bytes) (same_if_eq b 38 p);
+      none = no_reference (reference_at (b ∷ bytes)) refl h;
     }
     choose false true u p h = absurd cc
     choose false false true p h = absurd cc
@@ -156,11 +164,24 @@ SpelledTo (piece ∷ pieces) value text rest =
 
 pub SpelledTo-push : (pieces : List ValuePiece) (piece : ValuePiece) (value text rest after : List ℕ) → SpelledTo pieces value text rest → IsPiece piece after →
     rest ≡ piece_value piece ++ after → SpelledTo (pieces ++ piece ∷ []) value (text ++ piece_text piece) after
-SpelledTo-push [] piece value text rest after h is e = (after, [], is, h.0 ∙ e, ap (λ (u : List ℕ). u ++ piece_text piece) h.1
-    ∙ sym (append-nil (piece_text piece)), (refl, refl))
-SpelledTo-push (one ∷ pieces) piece value text rest after h is e =
-    (h.0, h.1 ++ piece_text piece, h.2, h.3, ap (λ (u : List ℕ). u ++ piece_text piece) h.4
-    ∙ append_assoc (piece_text one) h.1 (piece_text piece), SpelledTo-push pieces piece h.0 h.1 rest after h.5 is e)
+SpelledTo-push [] piece value text rest after h is e = (
+  after,
+  [],
+  is,
+  h.0 ∙ e,
+  ap (λ (u : List ℕ). u ++ piece_text piece) h.1
+      ∙ sym (append-nil (piece_text piece)),
+  (refl, refl),
+)
+SpelledTo-push (one ∷ pieces) piece value text rest after h is e = (
+  h.0,
+  h.1 ++ piece_text piece,
+  h.2,
+  h.3,
+  ap (λ (u : List ℕ). u ++ piece_text piece) h.4
+      ∙ append_assoc (piece_text one) h.1 (piece_text piece),
+  SpelledTo-push pieces piece h.0 h.1 rest after h.5 is e,
+)
 
 pub spelled_all : (pieces : List ValuePiece) (value text : List ℕ) → SpelledTo pieces value text [] → AreSpelled pieces value text
 spelled_all [] value text h = h
@@ -183,7 +204,7 @@ SoFar-more value text rest more after s e =
     record {
       pieces = s.pieces ++ t.piece ∷ [];
       spelled = subst (λ (u : List ℕ). SpelledTo (s.pieces ++ t.piece ∷ []) value (text ++ u) after) (sym t.made)
-      (SpelledTo-push s.pieces t.piece value text rest after s.spelled t.is t.parts);
+          (SpelledTo-push s.pieces t.piece value text rest after s.spelled t.is t.parts);
     }
 
 pub SoFar-all : (value text rest : List ℕ) → SoFar value text rest → (length rest == 0) ≡ true → IsValueText value text

@@ -87,9 +87,14 @@ kinds_differ rows i j a b is_a is_b differ same = differ (ap (λ (v : Elem). v.k
 
 all_children_stand : (rows : List Elem) (i : ℕ) (ks : List ℕ) → AllByRecursion (IsChild rows i Connection) ks →
     AllByRecursion (λ k. Bears rows k × (stand rows k ≡ i)) ks
-all_children_stand rows i ks h = all_more (IsChild rows i Connection) (λ k. Bears rows k × (stand rows k ≡ i)) (λ k c. (record {
-    row = c.row; is = c.is; bears = ap bears_id c.kind_is
-    }, stand_connection rows i k c)) ks h
+all_children_stand rows i ks h = all_more (IsChild rows i Connection) (λ k. Bears rows k × (stand rows k ≡ i)) (λ k c. (
+  record {
+    row = c.row;
+    is = c.is;
+    bears = ap bears_id c.kind_is;
+  },
+  stand_connection rows i k c,
+)) ks h
 
 -- the number of a row that is no connection differs from those of its connections
 apart_from_children : (rows : List Elem) (i : ℕ) (row : Elem) (ks : List ℕ) → slice_get rows i ≡ Some row → same_kind row.kind Connection ≡ false →
@@ -125,9 +130,9 @@ end_group rows layouts begin i e h row is bears other = choose e.joined refl h.j
     own = sym (element_is rows i h.row e.id e.at h.is h.id h.at)
 
     whole : (ks : List ℕ) (o : Option Conn) → e.joined ≡ o → map conn_element (option_to_list o) ≡ map (element_of rows) ks →
-    end_elements e ≡ map (element_of rows) (i ∷ ks)
+        end_elements e ≡ map (element_of rows) (i ∷ ks)
     whole ks o at same = ap (λ (v : Option Conn). end_element e ∷ map conn_element (option_to_list v)) at
-    ∙ (ap (λ (v : List Element). end_element e ∷ v) same ∙ ap (λ (v : Element). v ∷ map (element_of rows) ks) own)
+        ∙ (ap (λ (v : List Element). end_element e ∷ v) same ∙ ap (λ (v : Element). v ∷ map (element_of rows) ks) own)
 
     choose : (o : Option Conn) → e.joined ≡ o → IsJoinedAs rows layouts i o → Covers (element_of rows) (λ k. Bears rows k × (stand rows k ≡ i)) (end_elements e)
     choose None at j = group rows i row [] (end_elements e) is bears other tt tt (whole [] None at refl)
@@ -155,12 +160,12 @@ inner_group rows layouts begin i x h row is bears other = choose x.what refl h.w
     own = sym (element_is rows i h.row x.id x.at h.is h.id h.at)
 
     whole : (ks : List ℕ) (w : InnerKind) → x.what ≡ w → map conn_element (connections w) ≡ map (element_of rows) ks → inner_elements x ≡ map (element_of rows)
-    (i ∷ ks)
+        (i ∷ ks)
     whole ks w at same = ap (λ (v : InnerKind). inner_element x ∷ map conn_element (connections v)) at
-    ∙ (ap (λ (v : List Element). inner_element x ∷ v) same ∙ ap (λ (v : Element). v ∷ map (element_of rows) ks) own)
+        ∙ (ap (λ (v : List Element). inner_element x ∷ v) same ∙ ap (λ (v : Element). v ∷ map (element_of rows) ks) own)
 
     choose : (w : InnerKind) → x.what ≡ w → IsInnerKindOf rows layouts i h.row w →
-    Covers (element_of rows) (λ k. Bears rows k × (stand rows k ≡ i)) (inner_elements x)
+        Covers (element_of rows) (λ k. Bears rows k × (stand rows k ≡ i)) (inner_elements x)
     choose (inners.Switch outgoing hand diverges c) at s =
         group rows i row (s.number ∷ []) (inner_elements x) is bears other (only_child rows i Connection s.number s.is_branch.only, tt)
         (one_child_apart s.number)
@@ -279,16 +284,18 @@ track_group : (rows : List Elem) (layouts : List Layout) (l : Layout) (track : T
     AllZip (λ i es. Covers (element_of rows) (λ k. Bears rows k × (stand rows k ≡ i)) es) (stands_of l) (groups track)
 track_group rows layouts l track d h = (
   group rows l.track d.track [] (track_element track ∷ []) d.is_track (ap bears_id d.track_kind) (ap (λ (v : ElemKind). same_kind v Connection) d.track_kind) tt
-  tt
+      tt
       (ap (λ (v : Element). v ∷ []) (sym (element_is rows l.track h.row track.id track.at h.is h.id h.at))),
   (
     end_group rows layouts h.begin_row l.begin track.begin h.begin d.begin.row d.begin.is (ap bears_id d.begin.kind_is)
-    (ap (λ (v : ElemKind). same_kind v Connection) d.begin.kind_is),
+        (ap (λ (v : ElemKind). same_kind v Connection) d.begin.kind_is),
     zip_joined (λ i es. Covers (element_of rows) (λ k. Bears rows k × (stand rows k ≡ i)) es) l.inner (l.end ∷ []) (map inner_elements track.inner)
-    (end_elements track.end ∷ [])
-        (inner_groups rows layouts h.begin_row l.topology l.inner track.inner d.inner h.inner)
-        (end_group rows layouts h.begin_row l.end track.end h.end d.end.row d.end.is (ap bears_id d.end.kind_is)
-        (ap (λ (v : ElemKind). same_kind v Connection) d.end.kind_is), tt),
+        (end_elements track.end ∷ [])
+        (inner_groups rows layouts h.begin_row l.topology l.inner track.inner d.inner h.inner) (
+          end_group rows layouts h.begin_row l.end track.end h.end d.end.row d.end.is (ap bears_id d.end.kind_is)
+              (ap (λ (v : ElemKind). same_kind v Connection) d.end.kind_is),
+          tt,
+        ),
   ),
 )
 
@@ -347,7 +354,7 @@ above p n m [] h = tt
 above p n m (row ∷ rows) h = choose (p row) (above p n (suc m) rows (omega arith))
   where
     choose : (v : Bool) → AllByRecursion (λ k. n ≤ k) (numbers_from p (suc m) rows) →
-    AllByRecursion (λ k. n ≤ k) (cond v (m ∷ numbers_from p (suc m) rows) (numbers_from p (suc m) rows))
+        AllByRecursion (λ k. n ≤ k) (cond v (m ∷ numbers_from p (suc m) rows) (numbers_from p (suc m) rows))
     choose true rest = (h, rest)
     choose false rest = rest
 
@@ -357,7 +364,7 @@ numbers_apart p n (row ∷ rows) = choose (p row) (numbers_apart p (suc n) rows)
   where
     later : AllByRecursion (λ k. n ≢ k) (numbers_from p (suc n) rows)
     later = all_more (λ k. suc n ≤ k) (λ k. n ≢ k) (λ k h. (λ (same : n ≡ k). omega arith)) (numbers_from p (suc n) rows)
-    (above p (suc n) (suc n) rows (omega arith))
+        (above p (suc n) (suc n) rows (omega arith))
 
     choose : (v : Bool) → Apart (numbers_from p (suc n) rows) → Apart (cond v (n ∷ numbers_from p (suc n) rows) (numbers_from p (suc n) rows))
     choose true rest = (later, rest)

@@ -171,7 +171,7 @@ one_mileage : (begin row : Elem) (m n : Micro) → HasMileage begin row m.0 → 
 one_mileage begin row m n a b = let F : ℤ → Micro = λ z. record { 0 = z } in ap F (choose row.attrs.abs_pos a b)
   where
     choose : (o : Option (List ℕ)) → MatchOption o (IsMeasuredFrom begin row m.0) (λ text. ReadsMetres text m.0) →
-    MatchOption o (IsMeasuredFrom begin row n.0) (λ text. ReadsMetres text n.0) → m.0 ≡ n.0
+        MatchOption o (IsMeasuredFrom begin row n.0) (λ text. ReadsMetres text n.0) → m.0 ≡ n.0
     choose None a b = one_measure begin row m.0 n.0 a b
     choose (Some text) a b = one_number text m.0 n.0 a b
 

@@ -91,11 +91,11 @@ no_later a b h = choose (int_cmp b.position a.position) (int_ranks b.position a.
     rows e = elim (leb_tells a.row b.row) [
       | inl le ↦ le.1
       | inr lt ↦ absurd (let below : b.row < a.row = lt.1 in let t : nat_lt b.row a.row ≡ true = lt-ltb b.row a.row below in let u : is_lt (nat_cmp b.row a.row)
-      ≡ true = rw t refl in cc)
+          ≡ true = rw t refl in cc)
     ]
 
     choose : (r : Ordering) → MatchOrdering r (b.position <ℤ a.position) (b.position ≡ a.position) (a.position <ℤ b.position) →
-    is_lt (ordering_then r (nat_cmp b.row a.row)) ≡ false → NoLater a b
+        is_lt (ordering_then r (nat_cmp b.row a.row)) ≡ false → NoLater a b
     choose Less m e = absurd cc
     choose Equal m e = inr (sym m, rows e)
     choose Greater m e = inl m
@@ -161,11 +161,11 @@ inner_child rows topology i a =
     choose (is_of_kind rows Switch i) refl f.0 f.1
   where
     choose : (v : Bool) → is_of_kind rows Switch i ≡ v → Among (all_children rows topology) i → (v || is_of_kind rows Crossing i) ≡ true →
-    Contains (children rows topology Switch) i ⊎ Contains (children rows topology Crossing) i
+        Contains (children rows topology Switch) i ⊎ Contains (children rows topology Crossing) i
     choose true e among h = inl (contains_from_among (children rows topology Switch) i
-    (filtered_among (is_of_kind rows Switch) (all_children rows topology) i among e))
+        (filtered_among (is_of_kind rows Switch) (all_children rows topology) i among e))
     choose false e among h = inr (contains_from_among (children rows topology Crossing) i
-    (filtered_among (is_of_kind rows Crossing) (all_children rows topology) i among h))
+        (filtered_among (is_of_kind rows Crossing) (all_children rows topology) i among h))
 
 child_inner : (rows : List Elem) (topology i : ℕ) → Contains (children rows topology Switch) i ⊎ Contains (children rows topology Crossing) i →
     Among (filter (is_inner rows) (all_children rows topology)) i
@@ -190,10 +190,10 @@ inner_sorted rows topology list sorted same standing permuted order =
     record {
       all = (λ i. (
         (λ c. inner_child rows topology i (among_from_contains (filter (is_inner rows) (all_children rows topology)) i
-        (Contains-permutation (map f sorted) (filter (is_inner rows) (all_children rows topology)) i
-        (IsPermutation-sym (filter (is_inner rows) (all_children rows topology)) (map f sorted) moved) c))),
+            (Contains-permutation (map f sorted) (filter (is_inner rows) (all_children rows topology)) i
+            (IsPermutation-sym (filter (is_inner rows) (all_children rows topology)) (map f sorted) moved) c))),
         (λ c. Contains-permutation (filter (is_inner rows) (all_children rows topology)) (map f sorted) i moved
-        (contains_from_among (filter (is_inner rows) (all_children rows topology)) i (child_inner rows topology i c))),
+            (contains_from_among (filter (is_inner rows) (all_children rows topology)) i (child_inner rows topology i c))),
       ));
       ordered = in_order rows sorted (All-permutation (IsStanding rows) list sorted permuted standing)
           (pairs_from_stands (λ (a b : Standing). a.row ≢ b.row) sorted (stands_unmapped (λ (x y : ℕ). x ≢ y) f sorted apart)) order;

@@ -55,14 +55,16 @@ put_one table row place within = record {
       ]));
   kept = (λ i there. elim (eqb_tells i row) [
     | inl same ↦ record {
-    entry = place; is = (let at : slice_get (set table row (Some place)) i ≡ Some (Some place) = ap (slice_get (set table row (Some place))) same.1
-    ∙ set_there table row (Some place) within in rw at refl)
+      entry = place;
+      is = (let at : slice_get (set table row (Some place)) i ≡ Some (Some place) = ap (slice_get (set table row (Some place))) same.1
+          ∙ set_there table row (Some place) within in rw at refl);
     }
     | inr differ ↦ record { entry = there.entry; is = (let at = slice_get-set_other table row (Some place) i differ.1 in rw at there.is) }
   ]);
   added = (λ i p t. record {
-  entry = place; is = (let at : slice_get (set table row (Some place)) i ≡ Some (Some place) = ap (slice_get (set table row (Some place))) t.0
-  ∙ set_there table row (Some place) within in rw at refl)
+    entry = place;
+    is = (let at : slice_get (set table row (Some place)) i ≡ Some (Some place) = ap (slice_get (set table row (Some place))) t.0
+        ∙ set_there table row (Some place) within in rw at refl);
   });
 }
 
@@ -120,7 +122,7 @@ goes_true : (rows : List Elem) (word : List ℕ) (n : ℕ) → goes_by rows word
 goes_true rows word n h = choose (is_of_kind rows Connection n) refl h
   where
     choose : (v : Bool) → is_of_kind rows Connection n ≡ v → (v && option_map_or (λ (row : Elem). is_word word row.attrs.orientation) (slice_get rows n) false)
-    ≡ true → Goes rows word n
+        ≡ true → Goes rows word n
     choose true e h =
         let (row, is, kind_is) = of_kind rows Connection n e in
         let way : is_word word row.attrs.orientation ≡ true = (rw is at h) in
@@ -142,7 +144,7 @@ way_found rows crossing n outgoing a e =
     record {
       a_crossing = a;
       among = contains_from_among (children rows crossing Connection) n (filtered_among (is_of_kind rows Connection) (all_children rows crossing) n f.0
-      (subst (λ (v : ElemKind). is_of_kind rows v n ≡ true) g.kind_is (is_of_its_kind rows n g.row g.is)));
+          (subst (λ (v : ElemKind). is_of_kind rows v n ≡ true) g.kind_is (is_of_its_kind rows n g.row g.is)));
       way = record { row = g.row; is = g.is; way = g.way };
     }
 
@@ -157,12 +159,18 @@ pub way_of_child : (rows : List Elem) → AreSoundRows rows → (crossing k : �
     (outgoing : Bool) × IsWayOf rows crossing outgoing k
 way_of_child rows s crossing k a c =
     let (parent, is, kind_is) = of_kind rows Crossing crossing a in
-    let (outgoing, way) = s.ways k c.row parent c.is (inr (connection_of_row rows crossing k parent Crossing is kind_is c)) in
-    (outgoing, record {
-    a_crossing = a; among = contains_from_among (children rows crossing Connection) k (has_child rows crossing Connection k c); way = record {
-    row = c.row; is = c.is; way = way
-    }
-    })
+    let (outgoing, way) = s.ways k c.row parent c.is (inr (connection_of_row rows crossing k parent Crossing is kind_is c)) in (
+      outgoing,
+      record {
+        a_crossing = a;
+        among = contains_from_among (children rows crossing Connection) k (has_child rows crossing Connection k c);
+        way = record {
+          row = c.row;
+          is = c.is;
+          way = way;
+        };
+      },
+    )
 
 pub has_way : (rows : List Elem) → AreSoundRows rows → (crossing : ℕ) (outgoing : Bool) → is_of_kind rows Crossing crossing ≡ true →
     (k : ℕ) × IsWayOf rows crossing outgoing k
@@ -199,7 +207,10 @@ way_not_missing rows s crossing outgoing a e =
     none_found (goes_by rows (way_word outgoing)) (all_children rows crossing) k e
     (among_filtered (is_of_kind rows Connection) (all_children rows crossing) k (has_child rows crossing Connection k c)).0
     (goes_if rows (way_word outgoing) k (record {
-    row = w.way.row; is = w.way.is; kind_is = ap (λ (v : Elem). v.kind) (sym same) ∙ c.kind_is; way = w.way.way
+      row = w.way.row;
+      is = w.way.is;
+      kind_is = ap (λ (v : Elem). v.kind) (sym same) ∙ c.kind_is;
+      way = w.way.way;
     }))
 
 pub branch_entry : (rows : List Elem) → AreSoundRows rows → (t : Tables) → AreTablesOf rows t → (switch : ℕ) → is_of_kind rows Switch switch ≡ true →
@@ -232,11 +243,17 @@ crossing_places rows s track n inner coming leaving c l i t parts.Begin e h = ab
 crossing_places rows s track n inner coming leaving c l i t parts.End e h = absurd h
 crossing_places rows s track n inner coming leaving c l i t (parts.Branch k) e h = absurd (kinds_clash rows inner h.1.a_switch c.a_crossing)
 crossing_places rows s track n inner coming leaving c l i t (parts.Incoming k) e h =
-    inl (one_way rows s inner false i coming h.1 c, same_place (at_part t (parts.Incoming k)) (at_part track (parts.Incoming n)) e
-    (ap (λ m. parts.Incoming m) h.0))
+    inl (
+      one_way rows s inner false i coming h.1 c,
+      same_place (at_part t (parts.Incoming k)) (at_part track (parts.Incoming n)) e
+          (ap (λ m. parts.Incoming m) h.0),
+    )
 crossing_places rows s track n inner coming leaving c l i t (parts.Outgoing k) e h =
-    inr (one_way rows s inner true i leaving h.1 l, same_place (at_part t (parts.Outgoing k)) (at_part track (parts.Outgoing n)) e
-    (ap (λ m. parts.Outgoing m) h.0))
+    inr (
+      one_way rows s inner true i leaving h.1 l,
+      same_place (at_part t (parts.Outgoing k)) (at_part track (parts.Outgoing n)) e
+          (ap (λ m. parts.Outgoing m) h.0),
+    )
 
 pub crossing_put : (rows : List Elem) → AreSoundRows rows → (track n inner coming leaving : ℕ) (old middle new : List (Option Place)) →
     IsWayOf rows inner false coming → IsWayOf rows inner true leaving
@@ -248,12 +265,14 @@ crossing_put rows s track n inner coming leaving old middle new c l h k =
     adds_as (λ i p. T i p ⊎ U i p) (IsOnInner rows track n inner) old new
     (λ i p e. elim e [
       | inl t ↦ record {
-      on = ap (λ (v : Place). v.track) t.1; here = subst (λ (v : Place). IsAtInner rows n inner i v.part) (sym t.1)
-      (refl, subst (λ m. IsWayOf rows inner false m) (sym t.0) c)
+        on = ap (λ (v : Place). v.track) t.1;
+        here = subst (λ (v : Place). IsAtInner rows n inner i v.part) (sym t.1)
+            (refl, subst (λ m. IsWayOf rows inner false m) (sym t.0) c);
       }
       | inr u ↦ record {
-      on = ap (λ (v : Place). v.track) u.1; here = subst (λ (v : Place). IsAtInner rows n inner i v.part) (sym u.1)
-      (refl, subst (λ m. IsWayOf rows inner true m) (sym u.0) l)
+        on = ap (λ (v : Place). v.track) u.1;
+        here = subst (λ (v : Place). IsAtInner rows n inner i v.part) (sym u.1)
+            (refl, subst (λ m. IsWayOf rows inner true m) (sym u.0) l);
       }
     ])
     (λ i p u. crossing_places rows s track n inner coming leaving c l i p.track p.part u.on u.here)
@@ -275,7 +294,11 @@ first_more rows track inner n x old middle new within is h k =
       | inl same ↦ inr (let row : f.row ≡ x = same_Some f.row x (sym f.is ∙ (ap (slice_get inner) same.1 ∙ at)) in
           subst (λ m. IsOnInner rows track m x i p) same.1 (subst (λ r. IsOnInner rows track f.number r i p) row f.on))
       | inr differ ↦ inl (record {
-      number = f.number; below = (let b : f.number < n + 1 = f.below in let d = differ.1 in omega arith); row = f.row; is = f.is; on = f.on
+        number = f.number;
+        below = (let b : f.number < n + 1 = f.below in let d = differ.1 in omega arith);
+        row = f.row;
+        is = f.is;
+        on = f.on;
       })
     ])
     (adds_then (IsOnFirst rows track inner n) (IsOnInner rows track n x) old middle new h k)
@@ -295,19 +318,35 @@ track_places : (rows : List Elem) (t : Tables) → AreTablesOf rows t → (track
     (i : ℕ) (track' : ℕ) (part : Part) → track' ≡ track → IsAtPart rows l i part
     → (AtEnd t.connections.items l.begin (at_part track parts.Begin) i (at_part track' part) ⊎ AtEnd t.connections.items l.end (at_part track parts.End) i
     (at_part track' part)) ⊎ IsOnFirst rows track l.inner (length l.inner) i (at_part track' part)
-track_places rows t h track l begin end i u parts.Begin e a = inl (inl (only_child_entry rows Connection t.connections.items l.begin i h.connections begin a,
-    same_place (at_part u parts.Begin) (at_part track parts.Begin) e refl))
-track_places rows t h track l begin end i u parts.End e a = inl (inr (only_child_entry rows Connection t.connections.items l.end i h.connections end a,
-    same_place (at_part u parts.End) (at_part track parts.End) e refl))
+track_places rows t h track l begin end i u parts.Begin e a = inl (inl (
+  only_child_entry rows Connection t.connections.items l.begin i h.connections begin a,
+  same_place (at_part u parts.Begin) (at_part track parts.Begin) e refl,
+))
+track_places rows t h track l begin end i u parts.End e a = inl (inr (
+  only_child_entry rows Connection t.connections.items l.end i h.connections end a,
+  same_place (at_part u parts.End) (at_part track parts.End) e refl,
+))
 track_places rows t h track l begin end i u (parts.Branch k) e (row, is, b) = inr (record {
-    number = k; below = slice_get_within l.inner k row is; row = row; is = is; on = record { on = e; here = (refl, b) }
-    })
+  number = k;
+  below = slice_get_within l.inner k row is;
+  row = row;
+  is = is;
+  on = record { on = e; here = (refl, b) };
+})
 track_places rows t h track l begin end i u (parts.Incoming k) e (row, is, b) = inr (record {
-    number = k; below = slice_get_within l.inner k row is; row = row; is = is; on = record { on = e; here = (refl, b) }
-    })
+  number = k;
+  below = slice_get_within l.inner k row is;
+  row = row;
+  is = is;
+  on = record { on = e; here = (refl, b) };
+})
 track_places rows t h track l begin end i u (parts.Outgoing k) e (row, is, b) = inr (record {
-    number = k; below = slice_get_within l.inner k row is; row = row; is = is; on = record { on = e; here = (refl, b) }
-    })
+  number = k;
+  below = slice_get_within l.inner k row is;
+  row = row;
+  is = is;
+  on = record { on = e; here = (refl, b) };
+})
 
 inner_part : (rows : List Elem) (l : Layout) (n row i : ℕ) (part : Part) → slice_get l.inner n ≡ Some row → IsAtInner rows n row i part → IsAtPart rows l i part
 inner_part rows l n row i parts.Begin is h = absurd h
@@ -329,12 +368,14 @@ track_put rows t h track l laid a b c d one two three =
     (λ i p e. elim e [
       | inl ends ↦ elim ends [
         | inl x ↦ record {
-        track = ap (λ (v : Place). v.track) x.1; here = subst (λ (v : Place). IsAtPart rows l i v.part) (sym x.1)
-        (entry_child rows Connection t.connections.items l.begin i h.connections x.0)
+          track = ap (λ (v : Place). v.track) x.1;
+          here = subst (λ (v : Place). IsAtPart rows l i v.part) (sym x.1)
+              (entry_child rows Connection t.connections.items l.begin i h.connections x.0);
         }
         | inr x ↦ record {
-        track = ap (λ (v : Place). v.track) x.1; here = subst (λ (v : Place). IsAtPart rows l i v.part) (sym x.1)
-        (entry_child rows Connection t.connections.items l.end i h.connections x.0)
+          track = ap (λ (v : Place). v.track) x.1;
+          here = subst (λ (v : Place). IsAtPart rows l i v.part) (sym x.1)
+              (entry_child rows Connection t.connections.items l.end i h.connections x.0);
         }
       ]
       | inr f ↦ record { track = f.on.on; here = inner_part rows l f.number f.row i p.part f.is f.on.here }
@@ -361,8 +402,9 @@ placed_more rows layouts k l old new within at h a = record {
   ]);
   all = (λ i p below here. elim (eqb_tells p.track k) [
     | inl same ↦ a.added i p (record {
-    track = same.1; here = (let layout : here.layout ≡ l = same_Some here.layout l (sym here.is ∙ (ap (slice_get layouts) same.1 ∙ at)) in subst
-    (λ (v : Layout). IsAtPart rows v i p.part) layout here.here)
+      track = same.1;
+      here = (let layout : here.layout ≡ l = same_Some here.layout l (sym here.is ∙ (ap (slice_get layouts) same.1 ∙ at)) in subst
+          (λ (v : Layout). IsAtPart rows v i p.part) layout here.here);
     })
     | inr differ ↦ a.kept i (h.all i p (let d = differ.1 in omega arith) here)
   ]);

@@ -58,7 +58,7 @@ pub inner_kind : (rows : List Elem) (i : ℕ) → is_inner rows i ≡ true → (
 inner_kind rows i h = choose (is_of_kind rows Switch i) refl h
   where
     choose : (v : Bool) → is_of_kind rows Switch i ≡ v → (v || is_of_kind rows Crossing i) ≡ true →
-    (row : Elem) × (slice_get rows i ≡ Some row) × (bears_position row.kind ≡ true)
+        (row : Elem) × (slice_get rows i ≡ Some row) × (bears_position row.kind ≡ true)
     choose true e h = let (row, is, kind) = of_kind rows Switch i e in (row, is, rw kind refl)
     choose false e h = let (row, is, kind) = of_kind rows Crossing i h in (row, is, rw kind refl)
 

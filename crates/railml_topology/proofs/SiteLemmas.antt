@@ -55,16 +55,31 @@ holder_kind k h = absurd cc
 topology_holds : (k child : ElemKind) → may_hold k child ≡ true →
     ((child ≡ kinds.Begin) ⊎ (child ≡ kinds.End)) ⊎ ((child ≡ kinds.Switch) ⊎ (child ≡ kinds.Crossing)) → k ≡ kinds.Topology
 topology_holds kinds.Topology child h e = refl
-topology_holds kinds.Track kinds.Topology h e = elim e [ inl x ↦ elim x [ inl y ↦ absurd cc | inr y ↦ absurd cc ] | inr x ↦ elim x
-    [ inl y ↦ absurd cc | inr y ↦ absurd cc ] ]
-topology_holds k kinds.Connection h e = elim e [ inl x ↦ elim x [ inl y ↦ absurd cc | inr y ↦ absurd cc ] | inr x ↦ elim x
-    [ inl y ↦ absurd cc | inr y ↦ absurd cc ] ]
-topology_holds k kinds.OpenEnd h e = elim e [ inl x ↦ elim x [ inl y ↦ absurd cc | inr y ↦ absurd cc ] | inr x ↦ elim x
-    [ inl y ↦ absurd cc | inr y ↦ absurd cc ] ]
-topology_holds k kinds.BufferStop h e = elim e [ inl x ↦ elim x [ inl y ↦ absurd cc | inr y ↦ absurd cc ] | inr x ↦ elim x
-    [ inl y ↦ absurd cc | inr y ↦ absurd cc ] ]
-topology_holds k kinds.MacroNode h e = elim e [ inl x ↦ elim x [ inl y ↦ absurd cc | inr y ↦ absurd cc ] | inr x ↦ elim x
-    [ inl y ↦ absurd cc | inr y ↦ absurd cc ] ]
+topology_holds kinds.Track kinds.Topology h e = elim e [
+  | inl x ↦ elim x [ inl y ↦ absurd cc | inr y ↦ absurd cc ]
+  | inr x ↦ elim x
+      [ inl y ↦ absurd cc | inr y ↦ absurd cc ]
+]
+topology_holds k kinds.Connection h e = elim e [
+  | inl x ↦ elim x [ inl y ↦ absurd cc | inr y ↦ absurd cc ]
+  | inr x ↦ elim x
+      [ inl y ↦ absurd cc | inr y ↦ absurd cc ]
+]
+topology_holds k kinds.OpenEnd h e = elim e [
+  | inl x ↦ elim x [ inl y ↦ absurd cc | inr y ↦ absurd cc ]
+  | inr x ↦ elim x
+      [ inl y ↦ absurd cc | inr y ↦ absurd cc ]
+]
+topology_holds k kinds.BufferStop h e = elim e [
+  | inl x ↦ elim x [ inl y ↦ absurd cc | inr y ↦ absurd cc ]
+  | inr x ↦ elim x
+      [ inl y ↦ absurd cc | inr y ↦ absurd cc ]
+]
+topology_holds k kinds.MacroNode h e = elim e [
+  | inl x ↦ elim x [ inl y ↦ absurd cc | inr y ↦ absurd cc ]
+  | inr x ↦ elim x
+      [ inl y ↦ absurd cc | inr y ↦ absurd cc ]
+]
 topology_holds k child h e = absurd cc
 
 track_holds : (k : ElemKind) → may_hold k kinds.Topology ≡ true → k ≡ kinds.Track
@@ -102,7 +117,10 @@ topology_layout rows layouts s h topology row is kind_is =
     let (n, l, at, same) = layout_number layouts up.number (subst (λ (v : List ℕ). Among v up.number) (sym h.tracks) numbered) in
     let laid : IsLayout rows l = all_at (IsLayout rows) layouts n l (recursion_from_All (IsLayout rows) layouts h.each) at in
     let child : IsChild rows l.track kinds.Topology topology = record {
-    row = row; is = is; parent_is = moved_parent row up.number l.track up.is (sym same); kind_is = kind_is
+      row = row;
+      is = is;
+      parent_is = moved_parent row up.number l.track up.is (sym same);
+      kind_is = kind_is;
     } in
     record { number = n; layout = l; at = at; laid = laid; same = is_only rows l.track kinds.Topology l.topology topology laid.one_topology child }
 
@@ -130,9 +148,18 @@ holder_of rows layouts s h k t =
       is = up.at;
       connection = record { row = row; is = is; parent_is = up.is; kind_is = kind_is };
       kind_is = kind;
-      in_layout = (held.number, held.layout, held.at, held.laid, record {
-      row = up.parent; is = up.at; parent_is = moved_parent up.parent above.number held.layout.topology above.is held.same; kind_is = refl
-      });
+      in_layout = (
+        held.number,
+        held.layout,
+        held.at,
+        held.laid,
+        record {
+          row = up.parent;
+          is = up.at;
+          parent_is = moved_parent up.parent above.number held.layout.topology above.is held.same;
+          kind_is = refl;
+        },
+      );
     }
   where
     no_track : (v : ElemKind) → ((v ≡ kinds.Begin) ⊎ (v ≡ kinds.End)) ⊎ ((v ≡ kinds.Switch) ⊎ (v ≡ kinds.Crossing)) → same_kind v kinds.Track ≡ false
@@ -166,50 +193,71 @@ place_exists rows layouts s h k t =
     by o n l at laid c o.kind_is
   where
     by : (o : IsHolder rows layouts k) (n : ℕ) (l : Layout) → slice_get layouts n ≡ Some l → IsLayout rows l → IsChild rows l.topology o.row.kind o.holder →
-    ((o.row.kind ≡ kinds.Begin) ⊎ (o.row.kind ≡ kinds.End)) ⊎ ((o.row.kind ≡ kinds.Switch) ⊎ (o.row.kind ≡ kinds.Crossing)) →
-    (p : Place) × IsAtPlace rows layouts k p
+        ((o.row.kind ≡ kinds.Begin) ⊎ (o.row.kind ≡ kinds.End)) ⊎ ((o.row.kind ≡ kinds.Switch) ⊎ (o.row.kind ≡ kinds.Crossing)) →
+        (p : Place) × IsAtPlace rows layouts k p
     by o n l at laid c (inl (inl e)) =
         let same : o.holder ≡ l.begin = is_only rows l.topology kinds.Begin l.begin o.holder laid.one_begin
         (subst (λ v. IsChild rows l.topology v o.holder) e c) in
-        let one = parts_at rows s o.holder o.row kinds.Begin o.is e in
-        (record {
-        track = n; part = parts.Begin
-        }, record {
-        layout = l; is = at; here = subst (λ m. children rows m kinds.Connection ≡ k ∷ []) same (only_below rows o.holder one.0 k one.1 o.connection)
-        })
+        let one = parts_at rows s o.holder o.row kinds.Begin o.is e in (
+          record {
+            track = n;
+            part = parts.Begin;
+          },
+          record {
+            layout = l;
+            is = at;
+            here = subst (λ m. children rows m kinds.Connection ≡ k ∷ []) same (only_below rows o.holder one.0 k one.1 o.connection);
+          },
+        )
     by o n l at laid c (inl (inr e)) =
         let same : o.holder ≡ l.end = is_only rows l.topology kinds.End l.end o.holder laid.one_end (subst (λ v. IsChild rows l.topology v o.holder) e c) in
-        let one = parts_at rows s o.holder o.row kinds.End o.is e in
-        (record {
-        track = n; part = parts.End
-        }, record {
-        layout = l; is = at; here = subst (λ m. children rows m kinds.Connection ≡ k ∷ []) same (only_below rows o.holder one.0 k one.1 o.connection)
-        })
+        let one = parts_at rows s o.holder o.row kinds.End o.is e in (
+          record {
+            track = n;
+            part = parts.End;
+          },
+          record {
+            layout = l;
+            is = at;
+            here = subst (λ m. children rows m kinds.Connection ≡ k ∷ []) same (only_below rows o.holder one.0 k one.1 o.connection);
+          },
+        )
     by o n l at laid c (inr (inl e)) =
         let among : Contains l.inner o.holder = (laid.between.all o.holder).1 (inl
-        (contains_from_among (children rows l.topology kinds.Switch) o.holder (has_child rows l.topology kinds.Switch o.holder
-        (subst (λ v. IsChild rows l.topology v o.holder) e c)))) in
+        (contains_from_among (children rows l.topology kinds.Switch) o.holder
+        (has_child rows l.topology kinds.Switch o.holder (subst (λ v. IsChild rows l.topology v o.holder) e c)))) in
         let (m, there) = place_in l.inner o.holder among in
         let one = parts_at rows s o.holder o.row kinds.Switch o.is e in
-        let same : k ≡ one.0 = is_only rows o.holder kinds.Connection one.0 k one.1 o.connection in
-        (record {
-        track = n; part = parts.Branch m
-        }, record {
-        layout = l; is = at; here = (o.holder, there, record {
-        a_switch = subst (λ v. is_of_kind rows v o.holder ≡ true) e (is_of_its_kind rows o.holder o.row o.is); only = one.1 ∙ ap (λ (x : ℕ). x ∷ []) (sym same)
-        })
-        })
+        let same : k ≡ one.0 = is_only rows o.holder kinds.Connection one.0 k one.1 o.connection in (
+          record {
+            track = n;
+            part = parts.Branch m;
+          },
+          record {
+            layout = l;
+            is = at;
+            here = (
+              o.holder,
+              there,
+              record {
+                a_switch = subst (λ v. is_of_kind rows v o.holder ≡ true) e (is_of_its_kind rows o.holder o.row o.is);
+                only = one.1
+                    ∙ ap (λ (x : ℕ). x ∷ []) (sym same);
+              },
+            );
+          },
+        )
     by o n l at laid c (inr (inr e)) =
         let among : Contains l.inner o.holder = (laid.between.all o.holder).1 (inr
-        (contains_from_among (children rows l.topology kinds.Crossing) o.holder (has_child rows l.topology kinds.Crossing o.holder
-        (subst (λ v. IsChild rows l.topology v o.holder) e c)))) in
+        (contains_from_among (children rows l.topology kinds.Crossing) o.holder
+        (has_child rows l.topology kinds.Crossing o.holder (subst (λ v. IsChild rows l.topology v o.holder) e c)))) in
         let (m, there) = place_in l.inner o.holder among in
         let a : is_of_kind rows kinds.Crossing o.holder ≡ true = subst (λ v. is_of_kind rows v o.holder ≡ true) e (is_of_its_kind rows o.holder o.row o.is) in
         let (outgoing, way) = way_of_child rows s o.holder k a o.connection in
         at_way o.holder n m l at there outgoing way
       where
         at_way : (holder n m : ℕ) (l : Layout) → slice_get layouts n ≡ Some l → slice_get l.inner m ≡ Some holder → (outgoing : Bool) →
-        IsWayOf rows holder outgoing k → (p : Place) × IsAtPlace rows layouts k p
+            IsWayOf rows holder outgoing k → (p : Place) × IsAtPlace rows layouts k p
         at_way holder n m l at there false way = (record { track = n; part = parts.Incoming m }, record { layout = l; is = at; here = (holder, there, way) })
         at_way holder n m l at there true way = (record { track = n; part = parts.Outgoing m }, record { layout = l; is = at; here = (holder, there, way) })
 
@@ -248,11 +296,14 @@ target_there rows s table h k t =
     let m = s.mutual_refs k row is kind_is in
     let inside : k < length table = subst (λ n. k < n) (sym h.whole) (slice_get_within rows k row is) in
     choose (get_or table k None) row m.number (record {
-    name = m.name; other = m.other; refers = m.refers; named = m.named
+      name = m.name;
+      other = m.other;
+      refers = m.refers;
+      named = m.named;
     }) (slice_get-get_or table k None inside) (h.entry k (get_or table k None) (slice_get-get_or table k None inside) row is)
   where
     choose : (o : Option ℕ) (row : Elem) (n : ℕ) → IsReferredTo rows row n → slice_get table k ≡ Some o → IsTargetOf rows row o →
-    (j : ℕ) × (entry_in table k ≡ Some j)
+        (j : ℕ) × (entry_in table k ≡ Some j)
     choose None row n r at of = absurd (of n r)
     choose (Some j) row n r at of = (j, rw at refl)
 
@@ -262,8 +313,17 @@ target_kind rows row j r = subst (λ (v : ElemKind). is_of_kind rows v j ≡ tru
 pub conn_made : (rows : List Elem) (layouts : List Layout) (k : ℕ) (row : Elem) (j : ℕ) (c : Conn) → slice_get rows k ≡ Some row → row.attrs.id ≡ Some c.id →
     row.at ≡ c.at → IsReferredTo rows row j → IsAtPlace rows layouts j c.to → IsConnOf rows layouts k c
 conn_made rows layouts k row j c is id at r place = record {
-    row = row; is = is; id = id; at = at; name = r.name; refers = r.refers; number = j; other = r.other; named = r.named; leads = place
-    }
+  row = row;
+  is = is;
+  id = id;
+  at = at;
+  name = r.name;
+  refers = r.refers;
+  number = j;
+  other = r.other;
+  named = r.named;
+  leads = place;
+}
 
 pub id_there : (rows : List Elem) → AreSoundRows rows → (k : ℕ) (row : Elem) → slice_get rows k ≡ Some row → bears_id row.kind ≡ true →
     (t : List ℕ) × (row.attrs.id ≡ Some t)

@@ -143,7 +143,11 @@ there_is : (rows : List Elem) → HasNoFault rows → (i : ℕ) (row : Elem) →
     (text : List ℕ) × (attribute_text a row.attrs ≡ Some text)
 there_is rows h i row is a required_a =
     let nothing : lacking rows row ≡ [] = nothing_at (lacking rows row) (λ b lacks. h Missing row.at (attribute_name b) [] (record {
-    number = i; row = row; is = is; place = refl; fault = (b, lacks, refl, refl)
+      number = i;
+      row = row;
+      is = is;
+      place = refl;
+      fault = (b, lacks, refl, refl);
     })) in
     some_text (attribute_text a row.attrs) (none_filtered (λ (b : Attribute). is_none (attribute_text b row.attrs)) (required rows row) a nothing required_a)
 
@@ -156,7 +160,7 @@ id_required kinds.Crossing parent o h = inl refl
 id_required kinds.Connection (Some kinds.Crossing) o h = choose (is_word (codes "outgoing") o)
   where
     choose : (v : Bool) → In (cond v (attributes.Id ∷ attributes.Ref ∷ attributes.Orientation ∷ attributes.Course ∷ [])
-    (attributes.Id ∷ attributes.Ref ∷ attributes.Orientation ∷ [])) attributes.Id
+        (attributes.Id ∷ attributes.Ref ∷ attributes.Orientation ∷ [])) attributes.Id
     choose true = inl refl
     choose false = inl refl
 id_required kinds.Connection parent o h = inl refl
@@ -173,7 +177,7 @@ ref_required : (parent : Option ElemKind) (o : Option (List ℕ)) → In (requir
 ref_required (Some kinds.Crossing) o = choose (is_word (codes "outgoing") o)
   where
     choose : (v : Bool) → In (cond v (attributes.Id ∷ attributes.Ref ∷ attributes.Orientation ∷ attributes.Course ∷ [])
-    (attributes.Id ∷ attributes.Ref ∷ attributes.Orientation ∷ [])) attributes.Ref
+        (attributes.Id ∷ attributes.Ref ∷ attributes.Orientation ∷ [])) attributes.Ref
     choose true = inr (inl refl)
     choose false = inr (inl refl)
 ref_required parent o = inr (inl refl)
@@ -184,7 +188,7 @@ way_required k o (inl e) = rw e (inr (inr (inl refl)))
 way_required k o (inr e) = rw e (choose (is_word (codes "outgoing") o))
   where
     choose : (v : Bool) → In (cond v (attributes.Id ∷ attributes.Ref ∷ attributes.Orientation ∷ attributes.Course ∷ [])
-    (attributes.Id ∷ attributes.Ref ∷ attributes.Orientation ∷ [])) attributes.Orientation
+        (attributes.Id ∷ attributes.Ref ∷ attributes.Orientation ∷ [])) attributes.Orientation
     choose true = inr (inr (inl refl))
     choose false = inr (inr (inl refl))
 
@@ -220,7 +224,11 @@ few_tracks rows h = elim (leb_tells (length (track_rows rows)) MAX_TRACKS) [
       let k = get_or (track_rows rows) MAX_TRACKS 0 in
       let there = track_rows_kind rows k (among_from_contains (track_rows rows) k (Contains-get_or (track_rows rows) MAX_TRACKS 0 within)) in
       absurd (h TooMany there.0.at [] [] (record {
-      number = k; row = there.0; is = there.1; place = refl; fault = (slice_get-get_or (track_rows rows) MAX_TRACKS 0 within, refl, refl)
+        number = k;
+        row = there.0;
+        is = there.1;
+        place = refl;
+        fault = (slice_get-get_or (track_rows rows) MAX_TRACKS 0 within, refl, refl);
       }))
 ]
 
@@ -232,7 +240,11 @@ good_id rows h i row is bears =
       id = there.0;
       has = there.1;
       good = stable (IsId there.0) (known_id there.0) (λ bad. h Id row.at [] [] (record {
-      number = i; row = row; is = is; place = refl; fault = (record { bears = bears; id = there.0; has = there.1; bad = bad }, refl, refl)
+        number = i;
+        row = row;
+        is = is;
+        place = refl;
+        fault = (record { bears = bears; id = there.0; has = there.1; bad = bad }, refl, refl);
       }));
     }
 
@@ -240,7 +252,11 @@ ids_apart : (rows : List Elem) → HasNoFault rows → (i j : ℕ) (id : List �
 ids_apart rows h i j id a b =
     let repeated = λ (m n : ℕ) (x : BearsId rows m id) (y : BearsId rows n id) (below : n < m).
     h RepeatedId x.row.at id [] (record {
-    number = m; row = x.row; is = x.is; place = refl; fault = (record { here = x; earlier = n; before = below; there = y }, refl)
+      number = m;
+      row = x.row;
+      is = x.is;
+      place = refl;
+      fault = (record { here = x; earlier = n; before = below; there = y }, refl);
     }) in
     elim (leb_tells i j) [
       | inl le ↦ elim (leb_tells j i) [
@@ -252,8 +268,12 @@ ids_apart rows h i j id a b =
 
 no_bad_number : (rows : List Elem) → HasNoFault rows → (i : ℕ) (row : Elem) → slice_get rows i ≡ Some row → (a : Attribute) → HasNoNumber row a → ⊥
 no_bad_number rows h i row is a bad = h Number row.at (id_of row) (attribute_name a) (record {
-    number = i; row = row; is = is; place = refl; fault = (a, bad, refl, refl)
-    })
+  number = i;
+  row = row;
+  is = is;
+  place = refl;
+  fault = (a, bad, refl, refl);
+})
 
 position_of_row : (rows : List Elem) → HasNoFault rows → (i : ℕ) (row : Elem) → slice_get rows i ≡ Some row → bears_position row.kind ≡ true →
     (z : ℤ) × HasPosition row z
@@ -299,7 +319,7 @@ named_first row rows name (inr not_here) (inr none) = inr by
   where
     by : (j : ℕ) (other : Elem) → IsConnectionNamed (row ∷ rows) j name other → ⊥
     by zero other n = let same : row ≡ other = same_Some row other n.is in not_here
-    (subst (λ (v : Elem). (v.kind ≡ kinds.Connection) × (v.attrs.id ≡ Some name)) (sym same) (n.connection, n.has))
+        (subst (λ (v : Elem). (v.kind ≡ kinds.Connection) × (v.attrs.id ≡ Some name)) (sym same) (n.connection, n.has))
     by (suc j) other n = none j other (record { is = n.is; connection = n.connection; has = n.has })
 
 named_or_none : (rows : List Elem) (name : List ℕ) → NamedIn rows name ⊎ NoneNamed rows name
@@ -316,7 +336,11 @@ mutual_row rows h i row is kind =
     let refers : RefersTo row name = record { connection = kind; refers = there.1 } in
     elim (named_or_none rows name) [
       | inr none ↦ absurd (h UnknownRef row.at (id_of row) [] (record {
-      number = i; row = row; is = is; place = refl; fault = (record { name = name; refers = refers; none = none }, refl, refl)
+        number = i;
+        row = row;
+        is = is;
+        place = refl;
+        fault = (record { name = name; refers = refers; none = none }, refl, refl);
       }))
       | inl (number, other, named) ↦ record {
         name = name;
@@ -328,13 +352,28 @@ mutual_row rows h i row is kind =
           connection = named.connection;
           refers = stable (other.attrs.reference ≡ Some (id_of row)) (known_some other.attrs.reference (id_of row))
               (λ elsewhere. h NotMutual row.at (id_of row) name (record {
-              number = i; row = row; is = is; place = refl; fault = (record {
-              refers = refers; number = number; other = other; named = named; elsewhere = elsewhere
-              }, refl)
+                number = i;
+                row = row;
+                is = is;
+                place = refl;
+                fault = (
+                  record {
+                    refers = refers;
+                    number = number;
+                    other = other;
+                    named = named;
+                    elsewhere = elsewhere;
+                  },
+                  refl,
+                );
               }));
         };
         elsewhere = (λ same. h SelfRef row.at (id_of row) [] (record {
-        number = i; row = row; is = is; place = refl; fault = (subst (RefersTo row) same refers, refl, refl)
+          number = i;
+          row = row;
+          is = is;
+          place = refl;
+          fault = (subst (RefersTo row) same refers, refl, refl);
         }));
       }
     ]
@@ -391,7 +430,11 @@ parts_stable rows i k = λ h. tt
 parts_of_row : (rows : List Elem) → HasNoFault rows → (i : ℕ) (row : Elem) → slice_get rows i ≡ Some row → HasItsParts rows i row.kind
 parts_of_row rows h i row is =
     parts_stable rows i row.kind (λ lacks. h EndKind row.at (id_of row) [] (record {
-    number = i; row = row; is = is; place = refl; fault = (lacks, refl, refl)
+      number = i;
+      row = row;
+      is = is;
+      place = refl;
+      fault = (lacks, refl, refl);
     }))
 
 -- ---- words
@@ -437,7 +480,11 @@ way_of_row rows h i row parent is of =
       | inr s ↦ require_below rows h i row parent kinds.Crossing is s attributes.Orientation (way_required kinds.Crossing row.attrs.orientation (inr refl))
     ] in
     let way = stable (IsWay there.0) (known_way there.0) (λ bad. h Orientation row.at (id_of row) [] (record {
-    number = i; row = row; is = is; place = refl; fault = (record { parent = parent; of_inner = of; word = there.0; has = there.1; bad = bad }, refl, refl)
+      number = i;
+      row = row;
+      is = is;
+      place = refl;
+      fault = (record { parent = parent; of_inner = of; word = there.0; has = there.1; bad = bad }, refl, refl);
     })) in
     let (outgoing, e) = way_of there.0 way in
     (outgoing, there.1 ∙ ap (λ (v : List ℕ). Some v) e)
@@ -455,9 +502,21 @@ course_of_row rows h i row switch is of =
     let there = require_below rows h i row switch kinds.Switch is of attributes.Course (course_required row.attrs.orientation) in
     course_from switch row there.0 there.1 (stable (IsCourseAt switch there.0) (known_course switch there.0)
     (λ bad. h Course row.at (id_of row) [] (record {
-    number = i; row = row; is = is; place = refl; fault = (inl (record {
-    switch = switch; of_switch = of; word = there.0; has = there.1; bad = bad
-    }), refl, refl)
+      number = i;
+      row = row;
+      is = is;
+      place = refl;
+      fault = (
+        inl (record {
+          switch = switch;
+          of_switch = of;
+          word = there.0;
+          has = there.1;
+          bad = bad;
+        }),
+        refl,
+        refl,
+      );
     })))
 
 hand_of_row : (rows : List Elem) → HasNoFault rows → (i : ℕ) (row crossing : Elem) → slice_get rows i ≡ Some row →
@@ -468,9 +527,22 @@ hand_of_row rows h i row crossing is of leaving =
     (subst (λ (o : Option (List ℕ)). In (required_of kinds.Connection (Some kinds.Crossing) o) attributes.Course) (sym leaving) hand_required) in
     let hand = stable (IsHand there.0) (known_hand there.0)
     (λ bad. h Course row.at (id_of row) [] (record {
-    number = i; row = row; is = is; place = refl; fault = (inr (record {
-    crossing = crossing; of_crossing = of; outgoing = leaving; word = there.0; has = there.1; bad = bad
-    }), refl, refl)
+      number = i;
+      row = row;
+      is = is;
+      place = refl;
+      fault = (
+        inr (record {
+          crossing = crossing;
+          of_crossing = of;
+          outgoing = leaving;
+          word = there.0;
+          has = there.1;
+          bad = bad;
+        }),
+        refl,
+        refl,
+      );
     })) in
     let (to, e) = hand_of there.0 hand in
     (to, there.1 ∙ ap (λ (v : List ℕ). Some v) e)

@@ -77,8 +77,8 @@ places_push [] c l s n e = ap (λ k. cond (is_counted c l) (k ∷ []) []) (let s
 places_push (d ∷ ds) c l s n e = by_test (is_counted d l) (places_push ds c l (s + 1) n (omega arith))
   where
     by_test : (b : Bool) → places_from (s + 1) (ds ++ c ∷ []) l ≡ places_from (s + 1) ds l ++ cond (is_counted c l) (n ∷ []) [] →
-    cond b (s ∷ places_from (s + 1) (ds ++ c ∷ []) l) (places_from (s + 1) (ds ++ c ∷ []) l) ≡ cond b (s ∷ places_from (s + 1) ds l) (places_from (s + 1) ds l)
-    ++ cond (is_counted c l) (n ∷ []) []
+        cond b (s ∷ places_from (s + 1) (ds ++ c ∷ []) l) (places_from (s + 1) (ds ++ c ∷ []) l) ≡ cond b (s ∷ places_from (s + 1) ds l)
+        (places_from (s + 1) ds l) ++ cond (is_counted c l) (n ∷ []) []
     by_test true h = ap (λ (ns : List ℕ). s ∷ ns) h
     by_test false h = h
 
@@ -158,7 +158,9 @@ listed vars clauses c n old new s lists count counts truth trail = record {
       });
   within = rw trail (λ l h. closure_more clauses (clauses ++ c ∷ []) nothing l (among_left clauses (c ∷ [])) (s.within l h));
   reasoned = rw trail (λ l h. let r = s.reasoned l h in record {
-  reason = r.reason; among = Contains-append_left clauses (c ∷ []) r.reason r.among; unit = r.unit
+    reason = r.reason;
+    among = Contains-append_left clauses (c ∷ []) r.reason r.among;
+    unit = r.unit;
   });
   quiet = rw trail (All-push (λ d. (d ≡ c) ⊎ IsQuiet (has (take (length old.trail.items) old.trail.items)) (has old.trail.items) d) clauses c
       (All-weaker (IsQuiet (has (take (length old.trail.items) old.trail.items)) (has old.trail.items))
@@ -211,7 +213,7 @@ unit_counted vars clauses truth then trail counts l c t = record {
   table = t;
   within = omega (arith, length-append trail (l ∷ []));
   right = subst (λ (ls : List Literal). AreCounts clauses (has ls) counts) (take_all (length trail) trail (omega arith)
-  ∙ sym (take_at trail (l ∷ []) (length trail) refl)) c.right;
+      ∙ sym (take_at trail (l ∷ []) (length trail) refl)) c.right;
 }
 
 -- what follows without assumptions
@@ -314,7 +316,7 @@ var_added vars clauses old new there s occurrences truth trail counts = record {
     low_or_high i n = grind arith
 
     by_place : (l : Literal) → (word_of l < length old.occurrences.items) ⊎ (length old.occurrences.items ≤ word_of l) →
-    get_or old.occurrences.items (word_of l) no_entries ≡ entries (shorts_from clauses l) (places_from 0 clauses l)
+        get_or old.occurrences.items (word_of l) no_entries ≡ entries (shorts_from clauses l) (places_from 0 clauses l)
     by_place l (inl low) = let o = s.occurrences in o.each l low
     by_place l (inr high) = let o = s.occurrences in
         get_or_past old.occurrences.items (word_of l) no_entries high ∙ sym (entries_none clauses l vars there (high_var vars l (omega (arith, high, o.size))))

@@ -57,17 +57,17 @@ quiet_next clauses trail mid new counts front l within e distinct once g more qu
 
     set_is : (c : List Literal) → IsQuiet (has now) (has new) c → IsQuiet (has (take (front + 1) new)) (has new) c
     set_is c q = subst (λ (ls : List Literal). IsQuiet (has ls) (has new) c) (sym
-    (same_front clauses trail new (front + 1) whole (omega arith) ∙ next_front trail front l within e)) q
+        (same_front clauses trail new (front + 1) whole (omega arith) ∙ next_front trail front l within e)) q
 
     at_default : (n : ℕ) (d : List Literal) → n < length clauses → IsQuiet (has (take (front + 1) new)) (has new) (get_or clauses n []) →
-    IsQuiet (has (take (front + 1) new)) (has new) (get_or clauses n d)
+        IsQuiet (has (take (front + 1) new)) (has new) (get_or clauses n d)
     at_default n d there q = subst (λ (c : List Literal). IsQuiet (has (take (front + 1) new)) (has new) c) (get_or_default clauses n [] d there) q
 
     in_trail : Includes (has trail) (has now)
     in_trail = subst (λ (ls : List Literal). Includes (has trail) (has ls)) (next_front trail front l within e) (front_includes trail (front + 1))
 
     by_test : (n : ℕ) → n < length clauses → (b : Bool) → has (get_or clauses n []) (negate l) ≡ b → (s : Bool) → is_short (get_or clauses n []) ≡ s →
-    IsQuiet (has now) (has new) (get_or clauses n [])
+        IsQuiet (has now) (has new) (get_or clauses n [])
     by_test n there true h true short =
         let rest = rest_of (get_or clauses n []) (negate l) in
         let q : IsRestQuiet (negate l) trail mid rest = All-contains (IsRestQuiet (negate l) trail mid) (shorts_from clauses (negate l)) rest shorts
@@ -91,7 +91,7 @@ counted_next vars clauses truth then trail new old counts front l within e disti
   table = t;
   within = let longer = g.longer in omega arith;
   right = subst (λ (ls : List Literal). AreCounts clauses (has ls) counts) (sym (same_front clauses trail new (front + 1) g (omega arith)
-  ∙ next_front trail front l within e))
+      ∙ next_front trail front l within e))
       (counts_down clauses (take front trail) l old counts distinct (front_lacks trail front l (let k = counted.table in k.distinct) within e) counted.right
       same up);
 }
@@ -141,8 +141,11 @@ pub record Propagated (vars : ℕ) (clauses : Clauses) (old : List Literal) (tru
 pub propagated_none : (vars : ℕ) (clauses : Clauses) (trail : List Literal) (truth : List Bool) (counts : List ℕ) (from : ℕ) →
     IsCountedTo vars clauses truth trail counts from → AreQuiet clauses trail from → Propagated vars clauses trail truth trail counts from from
 propagated_none vars clauses trail truth counts from counted quiet = record {
-    counted = counted; quiet = quiet; grows = grows_none clauses trail; on = omega arith
-    }
+  counted = counted;
+  quiet = quiet;
+  grows = grows_none clauses trail;
+  on = omega arith;
+}
 
 pub propagated_more : (vars : ℕ) (clauses : Clauses) (old mid new : List Literal) (truth then : List Bool) (counts now : List ℕ) (from front : ℕ) →
     Propagated vars clauses old truth mid counts from front → IsCountedTo vars clauses then new now (front + 1) → AreQuiet clauses new (front + 1) →

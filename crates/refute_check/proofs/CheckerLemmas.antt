@@ -46,7 +46,7 @@ pub new_first : (clauses : Clauses) (lits : List Literal) (first : Literal) (oth
     IsNewClause clauses lits
 new_first clauses lits first others greatest e le there f u = subst (λ (ls : List Literal). IsNewClause clauses ls) (sym e) (record {
   named = subst (λ (ls : List Literal). All (λ l. l.var ≤ greatest_var clauses) ls) e
-  (All-weaker (IsThere greatest) (λ l. l.var ≤ greatest_var clauses) (λ l h. omega (arith, h.1)) lits (there_all greatest lits there));
+      (All-weaker (IsThere greatest) (λ l. l.var ≤ greatest_var clauses) (λ l h. omega (arith, h.1)) lits (there_all greatest lits there));
   unfalsified = f;
   unknown = u;
 })
@@ -143,7 +143,7 @@ learnt_accepts old mid last new c lits e same again named fits rup fresh k = rec
   };
   fits = has_words old.room old.facts.clauses c lits e fits;
   kept = k ∙ ap (λ (m : CheckedFacts). with_clause m lits 0) (again ∙ same) ∙ ap (λ (ls : List Literal). with_clause old ls 0) e
-  ∙ ap (λ (rs : Clauses). with_refuted old c rs) (sym (append-nil old.facts.refuted));
+      ∙ ap (λ (rs : Clauses). with_refuted old c rs) (sym (append-nil old.facts.refuted));
 }
   where
     with_refuted : CheckedFacts → List Literal → Clauses → CheckedFacts
@@ -160,7 +160,7 @@ pub refuted_wrong : (kept : CheckedFacts) (room : ℕ) (f : Cnf) (q : Option (Li
 refuted_wrong kept room f q rs lost c lits e k named refutes = record {
   named = named;
   wrong = λ h. refutes (subst (λ (p : Option (List Literal)). Answers p (Refuted lits)) (sym (ap (λ (m : CheckedFacts). m.facts.query) k))
-  (subst (λ (ls : List Literal). Answers kept.facts.query (Refuted ls)) (sym e) h));
+      (subst (λ (ls : List Literal). Answers kept.facts.query (Refuted ls)) (sym e) h));
 }
 
 pub refuted_answers : (kept : CheckedFacts) (room : ℕ) (f : Cnf) (q : Option (List Literal)) (rs : Clauses) (lost : Bool) (c lits : List Literal) → lits ≡ c →
@@ -185,24 +185,31 @@ refuted_accepts old mid new room f q rs lost now c lits d e de same k push is na
   stands = record { named = named; answers = answers; implied = subst (λ (ls : List Literal). Rup old.facts.clauses ls) e rup; says_more = tt };
   fits = λ h. h;
   kept = is ∙ ap (λ (xs : Clauses). checked_facts room f q xs lost) push ∙ ap (λ (ls : List Literal). checked_facts room f q (rs ++ ls ∷ []) lost) (de ∙ e)
-  ∙ ap (λ (m : CheckedFacts). with_refuted m c) (k ∙ same) ∙ whole;
+      ∙ ap (λ (m : CheckedFacts). with_refuted m c) (k ∙ same) ∙ whole;
 }
   where
     with_refuted : CheckedFacts → List Literal → CheckedFacts
     with_refuted m c = record {
-    room = m.room; facts = record {
-    greatest = m.facts.greatest; clauses = m.facts.clauses; query = m.facts.query; refuted = m.facts.refuted ++ c ∷ []
-    }; lost = m.lost
+      room = m.room;
+      facts = record {
+        greatest = m.facts.greatest;
+        clauses = m.facts.clauses;
+        query = m.facts.query;
+        refuted = m.facts.refuted ++ c ∷ [];
+      };
+      lost = m.lost;
     }
 
     with_both : ℕ → Clauses → CheckedFacts
     with_both n cs = record {
-    room = old.room; facts = record { greatest = n; clauses = cs; query = old.facts.query; refuted = old.facts.refuted ++ c ∷ [] }; lost = old.lost
+      room = old.room;
+      facts = record { greatest = n; clauses = cs; query = old.facts.query; refuted = old.facts.refuted ++ c ∷ [] };
+      lost = old.lost;
     }
 
     whole : with_refuted old c ≡ kept_after old (Refuted c)
     whole = let zero : old.facts.greatest ≡ max old.facts.greatest 0 = omega arith in ap (λ n. with_both n old.facts.clauses) zero
-    ∙ ap (λ (cs : Clauses). with_both (max old.facts.greatest 0) cs) (sym (append-nil old.facts.clauses))
+        ∙ ap (λ (cs : Clauses). with_both (max old.facts.greatest 0) cs) (sym (append-nil old.facts.clauses))
 
 -- the same of a checker that kept its value
 pub there_same : (old mid : CheckedFacts) (lits : List Literal) → mid ≡ old → AreThere old.facts.greatest lits → AreThere mid.facts.greatest lits

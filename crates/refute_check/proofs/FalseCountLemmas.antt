@@ -59,19 +59,34 @@ times_before : (cs : Clauses) (l : Literal) (s n : ℕ) → n < s → times (pla
 times_before [] l s n lt = refl
 times_before (c ∷ cs) l s n lt =
     let ne : s ≢ n = omega arith in
-    omega (arith, times_head (is_counted c l) s (places_from (s + 1) cs l) n, cond_none (is_counted c l) (one_at n s) (one_other n s ne), times_before cs l
-    (s + 1) n (omega arith))
+    omega (
+      arith,
+      times_head (is_counted c l) s (places_from (s + 1) cs l) n,
+      cond_none (is_counted c l) (one_at n s) (one_other n s ne),
+      times_before cs l
+          (s + 1) n (omega arith),
+    )
 
 times_place : (cs : Clauses) (l : Literal) (s k n : ℕ) → n ≡ s + k → k < length cs → times (places_from s cs l) n ≡ one_counted (get_or cs k []) l
 times_place [] l s k n e within = absurd (omega arith)
 times_place (c ∷ cs) l s zero n e within =
     let same : s ≡ n = omega arith in
-    omega (arith, times_head (is_counted c l) s (places_from (s + 1) cs l) n, cond_one (is_counted c l) (one_at n s) (one_same n s same), times_before cs l
-    (s + 1) n (omega arith))
+    omega (
+      arith,
+      times_head (is_counted c l) s (places_from (s + 1) cs l) n,
+      cond_one (is_counted c l) (one_at n s) (one_same n s same),
+      times_before cs l
+          (s + 1) n (omega arith),
+    )
 times_place (c ∷ cs) l s (suc k) n e within =
     let ne : s ≢ n = omega arith in
-    omega (arith, times_head (is_counted c l) s (places_from (s + 1) cs l) n, cond_none (is_counted c l) (one_at n s) (one_other n s ne), times_place cs l
-    (s + 1) k n (omega arith) (omega arith))
+    omega (
+      arith,
+      times_head (is_counted c l) s (places_from (s + 1) cs l) n,
+      cond_none (is_counted c l) (one_at n s) (one_other n s ne),
+      times_place cs l
+          (s + 1) k n (omega arith) (omega arith),
+    )
 
 pub times_in : (cs : Clauses) (l : Literal) (n : ℕ) → n < length cs → times (places_from 0 cs l) n ≡ one_counted (get_or cs n []) l
 times_in cs l n within = times_place cs l 0 n n (omega arith) within
@@ -148,7 +163,7 @@ named_long clauses l n within some = by_test (is_short (get_or clauses n [])) re
   where
     by_test : (b : Bool) → is_short (get_or clauses n []) ≡ b → b ≡ false
     by_test true e = let none : one_counted (get_or clauses n []) l ≡ 0 = ap weight (counted_short (get_or clauses n []) l e) in absurd
-    (omega (arith, none, some, times_in clauses l n within))
+        (omega (arith, none, some, times_in clauses l n within))
     by_test false e = refl
 
 -- a number of the list is a clause's, which is counted, and stands there once
@@ -159,8 +174,10 @@ record IsNamed (clauses : Clauses) (l : Literal) (n : ℕ) : Type 0 where
 
 named_at : (clauses : Clauses) (l : Literal) (n : ℕ) → n < length clauses → is_short (get_or clauses n []) ≡ false → IsNamed clauses l n
 named_at clauses l n within long = record {
-    within = within; long = long; once = times_in clauses l n within ∙ ap weight (counted_long (get_or clauses n []) l long)
-    }
+  within = within;
+  long = long;
+  once = times_in clauses l n within ∙ ap weight (counted_long (get_or clauses n []) l long);
+}
 
 all_named : (clauses : Clauses) (l : Literal) → All (IsNamed clauses l) (places_from 0 clauses l)
 all_named clauses l = All-from_get_or (IsNamed clauses l) (places_from 0 clauses l) 0 (λ i low.
@@ -173,8 +190,14 @@ pub down_enough : (clauses : Clauses) (trail : List Literal) (l : Literal) (coun
     AreCounts clauses (has trail) counts → All (λ n. times (places_from 0 clauses (negate l)) n ≤ get_or counts n 0) (places_from 0 clauses (negate l))
 down_enough clauses trail l counts distinct none right = All-weaker (IsNamed clauses (negate l))
     (λ n. times (places_from 0 clauses (negate l)) n ≤ get_or counts n 0)
-    (λ n h. omega (arith, right.each n h.within h.long, h.once, false_more trail (get_or clauses n []) l (distinct_at clauses n distinct) none, false_small
-    (has (trail ++ l ∷ [])) clauses n))
+    (λ n h. omega (
+      arith,
+      right.each n h.within h.long,
+      h.once,
+      false_more trail (get_or clauses n []) l (distinct_at clauses n distinct) none,
+      false_small
+          (has (trail ++ l ∷ [])) clauses n,
+    ))
     (places_from 0 clauses (negate l)) (all_named clauses (negate l))
 
 pub counts_down : (clauses : Clauses) (trail : List Literal) (l : Literal) (old new : List ℕ) → AllDistinct clauses → has trail l ≡ false →
@@ -183,7 +206,7 @@ pub counts_down : (clauses : Clauses) (trail : List Literal) (l : Literal) (old 
 counts_down clauses trail l old new distinct none right same up = record {
   size = same ∙ right.size;
   each = λ n within long. let h = named_at clauses (negate l) n within long in omega
-  (arith, up n, right.each n within long, h.once, false_more trail (get_or clauses n []) l (distinct_at clauses n distinct) none);
+      (arith, up n, right.each n within long, h.once, false_more trail (get_or clauses n []) l (distinct_at clauses n distinct) none);
 }
 
 pub up_small : (clauses : Clauses) (trail : List Literal) (l : Literal) (counts : List ℕ) → AllDistinct clauses → has trail l ≡ false →
@@ -191,8 +214,14 @@ pub up_small : (clauses : Clauses) (trail : List Literal) (l : Literal) (counts 
     All (λ n. get_or counts n 0 + times (places_from 0 clauses (negate l)) n < 2 ^ 32) (places_from 0 clauses (negate l))
 up_small clauses trail l counts distinct none small right = All-weaker (IsNamed clauses (negate l))
     (λ n. get_or counts n 0 + times (places_from 0 clauses (negate l)) n < 2 ^ 32)
-    (λ n h. omega (arith, right.each n h.within h.long, h.once, false_more trail (get_or clauses n []) l (distinct_at clauses n distinct) none, words_at clauses
-    n))
+    (λ n h. omega (
+      arith,
+      right.each n h.within h.long,
+      h.once,
+      false_more trail (get_or clauses n []) l (distinct_at clauses n distinct) none,
+      words_at clauses
+          n,
+    ))
     (places_from 0 clauses (negate l)) (all_named clauses (negate l))
 
 pub counts_up : (clauses : Clauses) (trail : List Literal) (l : Literal) (old new : List ℕ) → AllDistinct clauses → has trail l ≡ false →
@@ -201,7 +230,7 @@ pub counts_up : (clauses : Clauses) (trail : List Literal) (l : Literal) (old ne
 counts_up clauses trail l old new distinct none right same up = record {
   size = same ∙ right.size;
   each = λ n within long. let h = named_at clauses (negate l) n within long in omega
-  (arith, up n, right.each n within long, h.once, false_more trail (get_or clauses n []) l (distinct_at clauses n distinct) none);
+      (arith, up n, right.each n within long, h.once, false_more trail (get_or clauses n []) l (distinct_at clauses n distinct) none);
 }
 
 -- one less than before is enough where the literal is counted
@@ -210,8 +239,14 @@ pub one_taken : (clauses : Clauses) (trail : List Literal) (l : Literal) (counts
     get_or counts n 0 - 1 + false_count (has (trail ++ l ∷ [])) (get_or clauses n []) ≤ length (get_or clauses n [])
 one_taken clauses trail l counts n distinct none right within long h =
     let one : one_has (get_or clauses n []) (negate l) ≡ 1 = ap weight h in
-    omega (arith, right.each n within long, one, false_more trail (get_or clauses n []) l (distinct_at clauses n distinct) none, false_small
-    (has (trail ++ l ∷ [])) clauses n)
+    omega (
+      arith,
+      right.each n within long,
+      one,
+      false_more trail (get_or clauses n []) l (distinct_at clauses n distinct) none,
+      false_small
+          (has (trail ++ l ∷ [])) clauses n,
+    )
 
 pub named_by : (clauses : Clauses) (l : Literal) (n : ℕ) → n < length clauses → is_short (get_or clauses n []) ≡ false → has (get_or clauses n []) l ≡ true →
     Contains (places_from 0 clauses l) n
@@ -225,4 +260,4 @@ named_by clauses l n within long h = named_from clauses l 0 n n (omega arith) wi
     named_from [] l s k n e within h = absurd (omega arith)
     named_from (c ∷ cs) l s zero n e within h = let same : s ≡ n = omega arith in rw h (0, omega arith, same)
     named_from (c ∷ cs) l s (suc k) n e within h = later (is_counted c l) s n (places_from (s + 1) cs l)
-    (named_from cs l (s + 1) k n (omega arith) (omega arith) h)
+        (named_from cs l (s + 1) k n (omega arith) (omega arith) h)

@@ -57,6 +57,6 @@ answers_told query line c lits r is same holds fails = subst (λ (l : LogLine). 
     (ap (λ (ls : List Literal). Refuted ls) same ∙ sym is) (by_test r holds fails)
   where
     by_test : (b : Bool) → (b ≡ true → Answers query (Refuted lits)) → (b ≡ false → Answers query (Refuted lits) → ⊥) →
-    MatchBool b (Answers query (Refuted lits)) (Answers query (Refuted lits) → ⊥)
+        MatchBool b (Answers query (Refuted lits)) (Answers query (Refuted lits) → ⊥)
     by_test true h f = h refl
     by_test false h f = f refl

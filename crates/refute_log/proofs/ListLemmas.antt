@@ -22,5 +22,9 @@ refuted_tells b allowed slice c line e is does lacks = subst (λ (x : LogLine). 
   where
     by : (b : Bool) → (b ≡ true → All (λ l. Contains allowed l) slice) → (b ≡ false → All (λ l. Contains allowed l) slice → ⊥) → IsTrue b ↔ HasAllOf allowed c
     by true does lacks = (λ t l inside. All-contains (λ k. Contains allowed k) c l (subst (All (λ k. Contains allowed k)) e (does refl)) inside, λ h. refl)
-    by false does lacks = (λ t. absurd (true≢false (sym t)), λ h. absurd (lacks refl
-    (subst (All (λ k. Contains allowed k)) (sym e) (All-weaker (Contains c) (λ k. Contains allowed k) (λ k inside. h k inside) c (All-contains_itself c)))))
+    by false does lacks = (
+      λ t. absurd (true≢false (sym t)),
+      λ h. absurd (lacks refl
+          (subst (All (λ k. Contains allowed k)) (sym e) (All-weaker (Contains c) (λ k. Contains allowed k) (λ k inside. h k inside) c
+          (All-contains_itself c)))),
+    )

@@ -109,7 +109,7 @@ learnt_count_more lines line =
     by_kind line more
   where
     by_kind : (l : LogLine) → length (flat_map learnt (lines ++ line ∷ [])) ≡ length (flat_map learnt lines) + length (learnt l) →
-    learnt_count (lines ++ line ∷ []) ≡ learnt_after l (learnt_count lines)
+        learnt_count (lines ++ line ∷ []) ≡ learnt_after l (learnt_count lines)
     by_kind (Formula c) e = omega arith
     by_kind (Learnt c) e = omega arith
     by_kind (Bound criterion k x) e = omega arith
@@ -149,9 +149,9 @@ record Holds (v : Assignment) (lines : Lines) : Type 0 where
 holds_more : (v : Assignment) (lines : Lines) (line : LogLine) → Stands lines line → SatisfiesAll v (given line) → Holds v lines → Holds v (lines ++ line ∷ [])
 holds_more v lines line s g h = record {
   clauses = subst (SatisfiesAll v) (sym (flat_map_last added lines line)) (satisfies_append v (flat_map added lines) (added line) h.clauses
-  (added_holds line s g));
+      (added_holds line s g));
   answers = subst (SatisfiesAll v) (sym (flat_map_last refuted lines line)) (satisfies_append v (flat_map refuted lines) (refuted line) h.answers
-  (refuted_holds line s));
+      (refuted_holds line s));
 }
   where
     added_holds : (l : LogLine) → Stands lines l → SatisfiesAll v (given l) → SatisfiesAll v (added l)

@@ -50,15 +50,30 @@ stood xs i j a li lj la =
     let s = swapped_from_swap xs (swap xs i j) i j 0 li lj refl in
     elim (eqb_tells a i) [
       | inl is ↦ record {
-      at = j; within = lj; same = ap (λ k. get_or (swap xs i j) k 0) is.1 ∙ s.0; first = λ e. refl; second = λ e. sym e ∙ is.1; other = λ n. absurd (n is.1)
+        at = j;
+        within = lj;
+        same = ap (λ k. get_or (swap xs i j) k 0) is.1 ∙ s.0;
+        first = λ e. refl;
+        second = λ e. sym e ∙ is.1;
+        other = λ n. absurd (n is.1);
       }
       | inr not ↦ elim (eqb_tells a j) [
         | inl is ↦ record {
-        at = i; within = li; same = ap (λ k. get_or (swap xs i j) k 0) is.1 ∙ s.1; first = λ e. absurd (not.1 e); second = λ e. refl; other = λ m n. absurd
-        (n is.1)
+          at = i;
+          within = li;
+          same = ap (λ k. get_or (swap xs i j) k 0) is.1 ∙ s.1;
+          first = λ e. absurd (not.1 e);
+          second = λ e. refl;
+          other = λ m n. absurd
+              (n is.1);
         }
         | inr neither ↦ record {
-        at = a; within = la; same = s.2 a not.1 neither.1; first = λ e. absurd (not.1 e); second = λ e. absurd (neither.1 e); other = λ m n. refl
+          at = a;
+          within = la;
+          same = s.2 a not.1 neither.1;
+          first = λ e. absurd (not.1 e);
+          second = λ e. absurd (neither.1 e);
+          other = λ m n. refl;
         }
       ]
     ]
@@ -72,7 +87,7 @@ swap_keeps xs i j li lj h a b la lb e =
     elim (eqb_tells a b) [ inl is ↦ is.1 | inr not ↦ absurd (apart a b i j p.at q.at not.1 p.first p.second p.other q.first q.second q.other same) ]
   where
     apart : (a b i j m n : ℕ) → a ≢ b → (a ≡ i → m ≡ j) → (a ≡ j → m ≡ i) → (a ≢ i → a ≢ j → m ≡ a) → (b ≡ i → n ≡ j) → (b ≡ j → n ≡ i) →
-    (b ≢ i → b ≢ j → n ≡ b) → m ≡ n → ⊥
+        (b ≢ i → b ≢ j → n ≡ b) → m ≡ n → ⊥
     apart a b i j m n ne f g h p q r e =
         elim (eqb_tells a i) [
           | inl ai ↦ elim (eqb_tells b j) [

@@ -127,14 +127,14 @@ narrow_refuted p kept left core n without h refuted =
     from_filter t xs b c = All-contains (Contains xs) (filter t xs) b (All-filter t (Contains xs) xs (λ k d lt. Contains-get_or xs k d lt)) c
 
     meets_core : (p : Task) (kept left core : List ℕ) (e : Drawing) → All (Contains (kept ++ left)) core →
-    All (MeetsAt p e) (kept ++ filter (has_number core) left) → All (MeetsAt p e) core
+        All (MeetsAt p e) (kept ++ filter (has_number core) left) → All (MeetsAt p e) core
     meets_core p kept left core e among all = λ k d lt.
         let c = get_or core k d in
         let is : Contains core c = Contains-get_or core k d lt in
         elim (Contains-append_cases kept left c (among k d lt)) [
           | inl there ↦ All-contains (MeetsAt p e) kept c (all_front (MeetsAt p e) kept (filter (has_number core) left) all) there
           | inr there ↦ All-contains (MeetsAt p e) (filter (has_number core) left) c (all_back (MeetsAt p e) kept (filter (has_number core) left) all)
-          (Contains-filter (has_number core) left c there (has_contained core c is))
+              (Contains-filter (has_number core) left c there (has_contained core c is))
         ]
 
 -- those of the first refuted question

@@ -27,18 +27,18 @@ module _ (m n : Marks) (marks : IsMarks m) (longer : IsLonger m n) (front : n.fr
     size = let vars = longer.vars in let size = k.size in omega arith;
     chains = k.chains;
     quiet = λ s p none f. held_longer m n (negate (lit_at ws (lit_of s))) (lit_at ws (other_of s)) marks longer
-    (k.quiet s p none (past_back (negate (lit_at ws (lit_of s))) f));
+        (k.quiet s p none (past_back (negate (lit_at ws (lit_of s))) f));
   }
 
   pub all_longer : (ws heads places longs : List ℕ) (lists : List (List Pair)) → AreAllWatched m ws heads places longs lists (past_of m) →
-  AreAllWatched n ws heads places longs lists (past_of n)
+      AreAllWatched n ws heads places longs lists (past_of n)
   all_longer ws heads places longs lists k = record {
     store = subst (λ v. IsStore v ws places) (sym longer.vars) k.store;
     split = k.split;
     size = let vars = longer.vars in let size = k.size in omega arith;
     pairs = k.pairs;
     quiet = λ s p f. held_longer m n (negate (lit_at ws (lit_of s))) (lit_at ws (other_of s)) marks longer
-    (k.quiet s p (past_back (negate (lit_at ws (lit_of s))) f));
+        (k.quiet s p (past_back (negate (lit_at ws (lit_of s))) f));
     long = watched_longer ws heads longs k.long;
   }
 
@@ -91,6 +91,10 @@ front_most m fin (Some c) a b = omega arith
 -- all watches are quiet, those of clauses of two literals too
 pub all_quiet : (m : Marks) (ws heads places longs : List ℕ) (lists : List (List Pair)) (done : LiteralSet) → AreAllWatched m ws heads places longs lists done →
     AreGuarded ws places done m []
-all_quiet m ws heads places longs lists done k = λ s c none f. elim (k.split.rest (s / 2) c) [ inl two ↦ k.quiet s (record {
-    place = c; two = two
-    }) f | inr long ↦ k.long.quiet s long none f ]
+all_quiet m ws heads places longs lists done k = λ s c none f. elim (k.split.rest (s / 2) c) [
+  | inl two ↦ k.quiet s (record {
+    place = c;
+    two = two;
+  }) f
+  | inr long ↦ k.long.quiet s long none f
+]

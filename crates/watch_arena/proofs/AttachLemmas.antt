@@ -43,7 +43,7 @@ module _ (vars : ℕ) (ws new heads places : List ℕ) (p : ℕ) (h : IsStore va
         within = omega arith;
         lits = λ k lt. subst (λ n. IsLitWord vars n) (sym (same (q + 3 + k) (omega arith))) (b.lits k (omega arith));
         distinct = λ j k lj lk ne e. b.distinct j k (omega arith) (omega arith) ne
-        (ap (λ n. n / 2) (sym (same (q + 3 + j) (omega arith))) ∙ e ∙ ap (λ n. n / 2) (same (q + 3 + k) (omega arith)));
+            (ap (λ n. n / 2) (sym (same (q + 3 + j) (omega arith))) ∙ e ∙ ap (λ n. n / 2) (same (q + 3 + k) (omega arith)));
       }
 
   pub attach_store : IsStore vars new (places ++ p ∷ [])
@@ -69,7 +69,7 @@ module _ (vars : ℕ) (ws new heads places : List ℕ) (p : ℕ) (h : IsStore va
   }
 
   old_lit : (t : ℕ) → Contains places (t / 2) → (arena_word new (lit_of t) ≡ arena_word ws (lit_of t)) ×
-  (arena_word new (link_of t) ≡ arena_word ws (link_of t)) × (arena_word new (other_of t) ≡ arena_word ws (other_of t)) × (t / 2 < p)
+      (arena_word new (link_of t) ≡ arena_word ws (link_of t)) × (arena_word new (other_of t) ≡ arena_word ws (other_of t)) × (t / 2 < p)
   old_lit t c =
       let b = h.block (t / 2) c in
       let two = b.two in
@@ -81,7 +81,8 @@ module _ (vars : ℕ) (ws new heads places : List ℕ) (p : ℕ) (h : IsStore va
     chains = c.chains;
     paths = λ w l. path_stays ws new (arena_word heads w) (c.chains w) (λ t m. let x = c.own w t l m in let o = old_lit t x.place in o.1) (c.paths w l);
     own = λ w t l m. let x = c.own w t l m in let o = old_lit t x.place in record {
-    place = Contains-append_left places (p ∷ []) (t / 2) x.place; lit = o.0 ∙ x.lit
+      place = Contains-append_left places (p ∷ []) (t / 2) x.place;
+      lit = o.0 ∙ x.lit;
     };
     once = λ t m. elim (Contains-push_cases places p (t / 2) m) [
       | inl old ↦
@@ -97,11 +98,11 @@ module _ (vars : ℕ) (ws new heads places : List ℕ) (p : ℕ) (h : IsStore va
       gone t e = gone_by (cases_lt (arena_word new (lit_of t)) (length heads)) (cases_lt 0 (times (c.chains (arena_word new (lit_of t))) t))
         where
           gone_by : (arena_word new (lit_of t) < length heads) ⊎ (length heads ≤ arena_word new (lit_of t)) →
-          (0 < times (c.chains (arena_word new (lit_of t))) t) ⊎ (times (c.chains (arena_word new (lit_of t))) t ≤ 0) →
-          times (c.chains (arena_word new (lit_of t))) t ≡ 0
+              (0 < times (c.chains (arena_word new (lit_of t))) t) ⊎ (times (c.chains (arena_word new (lit_of t))) t ≤ 0) →
+              times (c.chains (arena_word new (lit_of t))) t ≡ 0
           gone_by l (inr z) = omega arith
           gone_by (inl l) (inl some) = let x = c.own (arena_word new (lit_of t)) t l (in_times (c.chains (arena_word new (lit_of t))) t (omega arith)) in let
-          o = old_lit t x.place in let lt = o.3 in absurd (omega arith)
+              o = old_lit t x.place in let lt = o.3 in absurd (omega arith)
           gone_by (inr g) (inl some) =
               let two = block.two in
               let l = block.lits (t % 2) (omega arith) in
@@ -159,7 +160,8 @@ module _ (vars : ℕ) (ws : List ℕ) (lits : List Literal) (from : 1 ≤ length
         within = omega arith;
         lits = λ k lt. subst (λ n. IsLitWord vars n) (sym (behind_lit k (literal 0 true) (omega arith)))
             (let x = there_get vars lits k (literal 0 true) (omega arith) there in record {
-            from = word_from (get_or lits k (literal 0 true)) x.0; below = word_below vars (get_or lits k (literal 0 true)) x
+              from = word_from (get_or lits k (literal 0 true)) x.0;
+              below = word_below vars (get_or lits k (literal 0 true)) x;
             });
         distinct = λ j k lj lk ne e.
             let lj2 : j < length lits = omega arith in
@@ -204,7 +206,7 @@ linked vars ws mid new heads next then places p a b k d e =
       store = link_store vars mid new places (2 * p + 1) (arena_word next b) h2 here2 link2;
       size = omega arith;
       chains = push_chains vars mid new next then places [] (2 * p + 1) b h2 here2 lb (omega arith)
-      (push_chains vars ws mid heads next places ((2 * p + 1) ∷ []) (2 * p) a h here la (omega arith) k.chains d) e;
+          (push_chains vars ws mid heads next places ((2 * p + 1) ∷ []) (2 * p) a h here la (omega arith) k.chains d) e;
     }
 
 -- what the writes of its links need

@@ -26,9 +26,9 @@ literal_word l = by_sign l.var l.positive
   where
     by_sign : (x : ℕ) (b : Bool) → literal_at (word_of (literal x b)) ≡ literal x b
     by_sign x true = let e : (2 * x + 0) / 2 ≡ x = omega arith in let f : (2 * x + 0) % 2 ≡ 0 = omega arith in ap (λ n. literal n (nat_eq ((2 * x + 0) % 2) 0))
-    e ∙ ap (λ n. literal x (nat_eq n 0)) f
+        e ∙ ap (λ n. literal x (nat_eq n 0)) f
     by_sign x false = let e : (2 * x + 1) / 2 ≡ x = omega arith in let f : (2 * x + 1) % 2 ≡ 1 = omega arith in ap (λ n. literal n (nat_eq ((2 * x + 1) % 2) 0))
-    e ∙ ap (λ n. literal x (nat_eq n 0)) f
+        e ∙ ap (λ n. literal x (nat_eq n 0)) f
 
 pub word_literal : (a : ℕ) → word_of (literal_at a) ≡ a
 word_literal a = elim (eqb_tells (a % 2) 0) [
@@ -45,7 +45,7 @@ pub finished : (m : Marks) (ws heads places : List ℕ) (done : LiteralSet) (w s
 finished m ws heads places done w s k e = by_rest k.rest k.chains k.path k.own k.quiet
   where
     by_rest : (rest : List ℕ) → HasChains ws heads places rest → Path ws s rest → ((t : ℕ) → Contains rest t → IsWatch ws places w t) →
-    AreGuarded ws places done m rest → IsWatched m ws heads places done
+        AreGuarded ws places done m rest → IsWatched m ws heads places done
     by_rest [] chains path own quiet = record { store = k.store; size = k.size; chains = chains; quiet = quiet }
     by_rest (t ∷ rest) chains path own quiet =
         let x = own t (contains_head t rest) in
@@ -118,19 +118,19 @@ module _ (m : Marks) (l : Literal) (w : ℕ) (marks : IsMarks m) (lt : m.front <
 
   -- what was propagated before, but for this literal
   pub was_past : (ws : List ℕ) (t : ℕ) → arena_word ws (lit_of t) ≢ w → IsIn (done_of m) (negate (lit_at ws (lit_of t))) →
-  IsIn (past_of m) (negate (lit_at ws (lit_of t)))
+      IsIn (past_of m) (negate (lit_at ws (lit_of t)))
   was_past ws t ne f =
       let g : IsIn (has (take m.front m.lits ++ l ∷ [])) (negate (lit_at ws (lit_of t))) = subst
       (λ (set : LiteralSet). IsIn set (negate (lit_at ws (lit_of t)))) next_done f in
       elim (same_literal_or (negate (lit_at ws (lit_of t))) l) [
         | inl e ↦ absurd (ne (words_same (arena_word ws (lit_of t)) w (sym (negate-negate (lit_at ws (lit_of t))) ∙ ap negate (e ∙ sym next_is)
-        ∙ negate-negate (literal_at w))))
+            ∙ negate-negate (literal_at w))))
         | inr other ↦ sym (has_front (take m.front m.lits) l (negate (lit_at ws (lit_of t))) other) ∙ g
       ]
 
   -- the chain of its negation is taken off its head
   pub starting : (ws heads then places : List ℕ) → IsWatched m ws heads places (past_of m) → w < length heads → Wrote heads then w 0 →
-  IsWalking m ws then places (done_of m) w (arena_word heads w)
+      IsWalking m ws then places (done_of m) w (arena_word heads w)
   starting ws heads then places k lh d = record {
     rest = chains.chains w;
     store = k.store;
@@ -140,7 +140,7 @@ module _ (m : Marks) (l : Literal) (w : ℕ) (marks : IsMarks m) (lt : m.front <
       paths = λ v lv. elim (cases_eq v w) [
         | inl e ↦ subst (λ u. Path ws (arena_word then u) (after u)) (sym e) (subst (λ (ss : List ℕ). Path ws (arena_word then w) ss) (sym after_here) d.here)
         | inr ne ↦ subst (λ (ss : List ℕ). Path ws (arena_word then v) ss) (sym (after_there v ne))
-        (subst (λ n. Path ws n (chains.chains v)) (sym (d.other v ne)) (chains.paths v (let size = d.size in omega arith)))
+            (subst (λ n. Path ws n (chains.chains v)) (sym (d.other v ne)) (chains.paths v (let size = d.size in omega arith)))
       ];
       own = λ v t lv among. elim (cases_eq v w) [
         | inl e ↦ absurd (no_member t (subst (λ (ss : List ℕ). Contains ss t) (ap after e ∙ after_here) among))
@@ -217,7 +217,8 @@ watched_advanced m ws heads places k = record {
   size = k.size;
   chains = k.chains;
   quiet = λ s p none f. let h : IsTrueNoLater m (negate (lit_at ws (lit_of s))) (lit_at ws (other_of s)) = k.quiet s p none f in record {
-  now = h.now; back = h.back
+    now = h.now;
+    back = h.back;
   };
 }
 

@@ -30,7 +30,7 @@ module _ (vars : ℕ) (ws new places : List ℕ) (h : IsStore vars ws places) (f
   }
 
   front_watch : (t : ℕ) → Contains places (t / 2) → (arena_word new (lit_of t) ≡ arena_word ws (lit_of t)) ×
-  (arena_word new (link_of t) ≡ arena_word ws (link_of t)) × (arena_word new (other_of t) ≡ arena_word ws (other_of t))
+      (arena_word new (link_of t) ≡ arena_word ws (link_of t)) × (arena_word new (other_of t) ≡ arena_word ws (other_of t))
   front_watch t c =
       let b = h.block (t / 2) c in
       let two = b.two in
@@ -42,7 +42,7 @@ module _ (vars : ℕ) (ws new places : List ℕ) (h : IsStore vars ws places) (f
   front_chains heads longs among c = record {
     chains = c.chains;
     paths = λ w lt. path_stays ws new (arena_word heads w) (c.chains w) (λ t m. let x = c.own w t lt m in let f = front_watch t (among (t / 2) x.place) in f.1)
-    (c.paths w lt);
+        (c.paths w lt);
     own = λ w t lt m. let x = c.own w t lt m in let f = front_watch t (among (t / 2) x.place) in record { place = x.place; lit = f.0 ∙ x.lit };
     once = λ t m. let f = front_watch t (among (t / 2) m) in subst (λ v. times (c.chains v) t + times [] t ≡ 1) (sym f.0) (c.once t m);
   }
@@ -60,9 +60,9 @@ module _ (vars : ℕ) (ws new places : List ℕ) (h : IsStore vars ws places) (f
       }
 
   front_right : (p : ℕ) (lists : List (List Pair)) → HasPairs ws places lists → (v : ℕ) → v < length lists →
-  All (IsEntry new (places ++ p ∷ []) v) (get_or lists v [])
+      All (IsEntry new (places ++ p ∷ []) v) (get_or lists v [])
   front_right p lists x v lt = All-weaker (IsEntry ws places v) (IsEntry new (places ++ p ∷ []) v) (λ pair y. front_pair p v pair y) (get_or lists v [])
-  (x.right v lt)
+      (x.right v lt)
 
   front_all : (lists : List (List Pair)) → HasPairs ws places lists → (s : ℕ) → Contains places (s / 2) → arena_word new (s / 2) ≡ 2 →
       (pair : Pair) × Contains (get_or lists (arena_word new (lit_of s)) []) pair × (pair.other ≡ lit_at new (other_of s))
@@ -112,7 +112,7 @@ module _ (vars : ℕ) (ws new places : List ℕ) (h : IsStore vars ws places) (f
 
     -- the entry of one of its watches
     own_pair : (s : ℕ) (o : Literal) → s / 2 ≡ clause.0 → lit_at new (other_of s) ≡ o →
-    IsEntry new (places ++ clause.0 ∷ []) (arena_word new (lit_of s)) (record { other = o; clause = clause })
+        IsEntry new (places ++ clause.0 ∷ []) (arena_word new (lit_of s)) (record { other = o; clause = clause })
     own_pair s o e is = record {
       watch = s;
       is = record { place = subst (Contains (places ++ clause.0 ∷ [])) (sym e) (Contains-push places clause.0); two = ap (arena_word new) e ∙ two };
@@ -122,7 +122,7 @@ module _ (vars : ℕ) (ws new places : List ℕ) (h : IsStore vars ws places) (f
     }
 
     module _ (lists : List (List Pair)) (a b : Literal) (first : arena_word new (clause.0 + 3 + 0) ≡ word_of a)
-    (second : arena_word new (clause.0 + 3 + 1) ≡ word_of b) (below_a : word_of a < length lists) (below_b : word_of b < length lists) where
+        (second : arena_word new (clause.0 + 3 + 1) ≡ word_of b) (below_a : word_of a < length lists) (below_b : word_of b < length lists) where
       abbrev one : Pair
       one = record { other = b; clause = clause }
 
@@ -149,25 +149,25 @@ module _ (vars : ℕ) (ws new places : List ℕ) (h : IsStore vars ws places) (f
 
       is_one : IsEntry new (places ++ clause.0 ∷ []) (word_of a) one
       is_one = subst (λ v. IsEntry new (places ++ clause.0 ∷ []) v one) (ap (arena_word new) lit_one
-      ∙ first) (own_pair (2 * clause.0) b (omega arith) (ap (lit_at new) other_one ∙ ap literal_at second ∙ literal_word b))
+          ∙ first) (own_pair (2 * clause.0) b (omega arith) (ap (lit_at new) other_one ∙ ap literal_at second ∙ literal_word b))
 
       is_other : IsEntry new (places ++ clause.0 ∷ []) (word_of b) other
       is_other = subst (λ v. IsEntry new (places ++ clause.0 ∷ []) v other) (ap (arena_word new) lit_other
-      ∙ second) (own_pair (2 * clause.0 + 1) a (omega arith) (ap (lit_at new) other_other ∙ ap literal_at first ∙ literal_word a))
+          ∙ second) (own_pair (2 * clause.0 + 1) a (omega arith) (ap (lit_at new) other_other ∙ ap literal_at first ∙ literal_word a))
 
       kept : (v : ℕ) (x : Pair) → Contains (get_or lists v []) x → Contains (get_or (both_listed lists clause a b) v []) x
       kept v x c = listed_keeps mid (word_of b) other v x (omega (arith, size)) (listed_keeps lists (word_of a) one v x below_a c)
 
       new_all : (s : ℕ) → clause.0 ≡ s / 2 → (pair : Pair) × Contains (get_or (both_listed lists clause a b) (arena_word new (lit_of s)) []) pair ×
-      (pair.other ≡ lit_at new (other_of s))
+          (pair.other ≡ lit_at new (other_of s))
       new_all s e = elim (cases_eq (s % 2) 0) [
         | inl z ↦
             let at : lit_of s ≡ clause.0 + 3 + 0 = omega arith in
             let at_other : other_of s ≡ clause.0 + 3 + 1 = omega arith in (
               one,
               subst (λ v. Contains (get_or (both_listed lists clause a b) v []) one)
-              (sym (ap (arena_word new) at ∙ first)) (listed_keeps mid (word_of b) other (word_of a) one (omega (arith, size))
-              (listed_here lists (word_of a) one below_a)),
+                  (sym (ap (arena_word new) at ∙ first)) (listed_keeps mid (word_of b) other (word_of a) one (omega (arith, size))
+                  (listed_here lists (word_of a) one below_a)),
               sym (ap (lit_at new) at_other ∙ ap literal_at second ∙ literal_word b),
             )
         | inr n ↦
@@ -175,7 +175,7 @@ module _ (vars : ℕ) (ws new places : List ℕ) (h : IsStore vars ws places) (f
             let at_other : other_of s ≡ clause.0 + 3 + 0 = omega arith in (
               other,
               subst (λ v. Contains (get_or (both_listed lists clause a b) v []) other)
-              (sym (ap (arena_word new) at ∙ second)) (listed_here mid (word_of b) other (omega (arith, size))),
+                  (sym (ap (arena_word new) at ∙ second)) (listed_here mid (word_of b) other (omega (arith, size))),
               sym (ap (lit_at new) at_other ∙ ap literal_at first ∙ literal_word a),
             )
       ]
@@ -219,8 +219,11 @@ filed_linked vars ws heads places longs lists f =
     let split = f.split in
     record {
       store = record {
-      vars_limit = h.vars_limit; room_limit = h.room_limit; block = λ p c. h.block p (split.among p c); apart = λ p q c d lt. h.apart p q (split.among p c)
-      (split.among q d) lt
+        vars_limit = h.vars_limit;
+        room_limit = h.room_limit;
+        block = λ p c. h.block p (split.among p c);
+        apart = λ p q c d lt. h.apart p q (split.among p c)
+            (split.among q d) lt;
       };
       size = f.size;
       chains = f.chains;
@@ -258,7 +261,8 @@ filed_pair vars ws heads places longs lists lits clause a b f is small two there
       size = f.size;
       chains = let split = f.split in front_chains vars ws new places f.store front heads longs split.among f.chains;
       lists_size = listed_length (listed lists (word_of a) (record {
-      other = b; clause = clause
+        other = b;
+        clause = clause;
       })) (word_of b) (record { other = a; clause = clause }) ∙ listed_length lists (word_of a) (record { other = b; clause = clause }) ∙ lists_size;
       pairs = pair_pairs vars ws new places f.store front clause len lists a b first second (omega arith) (omega arith) f.pairs;
     }

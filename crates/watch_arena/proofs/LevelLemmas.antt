@@ -122,10 +122,10 @@ module _ (m : Marks) (level : ℕ) (marks : IsMarks m) (le : level ≤ length m.
 
       old_lit : (i : ℕ) (k : Literal) → i < length (take (level_end m level) m.lits) → get_or m.lits i k ≡ get_or (take (level_end m level) m.lits) i k
       old_lit i k lt = let size = length-take-le (level_end m level) m.lits (end_within m level marks le) in sym
-      (get_or-take (level_end m level) m.lits i k (omega arith))
+          (get_or-take (level_end m level) m.lits i k (omega arith))
 
       still : (i : ℕ) → i < length (take (level_end m level) m.lits) → Contains m.cuts i →
-      Contains (take level m.cuts) i ⊎ ((n : ℕ) → Contains (take level m.cuts) n → i < n)
+          Contains (take level m.cuts) i ⊎ ((n : ℕ) → Contains (take level m.cuts) n → i < n)
       still i lt c = elim (cases_lt c.0 level) [
         | inl small ↦
             let size = length-take-le level m.cuts le in
@@ -169,7 +169,7 @@ pub right_set : (m : Marks) (a b : Literal) (reason : ℕ) → IsMarks m → IsU
     ((n : ℕ) → Contains m.cuts n → IsIn (has (take n m.lits)) (negate b) → ⊥) → AreRight (with_lit m a reason) a b
 right_set m a b reason marks unset late = record {
   first = λ f. let g : IsIn (has m.lits) (negate a) = past_within m (negate a) (subst (λ (s : LiteralSet). IsIn s (negate a)) (past_with m a reason marks) f) in
-  absurd (both_ways (has m.lits (negate a)) unset.1 g);
+      absurd (both_ways (has m.lits (negate a)) unset.1 g);
   second = λ _. record {
     now = has_last m.lits a;
     back = λ n c g.
@@ -217,8 +217,9 @@ right_other m a b r = record { first = r.second; second = r.first }
 
 pub held_by_level : (m : Marks) (a b : Literal) → IsMarks m → IsHeldBy m a b → IsTrueNoLater m (negate a) b
 held_by_level m a b marks h = record {
-    now = h.second; back = λ n c g. back n c (contains_from_has (take n m.lits) (negate a) g) (contains_from_has m.lits b h.second)
-    }
+  now = h.second;
+  back = λ n c g. back n c (contains_from_has (take n m.lits) (negate a) g) (contains_from_has m.lits b h.second);
+}
   where
     back : (n : ℕ) → Contains m.cuts n → Contains (take n m.lits) (negate a) → Contains m.lits b → IsIn (has (take n m.lits)) b
     back n c x y =
@@ -257,7 +258,7 @@ late_by_level m b marks level n c g =
 pub reasoned_widened : (m : Marks) (n : ℕ) (ws places : List ℕ) → IsReasoned m ws places → IsReasoned (widened m n) ws places
 reasoned_widened m n ws places r = record {
   reason = λ i l lt is some. subst (λ p. IsReasonFor ws places (take i m.lits) l p) (sym (get_padded m.reasons n 0 l.var))
-  (r.reason i l lt is (λ e. some (get_padded m.reasons n 0 l.var ∙ e)));
+      (r.reason i l lt is (λ e. some (get_padded m.reasons n 0 l.var ∙ e)));
   decided = λ i l lt is none. r.decided i l lt is (sym (get_padded m.reasons n 0 l.var) ∙ none);
   begins = λ i l c is. get_padded m.reasons n 0 l.var ∙ r.begins i l c is;
 }

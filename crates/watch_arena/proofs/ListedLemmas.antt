@@ -31,7 +31,7 @@ module _ (lists : List (List Pair)) (w : ℕ) (pair : Pair) where
 
   pub listed_here : w < length lists → Contains (get_or (listed lists w pair) w []) pair
   listed_here lt = subst (λ (ps : List Pair). Contains ps pair) (sym (get_or-set_same lists w (get_or lists w [] ++ pair ∷ []) [] lt))
-  (Contains-push (get_or lists w []) pair)
+      (Contains-push (get_or lists w []) pair)
 
   pub listed_keeps : (v : ℕ) (x : Pair) → w < length lists → Contains (get_or lists v []) x → Contains (get_or (listed lists w pair) v []) x
   listed_keeps v x lt c = elim (cases_eq v w) [
@@ -42,7 +42,7 @@ module _ (lists : List (List Pair)) (w : ℕ) (pair : Pair) where
   ]
 
   pub listed_right : (ws places : List ℕ) → w < length lists → IsEntry ws places w pair →
-  ((v : ℕ) → v < length lists → All (IsEntry ws places v) (get_or lists v [])) →
+      ((v : ℕ) → v < length lists → All (IsEntry ws places v) (get_or lists v [])) →
       (v : ℕ) → v < length lists → All (IsEntry ws places v) (get_or (listed lists w pair) v [])
   listed_right ws places lt is right v below = elim (cases_eq v w) [
     | inl e ↦ subst (λ n. All (IsEntry ws places n) (get_or (listed lists w pair) n [])) (sym e)

@@ -50,7 +50,8 @@ reason_grown mid new then now places i d lt front k same x =
 pub reasoned_text : (m : Marks) (old new places : List ℕ) → KeepsClauses places old new → IsReasoned m old places → IsReasoned m new places
 reasoned_text m old new places k r = record {
   reason = λ i l lt is some. let x = r.reason i l lt is some in record {
-  place = x.place; unit = unit_kept old new places (get_or m.reasons l.var 0) (has (take i m.lits)) l k x.place x.unit
+    place = x.place;
+    unit = unit_kept old new places (get_or m.reasons l.var 0) (has (take i m.lits)) l k x.place x.unit;
   };
   decided = r.decided;
   begins = r.begins;
@@ -81,7 +82,7 @@ module _ (m : Marks) (l : Literal) (p : ℕ) (marks : IsMarks m) (there : IsTher
 
   new_reason : (k : Literal) → k ≡ l → get_or (set m.reasons l.var p) k.var 0 ≡ p
   new_reason k e = ap (λ (u : Literal). get_or (set m.reasons l.var p) u.var 0) e
-  ∙ get_or-set_same m.reasons l.var p 0 (let size = marks.reasons in let below = there.1 in omega arith)
+      ∙ get_or-set_same m.reasons l.var p 0 (let size = marks.reasons in let below = there.1 in omega arith)
 
   -- the reason of the literal that came
   pub unit_because : (ws places : List ℕ) → IsReasonFor ws places m.lits l p → AddsReasons m (with_lit m l p) ws places
@@ -97,7 +98,7 @@ module _ (m : Marks) (l : Literal) (p : ℕ) (marks : IsMarks m) (there : IsTher
   module _ (ws places : List ℕ) (r : IsReasoned m ws places) where
     -- the reasons of the literals in front
     reason_before : (i : ℕ) (k : Literal) → i < length m.lits → get_or (m.lits ++ l ∷ []) i k ≡ k → get_or (set m.reasons l.var p) k.var 0 ≢ 0 →
-    IsReasonFor ws places (take i (m.lits ++ l ∷ [])) k (get_or (set m.reasons l.var p) k.var 0)
+        IsReasonFor ws places (take i (m.lits ++ l ∷ [])) k (get_or (set m.reasons l.var p) k.var 0)
     reason_before i k small is some =
         let same = old_reason i k small is in
         let fronts : take i (m.lits ++ l ∷ []) ≡ take i m.lits = take-append-le i m.lits (l ∷ []) (omega arith) in
@@ -106,7 +107,7 @@ module _ (m : Marks) (l : Literal) (p : ℕ) (marks : IsMarks m) (there : IsTher
         (r.reason i k small (old_lit i k small ∙ is) (λ e. some (same ∙ e))))
 
     decided_before : (i : ℕ) (k : Literal) → i < length m.lits → get_or (m.lits ++ l ∷ []) i k ≡ k → get_or (set m.reasons l.var p) k.var 0 ≡ 0 →
-    Contains m.cuts i ⊎ ((n : ℕ) → Contains m.cuts n → i < n)
+        Contains m.cuts i ⊎ ((n : ℕ) → Contains m.cuts n → i < n)
     decided_before i k small is none = r.decided i k small (old_lit i k small ∙ is) (sym (old_reason i k small is) ∙ none)
 
     begins_before : (n : ℕ) (k : Literal) → Contains m.cuts n → get_or (m.lits ++ l ∷ []) n k ≡ k → get_or (set m.reasons l.var p) k.var 0 ≡ 0
@@ -126,7 +127,8 @@ module _ (m : Marks) (l : Literal) (p : ℕ) (marks : IsMarks m) (there : IsTher
             let e = last_lit i k lt big is in
             let fronts : take i (m.lits ++ l ∷ []) ≡ m.lits = take_at m.lits (l ∷ []) i (omega (arith, length-append m.lits (l ∷ []))) in
             subst (λ n. IsReasonFor ws places (take i (m.lits ++ l ∷ [])) k n) (sym (new_reason k e))
-            (subst (λ (ls : List Literal). IsReasonFor ws places ls k p) (sym fronts) (subst (λ (u : Literal). IsReasonFor ws places m.lits u p) (sym e) why))
+            (subst (λ (ls : List Literal). IsReasonFor ws places ls k p) (sym fronts)
+            (subst (λ (u : Literal). IsReasonFor ws places m.lits u p) (sym e) why))
       ];
       decided = λ i k lt is none. elim (cases_lt i (length m.lits)) [
         | inl small ↦ decided_before i k small is none
@@ -162,7 +164,7 @@ module _ (m : Marks) (l : Literal) (p : ℕ) (marks : IsMarks m) (there : IsTher
           | inr first ↦ inr (λ n c. elim (Contains-push_cases m.cuts (length m.lits) n c) [ inl old ↦ first n old | inr e ↦ omega arith ])
         ]
         | inr big ↦ inl (subst (λ n. Contains (m.cuts ++ length m.lits ∷ []) n) (omega (arith, length-append m.lits (l ∷ [])))
-        (Contains-push m.cuts (length m.lits)))
+            (Contains-push m.cuts (length m.lits)))
       ];
       begins = λ n k c is. elim (Contains-push_cases m.cuts (length m.lits) n c) [
         | inl old ↦ begins_before n k old is
@@ -174,5 +176,6 @@ module _ (m : Marks) (l : Literal) (p : ℕ) (marks : IsMarks m) (there : IsTher
 pub alone_reason : (ws places : List ℕ) (lits : List Literal) (w s : ℕ) (l : Literal) → Contains places (s / 2) → 2 ≤ arena_word ws (s / 2) →
     arena_word ws (lit_of s) ≡ w → IsIn (has lits) (negate (literal_at w)) → IsAlone ws lits s l → IsReasonFor ws places lits l (s / 2)
 alone_reason ws places lits w s l place two lit false_now a = record {
-    place = place; unit = alone_unit ws lits w s l (lits_at ws (s / 2)) (is_clause ws (s / 2)) two lit false_now a
-    }
+  place = place;
+  unit = alone_unit ws lits w s l (lits_at ws (s / 2)) (is_clause ws (s / 2)) two lit false_now a;
+}

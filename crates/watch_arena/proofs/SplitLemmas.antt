@@ -34,7 +34,7 @@ module _ (vars : ℕ) (ws new places longs : List ℕ) (h : IsStore vars ws plac
 
   pub pair_lit : (p k : ℕ) → Contains places p → arena_word ws p ≡ 2 → k < 2 → arena_word new (p + 3 + k) ≡ arena_word ws (p + 3 + k)
   pair_lit p k c two lt = let e : p + (3 + k) ≡ p + 3 + k = omega arith in subst (λ n. arena_word new n ≡ arena_word ws n) e
-  (pair_word p (3 + k) c two (omega arith))
+      (pair_word p (3 + k) c two (omega arith))
 
   pair_block : (p : ℕ) → Contains places p → arena_word ws p ≡ 2 → IsBlock vars new p
   pair_block p c two =
@@ -47,7 +47,7 @@ module _ (vars : ℕ) (ws new places longs : List ℕ) (h : IsStore vars ws plac
         within = let within = b.within in omega arith;
         lits = λ k lt. subst (λ n. IsLitWord vars n) (sym (pair_lit p k c two (omega arith))) (b.lits k (omega arith));
         distinct = λ j k lj lk ne e. b.distinct j k (omega arith) (omega arith) ne
-        (ap (λ n. n / 2) (sym (pair_lit p j c two (omega arith))) ∙ e ∙ ap (λ n. n / 2) (pair_lit p k c two (omega arith)));
+            (ap (λ n. n / 2) (sym (pair_lit p j c two (omega arith))) ∙ e ∙ ap (λ n. n / 2) (pair_lit p k c two (omega arith)));
       }
 
   -- all clauses still stand apart
@@ -64,7 +64,7 @@ module _ (vars : ℕ) (ws new places longs : List ℕ) (h : IsStore vars ws plac
       let size = split_size p at_p in (
         λ m. let k = (is l).0 m in let lt = k.1 in (k.0, omega arith, ap literal_at (pair_lit p k.0 at_p two (omega arith)) ∙ k.2),
         λ k. let lt = k.1 in let lt2 : k.0 < arena_word ws p = omega arith in (is l).1
-        (k.0, lt2, ap literal_at (sym (pair_lit p k.0 at_p two (omega arith))) ∙ k.2),
+            (k.0, lt2, ap literal_at (sym (pair_lit p k.0 at_p two (omega arith))) ∙ k.2),
       )
 
   -- and keep their literals
@@ -95,7 +95,10 @@ module _ (vars : ℕ) (ws new places longs : List ℕ) (h : IsStore vars ws plac
     }) (get_or lists word []) (x.right word lt);
     all = λ s p.
         let two : arena_word ws (s / 2) ≡ 2 = sym (split_size (s / 2) p.place) ∙ p.two in
-        let y = x.all s (record { place = p.place; two = two }) in
-        (y.0, subst (λ v. Contains (get_or lists v []) y.0) (sym (pair_lit (s / 2) (s % 2) p.place two (omega arith))) y.1, y.2
-        ∙ sym (other_lit s p.place two));
+        let y = x.all s (record { place = p.place; two = two }) in (
+          y.0,
+          subst (λ v. Contains (get_or lists v []) y.0) (sym (pair_lit (s / 2) (s % 2) p.place two (omega arith))) y.1,
+          y.2
+              ∙ sym (other_lit s p.place two),
+        );
   }

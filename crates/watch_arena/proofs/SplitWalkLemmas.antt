@@ -56,7 +56,7 @@ module _ (m n : Marks) (ws now places : List ℕ) (marks : IsMarks m) (from : (p
   old_reason i l small is = subst (λ (k : Literal). get_or n.reasons k.var 0 ≡ get_or m.reasons k.var 0) (old_lit i l small is) (reasons i l small)
 
   new_reason : (i : ℕ) (l : Literal) → length m.lits ≤ i → i < length n.lits → get_or n.lits i l ≡ l →
-  IsReasonFor now places (take i n.lits) l (get_or n.reasons l.var 0)
+      IsReasonFor now places (take i n.lits) l (get_or n.reasons l.var 0)
   new_reason i l big lt is = subst (λ (k : Literal). IsReasonFor now places (take i n.lits) k (get_or n.reasons k.var 0)) is (because i l big lt)
 
   pub reasoned_because : IsReasoned n now places
@@ -92,7 +92,8 @@ pub made_split : (m n : Marks) (ws now places longs : List ℕ) → IsMarks m �
 made_split m n ws now places longs marks h split leaves a =
     let text = split_text m.vars ws now places longs h split leaves a.text in
     let because : AddsReasons m n now places = λ i d from lt. let x = a.because i d from lt in record {
-    place = split.among (get_or n.reasons (get_or n.lits i d).var 0) x.place; unit = x.unit
+      place = split.among (get_or n.reasons (get_or n.lits i d).var 0) x.place;
+      unit = x.unit;
     } in
     record {
       longer = a.longer;

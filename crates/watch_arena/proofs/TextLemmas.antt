@@ -21,13 +21,16 @@ in_upto : (ws : List ℕ) (p n k : ℕ) → k < n → Contains (lits_upto ws p n
 in_upto ws p zero k lt = absurd (omega arith)
 in_upto ws p (suc n) k lt = elim (cases_eq k n) [
   | inl e ↦ subst (λ j. Contains (lits_upto ws p n ++ lit_at ws (p + 3 + n) ∷ []) (lit_at ws (p + 3 + j))) (sym e)
-  (Contains-push (lits_upto ws p n) (lit_at ws (p + 3 + n)))
+      (Contains-push (lits_upto ws p n) (lit_at ws (p + 3 + n)))
   | inr ne ↦ Contains-append_left (lits_upto ws p n) (lit_at ws (p + 3 + n) ∷ []) (lit_at ws (p + 3 + k)) (in_upto ws p n k (omega arith))
 ]
 
 pub is_clause : (ws : List ℕ) (p : ℕ) → IsClauseAt ws p (lits_at ws p)
-is_clause ws p = λ l. (λ c. upto_in ws p (arena_word ws p) l c, λ k. subst (λ (u : Literal). Contains (lits_at ws p) u) k.2
-    (in_upto ws p (arena_word ws p) k.0 k.1))
+is_clause ws p = λ l. (
+  λ c. upto_in ws p (arena_word ws p) l c,
+  λ k. subst (λ (u : Literal). Contains (lits_at ws p) u) k.2
+      (in_upto ws p (arena_word ws p) k.0 k.1),
+)
 
 contains_map : (f : ℕ → List Literal) (ps : List ℕ) (p : ℕ) → Contains ps p → Contains (map f ps) (f p)
 contains_map f ps p c = at_place f ps p c.0 c.1 c.2
@@ -41,7 +44,7 @@ pub map_contains : (f : ℕ → List Literal) (ps : List ℕ) (c : List Literal)
 map_contains f ps c d = at_place f ps c d.0 d.1 d.2
   where
     at_place : (f : ℕ → List Literal) (ps : List ℕ) (c : List Literal) (k : ℕ) → k < length (map f ps) → get_or (map f ps) k c ≡ c →
-    (p : ℕ) × Contains ps p × (f p ≡ c)
+        (p : ℕ) × Contains ps p × (f p ≡ c)
     at_place f [] c k lt e = absurd (omega arith)
     at_place f (q ∷ ps) c zero lt e = (q, (0, omega arith, refl), e)
     at_place f (q ∷ ps) c (suc k) lt e = let x = at_place f ps c k (omega arith) e in let l = x.1 in let l1 = l.1 in (x.0, (suc l.0, omega arith, l.2), x.2)
@@ -59,7 +62,7 @@ pub unit_at : (ws : List ℕ) (p : ℕ) (set : LiteralSet) (c e : List Literal) 
 unit_at ws p set c e l at_c at_e u = record {
   among = (at_e l).1 ((at_c l).0 u.among);
   others = All-weaker (Contains e) (λ k. (k ≡ l) ⊎ IsIn set (negate k)) (λ k among. All-contains (λ m. (m ≡ l) ⊎ IsIn set (negate m)) c k u.others
-  ((at_c k).1 ((at_e k).0 among))) e (All-contains_itself e);
+      ((at_c k).1 ((at_e k).0 among))) e (All-contains_itself e);
 }
 
 -- where clauses keep their literals, they are unit for the same ones
@@ -113,7 +116,7 @@ upto_get ws p zero k d lt = absurd (omega arith)
 upto_get ws p (suc n) k d lt = elim (cases_eq k n) [
   | inl e ↦ get_or_push (lits_upto ws p n) (lit_at ws (p + 3 + n)) d k (upto_length ws p n ∙ sym e) ∙ ap (λ j. lit_at ws (p + 3 + j)) (sym e)
   | inr ne ↦ let size = upto_length ws p n in get_or_append_left (lits_upto ws p n) (lit_at ws (p + 3 + n) ∷ []) d k (omega arith)
-  ∙ upto_get ws p n k d (omega arith)
+      ∙ upto_get ws p n k d (omega arith)
 ]
 
 pub all_false : (ws : List ℕ) (p : ℕ) (set : LiteralSet) → AreFalse ws set p → All (λ k. IsIn set (negate k)) (lits_at ws p)

@@ -26,15 +26,26 @@ cuts_more cuts len front a e =
     let count = a.count in
     record {
       count = omega arith;
-      from = λ k lt. elim (cases_lt k (length cuts)) [ inl l ↦ let s = same k l in let f = a.from k l in omega arith | inr g ↦ let s = last k (omega arith) in
-      omega arith ];
-      below = λ k lt. elim (cases_lt k (length cuts)) [ inl l ↦ let s = same k l in let f = a.below k l in omega arith | inr g ↦ let s = last k (omega arith) in
-      omega arith ];
-      propagated = λ k lt. elim (cases_lt k (length cuts)) [ inl l ↦ let s = same k l in let f = a.propagated k l in omega arith | inr g ↦ let s = last k
-      (omega arith) in omega arith ];
-      rise = λ j k lt lk. let sj = same j (omega arith) in elim (cases_lt k (length cuts))
-      [ inl l ↦ let s = same k l in let f = a.rise j k lt l in omega arith | inr g ↦ let s = last k (omega arith) in let b = a.below j (omega arith) in omega
-      arith ];
+      from = λ k lt. elim (cases_lt k (length cuts)) [
+        | inl l ↦ let s = same k l in let f = a.from k l in omega arith
+        | inr g ↦ let s = last k (omega arith) in
+            omega arith
+      ];
+      below = λ k lt. elim (cases_lt k (length cuts)) [
+        | inl l ↦ let s = same k l in let f = a.below k l in omega arith
+        | inr g ↦ let s = last k (omega arith) in
+            omega arith
+      ];
+      propagated = λ k lt. elim (cases_lt k (length cuts)) [
+        | inl l ↦ let s = same k l in let f = a.propagated k l in omega arith
+        | inr g ↦ let s = last k
+            (omega arith) in omega arith
+      ];
+      rise = λ j k lt lk. let sj = same j (omega arith) in elim (cases_lt k (length cuts)) [
+        | inl l ↦ let s = same k l in let f = a.rise j k lt l in omega arith
+        | inr g ↦ let s = last k (omega arith) in let b = a.below j (omega arith) in
+            omega arith
+      ];
     }
   where
     same : (k : ℕ) → k < length cuts → get_or (cuts ++ len ∷ []) k 0 ≡ get_or cuts k 0
@@ -95,7 +106,12 @@ trail_widened vars n truth trail t = record {
 -- two views of the same parts
 pub marks_same : (vars : ℕ) (a b : List Literal) (f g : ℕ) (c d r s t u : List ℕ) → a ≡ b → f ≡ g → c ≡ d → r ≡ s → t ≡ u →
     let m : Marks = record {
-    vars = vars; lits = a; front = f; cuts = c; reasons = r; levels = t
+      vars = vars;
+      lits = a;
+      front = f;
+      cuts = c;
+      reasons = r;
+      levels = t;
     } in let n : Marks = record { vars = vars; lits = b; front = g; cuts = d; reasons = s; levels = u } in m ≡ n
 marks_same vars a b f g c d r s t u e h i j k =
     ap (λ (x : List Literal). let m : Marks = record { vars = vars; lits = x; front = f; cuts = c; reasons = r; levels = t } in m) e
@@ -113,8 +129,13 @@ module _ (vars : ℕ) (truth : List Bool) (order : List Literal) (len front : �
       let size = k.size in
       let within = k.within in
       let more = trail_more vars truth (take len order) l table there (table.marks l ∙ unset.0) (table.marks (negate l) ∙ unset.1) in
-      omega (arith, trail_short vars (set truth (word_of l) true) (take len order ++ l ∷ []) more, length-append (take len order) (l ∷ []), length-take-le len
-      order within)
+      omega (
+        arith,
+        trail_short vars (set truth (word_of l) true) (take len order ++ l ∷ []) more,
+        length-append (take len order) (l ∷ []),
+        length-take-le len
+            order within,
+      )
 
   pub kept_lits : (l : Literal) → IsThere vars l → IsUnset (take len order) l → take (len + 1) (set order len l) ≡ take len order ++ l ∷ []
   kept_lits l there unset = take-set_at order len (len + 1) l refl (kept_short l there unset)
@@ -127,7 +148,7 @@ module _ (vars : ℕ) (truth : List Bool) (order : List Literal) (len front : �
       ∙ length-take-le level starts k.level_within
 
   pub kept_set : (l : Literal) (reason : ℕ) → IsThere vars l → IsUnset (take len order) l →
-  IsStoredTrail vars (set truth (word_of l) true) (set order len l) (len + 1) front starts level (set reasons l.var reason) (set levels l.var level)
+      IsStoredTrail vars (set truth (word_of l) true) (set order len l) (len + 1) front starts level (set reasons l.var reason) (set levels l.var level)
   kept_set l reason there unset =
       let table = k.table in
       let short = kept_short l there unset in
@@ -135,15 +156,18 @@ module _ (vars : ℕ) (truth : List Bool) (order : List Literal) (len front : �
       record {
         limit = k.limit;
         table = subst (λ (ls : List Literal). IsTrail vars (set truth (word_of l) true) ls) (sym (kept_lits l there unset))
-        (trail_more vars truth (take len order) l table there (table.marks l ∙ unset.0) (table.marks (negate l) ∙ unset.1));
+            (trail_more vars truth (take len order) l table there (table.marks l ∙ unset.0) (table.marks (negate l) ∙ unset.1));
         size = length-set order len l ∙ k.size;
         within = omega (arith, length-set order len l);
         front_within = let f = k.front_within in omega arith;
         starts_size = k.starts_size;
         level_within = k.level_within;
         cuts = record {
-        count = let n = cuts.count in omega arith; from = cuts.from; below = λ j lt. let b = cuts.below j lt in omega arith; propagated = cuts.propagated;
-        rise = cuts.rise
+          count = let n = cuts.count in omega arith;
+          from = cuts.from;
+          below = λ j lt. let b = cuts.below j lt in omega arith;
+          propagated = cuts.propagated;
+          rise = cuts.rise;
         };
         reasons_size = length-set reasons l.var reason ∙ k.reasons_size;
         levels_size = length-set levels l.var level ∙ k.levels_size;
@@ -176,8 +200,8 @@ module _ (vars : ℕ) (truth : List Bool) (order : List Literal) (len front : �
       }
 
   pub set_view : (m : Marks) (l : Literal) (v reason : ℕ) → marks_of vars order len front starts level reasons levels ≡ m → IsThere vars l →
-  IsUnset (take len order) l → v ≡ l.var → marks_of vars (set order len l) (len + 1) front starts level (set reasons v reason) (set levels v level) ≡ with_lit m
-  l reason
+      IsUnset (take len order) l → v ≡ l.var → marks_of vars (set order len l) (len + 1) front starts level (set reasons v reason) (set levels v level)
+      ≡ with_lit m l reason
   set_view m l v reason e there unset same =
       marks_same vars (take (len + 1) (set order len l)) (take len order ++ l ∷ []) front front (take level starts) (take level starts) (set reasons v reason)
       (set reasons l.var reason) (set levels v level) (set levels l.var (length (take level starts)))
@@ -205,8 +229,8 @@ module _ (vars : ℕ) (truth : List Bool) (order : List Literal) (len front : �
       level_of_new (take level starts) len (length (take len order)) (omega arith) ∙ ap (λ n. n + 1) kept_level_is
 
   pub kept_decide : (l : Literal) (reason : ℕ) → front ≡ len → IsThere vars l → IsUnset (take len order) l →
-  IsStoredTrail vars (set truth (word_of l) true) (set order len l) (len + 1) front (set starts level len) (level + 1) (set reasons l.var reason)
-  (set levels l.var (level + 1))
+      IsStoredTrail vars (set truth (word_of l) true) (set order len l) (len + 1) front (set starts level len) (level + 1) (set reasons l.var reason)
+      (set levels l.var (level + 1))
   kept_decide l reason e there unset =
       let s = kept_set l reason there unset in
       let lt = kept_level l there unset in
@@ -230,8 +254,8 @@ module _ (vars : ℕ) (truth : List Bool) (order : List Literal) (len front : �
       }
 
   pub decide_view : (m : Marks) (l : Literal) (v reason : ℕ) → marks_of vars order len front starts level reasons levels ≡ m → IsThere vars l →
-  IsUnset (take len order) l → v ≡ l.var → marks_of vars (set order len l) (len + 1) front (set starts level len) (level + 1) (set reasons v reason)
-  (set levels v (level + 1)) ≡ with_lit (opened m) l reason
+      IsUnset (take len order) l → v ≡ l.var → marks_of vars (set order len l) (len + 1) front (set starts level len) (level + 1) (set reasons v reason)
+      (set levels v (level + 1)) ≡ with_lit (opened m) l reason
   decide_view m l v reason e there unset same =
       let size : len ≡ length (take len order) = sym (length-take-le len order k.within) in
       let count : level + 1 ≡ length (take level starts ++ length (take len order) ∷ []) = omega
@@ -245,7 +269,7 @@ module _ (vars : ℕ) (truth : List Bool) (order : List Literal) (len front : �
 
   -- further variables
   pub kept_widened : (n : ℕ) (x : Literal) → vars + n ≤ VARS → IsStoredTrail (vars + n) (truth ++ replicate (2 * n) false) (order ++ replicate (2 * n) x) len
-  front (starts ++ replicate (2 * n) 0) level (reasons ++ replicate n 0) (levels ++ replicate n 0)
+      front (starts ++ replicate (2 * n) 0) level (reasons ++ replicate n 0) (levels ++ replicate n 0)
   kept_widened n x limit =
       let within = k.within in
       let level_in = k.level_within in
@@ -254,7 +278,7 @@ module _ (vars : ℕ) (truth : List Bool) (order : List Literal) (len front : �
       record {
         limit = limit;
         table = subst (λ (ls : List Literal). IsTrail (vars + n) (truth ++ replicate (2 * n) false) ls) (sym lits)
-        (trail_widened vars n truth (take len order) k.table);
+            (trail_widened vars n truth (take len order) k.table);
         size = omega (arith, k.size, length-append order (replicate (2 * n) x), length-replicate {A = Literal} (2 * n) x);
         within = omega (arith, length-append order (replicate (2 * n) x));
         front_within = k.front_within;
@@ -269,8 +293,8 @@ module _ (vars : ℕ) (truth : List Bool) (order : List Literal) (len front : �
       }
 
   pub widened_view : (n : ℕ) (x : Literal) (m : Marks) → marks_of vars order len front starts level reasons levels ≡ m →
-  marks_of (vars + n) (order ++ replicate (2 * n) x) len front (starts ++ replicate (2 * n) 0) level (reasons ++ replicate n 0) (levels ++ replicate n 0)
-  ≡ widened m n
+      marks_of (vars + n) (order ++ replicate (2 * n) x) len front (starts ++ replicate (2 * n) 0) level (reasons ++ replicate n 0) (levels ++ replicate n 0)
+      ≡ widened m n
   widened_view n x m e =
       marks_same (vars + n) (take len (order ++ replicate (2 * n) x)) (take len order) front front (take level (starts ++ replicate (2 * n) 0))
       (take level starts) (reasons ++ replicate n 0) (reasons ++ replicate n 0) (levels ++ replicate n 0) (levels ++ replicate n 0)

@@ -62,7 +62,7 @@ module _ (vars : ℕ) (truth : List Bool) (order : List Literal) (len front : �
         after : (j : ℕ) → to ≤ j → j < length (take level starts) → {i : ℕ} → i < end → i < get_or (take level starts) j 0
         after j from below {i} small = elim (cases_eq to j) [
           | inl e ↦ let x : get_or (take level starts) j 0 ≡ get_or (take level starts) to 0 = ap (λ n. get_or (take level starts) n 0) (sym e) in let
-          y = start_is in omega arith
+              y = start_is in omega arith
           | inr ne ↦ let cuts = k.cuts in let x = cuts.rise to j (omega arith) below in let y = start_is in omega arith
         ]
 
@@ -80,14 +80,14 @@ module _ (vars : ℕ) (truth : List Bool) (order : List Literal) (len front : �
           starts_size = k.starts_size;
           level_within = omega arith;
           cuts = subst (λ (cs : List ℕ). AreCuts cs end (min front end)) cuts_same
-          (cuts_lowered (take level starts) len front to end end k.cuts to_within start_is (omega arith));
+              (cuts_lowered (take level starts) len front to end end k.cuts to_within start_is (omega arith));
           reasons_size = k.reasons_size;
           levels_size = k.levels_size;
           level_of = levels_left;
         }
 
     pub undone_view : (m : Marks) → marks_of vars order len front starts level reasons levels ≡ m →
-    marks_of vars order end (min front end) starts to reasons levels ≡ undone m to
+        marks_of vars order end (min front end) starts to reasons levels ≡ undone m to
     undone_view m e =
         let below = end_below in
         let at_end : end ≡ get_or (take level starts) to (length (take len order)) = sym start_is

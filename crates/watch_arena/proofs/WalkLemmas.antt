@@ -27,7 +27,7 @@ pub walking_first : (m : Marks) (ws heads places : List ℕ) (done : LiteralSet)
 walking_first m ws heads places done w s k some = by_rest k.rest k.chains k.path k.own k.quiet
   where
     by_rest : (rest : List ℕ) → HasChains ws heads places rest → Path ws s rest → ((t : ℕ) → Contains rest t → IsWatch ws places w t) →
-    AreGuarded ws places done m rest → (rest : List ℕ) × IsOpened m ws heads places done w s rest
+        AreGuarded ws places done m rest → (rest : List ℕ) × IsOpened m ws heads places done w s rest
     by_rest [] chains path own quiet = absurd (some path)
     by_rest (t ∷ rest) chains path own quiet = (
       rest,
@@ -57,7 +57,8 @@ watch_below vars ws places p k h c lt = let b = h.block p c in let l = b.lits k 
 
 quiet_pushed : (m : Marks) (ws new places out : List ℕ) (done : LiteralSet) (s v : ℕ) → IsStore m.vars ws places → Contains places (s / 2) →
     Wrote ws new (link_of s) v → AreGuarded ws places done m (s ∷ out) →
-    (IsIn done (negate (lit_at ws (lit_of s))) → IsTrueNoLater m (negate (lit_at ws (lit_of s))) (lit_at ws (other_of s))) → AreGuarded new places done m out
+    (IsIn done (negate (lit_at ws (lit_of s))) → IsTrueNoLater m (negate (lit_at ws (lit_of s))) (lit_at ws (other_of s))) →
+    AreGuarded new places done m out
 quiet_pushed m ws new places out done s v h p link q mine = λ t c none f.
     let two = two_of t c in
     let lit : lit_at new (lit_of t) ≡ lit_at ws (lit_of t) = ap literal_at (link_lit m.vars ws new places s v h p link (t / 2) (t % 2) c (omega arith)) in
@@ -66,7 +67,7 @@ quiet_pushed m ws new places out done s v h p link q mine = λ t c none f.
     subst (λ (l : Literal). IsTrueNoLater m (negate l) (lit_at new (other_of t))) (sym lit)
     (subst (λ (l : Literal). IsTrueNoLater m (negate (lit_at ws (lit_of t))) l) (sym other) (elim (cases_eq s t) [
       | inl e ↦ subst (λ u. IsTrueNoLater m (negate (lit_at ws (lit_of u))) (lit_at ws (other_of u))) e
-      (mine (subst (λ u. IsIn done (negate (lit_at ws (lit_of u)))) (sym e) f2))
+          (mine (subst (λ u. IsIn done (negate (lit_at ws (lit_of u)))) (sym e) f2))
       | inr ne ↦ q t c (omega (arith, times_tail s t out ne)) f2
     ]))
   where
@@ -107,7 +108,7 @@ turned_opened m ws mid heads places done w s k rest o lit consistent false_now m
           elim (turned_other m.vars ws mid heads places rest s k store place move.from move.below d t c) [
             | inl e ↦ absurd (consistent (literal_at w) (subst (λ n. IsIn (has m.lits) (literal_at n)) (ap (arena_word ws) e ∙ lit) held.now) false_now)
             | inr same ↦ subst (λ n. IsTrueNoLater m (negate (literal_at n)) (lit_at mid (other_of t))) (sym lit_same)
-            (subst (λ n. IsTrueNoLater m (negate (lit_at ws (lit_of t))) (literal_at n)) (sym same) held)
+                (subst (λ n. IsTrueNoLater m (negate (lit_at ws (lit_of t))) (literal_at n)) (sym same) held)
           ];
     }
   where
@@ -128,11 +129,11 @@ alone_unit ws lits w s l c is two lit false_now a =
     }
   where
     by_place : (k : Literal) → (n : ℕ) × (n < arena_word ws (s / 2)) × (lit_at ws (s / 2 + 3 + n) ≡ k) → lit_at ws (s / 2 + 3 + (1 - s % 2)) ≡ l →
-    (k ≡ l) ⊎ IsIn (has lits) (negate k)
+        (k ≡ l) ⊎ IsIn (has lits) (negate k)
     by_place k n at_other = elim (cases_lt n.0 2) [
       | inl small ↦ elim (cases_eq n.0 (s % 2)) [
         | inl e ↦ inr (subst (λ (u : Literal). IsIn (has lits) (negate u)) (sym (ap literal_at (ap (λ j. arena_word ws (s / 2 + 3 + j)) e ∙ lit))
-        ∙ n.2) false_now)
+            ∙ n.2) false_now)
         | inr ne ↦ inl (sym n.2 ∙ ap (λ j. lit_at ws (s / 2 + 3 + j)) (omega arith) ∙ at_other)
       ]
       | inr big ↦ inr (subst (λ (u : Literal). IsIn (has lits) (negate u)) n.2 (a.rest n.0 big n.1))
@@ -148,9 +149,9 @@ alone_grows ws places lits w s l place two lit false_now a = λ clauses text.
 pub unit_keeps : (m : Marks) (l : Literal) (p : ℕ) → IsUnset m.lits l → KeepsReasons m (with_lit m l p)
 unit_keeps m l p unset = λ i d lt. get_or-set_other m.reasons l.var (get_or m.lits i d).var p 0 (λ e. elim (same_or_negated (get_or m.lits i d) l e) [
   | inl same ↦ both_ways (has m.lits l) unset.0 (subst (λ (k : Literal). has m.lits k ≡ true) same
-  (has_from_contains m.lits (get_or m.lits i d) (Contains-get_or m.lits i d lt)))
+      (has_from_contains m.lits (get_or m.lits i d) (Contains-get_or m.lits i d lt)))
   | inr same ↦ both_ways (has m.lits (negate l)) unset.1 (subst (λ (k : Literal). has m.lits k ≡ true) same
-  (has_from_contains m.lits (get_or m.lits i d) (Contains-get_or m.lits i d lt)))
+      (has_from_contains m.lits (get_or m.lits i d) (Contains-get_or m.lits i d lt)))
 ])
 
 pub opened_steps : (m : Marks) (ws heads places : List ℕ) (done : LiteralSet) (w s : ℕ) (rest : List ℕ) → IsOpened m ws heads places done w s rest →
@@ -159,8 +160,11 @@ opened_steps m ws heads places done w s rest k = walk_steps m.vars ws heads plac
     (refl, k.path)
   where
     place_of : (t : ℕ) → Contains (s ∷ rest) t → Contains places (s / 2) → ((t : ℕ) → Contains rest t → IsWatch ws places w t) → Contains places (t / 2)
-    place_of t among place own = elim (contains_cases s t rest among) [ inl e ↦ subst (λ u. Contains places (u / 2)) e place | inr later ↦ let x = own t
-    later in x.place ]
+    place_of t among place own = elim (contains_cases s t rest among) [
+      | inl e ↦ subst (λ u. Contains places (u / 2)) e place
+      | inr later ↦ let x = own t
+          later in x.place
+    ]
 
 -- a watch that is kept, or has moved, goes to the chain of its literal
 pub visited : (m : Marks) (ws new heads then places : List ℕ) (done : LiteralSet) (w s next : ℕ) (rest start : List ℕ) →
@@ -188,7 +192,8 @@ visited m ws new heads then places done w s next rest start k path was v lit lt 
         path = left;
         own = λ t among. let x = own t among in let b = store.block (t / 2) x.place in let two = b.two in
             record {
-            place = x.place; lit = link_lit m.vars ws new places s (arena_word heads v) k.store place link (t / 2) (t % 2) x.place (omega arith) ∙ x.lit
+              place = x.place;
+              lit = link_lit m.vars ws new places s (arena_word heads v) k.store place link (t / 2) (t % 2) x.place (omega arith) ∙ x.lit;
             };
         quiet = quiet_pushed m ws new places rest done s (arena_word heads v) k.store place link k.quiet mine;
       };
@@ -256,7 +261,7 @@ quiet_more m ws places out done l reason marks q = λ s p none f. held_more m l 
 module _ (m : Marks) (ws heads places : List ℕ) (w s : ℕ) (k : IsWalking m ws heads places (done_of m) w s) (some : s ≢ 0)
     (false_now : IsIn (has m.lits) (negate (literal_at w))) (fresh : has (take m.front m.lits) (negate (literal_at w)) ≡ false) (marks : IsMarks m) where
   pub visited_true : (new then : List ℕ) → Pushed ws new heads then s w → IsIn (has m.lits) (lit_at ws (other_of s)) →
-  IsStepped m ws new then places (done_of m) w s (arena_word ws (link_of s))
+      IsStepped m ws new then places (done_of m) w s (arena_word ws (link_of s))
   visited_true new then d t =
       let r = ready m ws heads places (done_of m) w s k some in
       let o = walking_first m ws heads places (done_of m) w s k some in
@@ -266,7 +271,7 @@ module _ (m : Marks) (ws heads places : List ℕ) (w s : ℕ) (k : IsWalking m w
       (λ _. subst (λ n. IsTrueNoLater m (negate (literal_at n)) (lit_at ws (other_of s))) (sym r.lit) (held_now m w (lit_at ws (other_of s)) marks fresh t))
 
   pub visited_move : (mid new then : List ℕ) (j : ℕ) → IsMove ws (has m.lits) (s / 2) j → Swapped ws mid (s / 2 + 3 + s % 2) (s / 2 + 3 + j) →
-  Pushed mid new heads then s (arena_word mid (lit_of s)) → IsStepped m ws new then places (done_of m) w s (arena_word ws (link_of s))
+      Pushed mid new heads then s (arena_word mid (lit_of s)) → IsStepped m ws new then places (done_of m) w s (arena_word ws (link_of s))
   visited_move mid new then j move d p =
       let r = ready m ws heads places (done_of m) w s k some in
       let o = walking_first m ws heads places (done_of m) w s k some in
@@ -285,7 +290,7 @@ module _ (m : Marks) (ws heads places : List ℕ) (w s : ℕ) (k : IsWalking m w
       (subst (λ n. IsIn (done_of m) (negate (literal_at n))) here f))))
 
   pub visited_unit : (new then : List ℕ) (l : Literal) (reason : ℕ) → m.front < length m.lits → IsMarks (with_lit m l reason) → IsAlone ws m.lits s l →
-  Pushed ws new heads then s w → IsStepped (with_lit m l reason) ws new then places (done_of (with_lit m l reason)) w s (arena_word ws (link_of s))
+      Pushed ws new heads then s w → IsStepped (with_lit m l reason) ws new then places (done_of (with_lit m l reason)) w s (arena_word ws (link_of s))
   visited_unit new then l reason front more a d =
       let n = with_lit m l reason in
       let r = ready m ws heads places (done_of m) w s k some in
@@ -319,9 +324,13 @@ module _ (m : Marks) (ws heads places : List ℕ) (w s : ℕ) (k : IsWalking m w
 
 pub longer_unit : (m : Marks) (l : Literal) (reason : ℕ) → IsLonger m (with_lit m l reason)
 longer_unit m l reason = record {
-    vars = refl; cuts = refl; front = take_at m.lits (l ∷ []) (length m.lits) refl; longer = omega (arith, length-append m.lits (l ∷ [])); keeps = push_keeps
-    m.lits l
-    }
+  vars = refl;
+  cuts = refl;
+  front = take_at m.lits (l ∷ []) (length m.lits) refl;
+  longer = omega (arith, length-append m.lits (l ∷ []));
+  keeps = push_keeps
+      m.lits l;
+}
 
 pub longer_none : (m : Marks) → IsLonger m m
 longer_none m = record { vars = refl; cuts = refl; front = take_all (length m.lits) m.lits (omega arith); longer = omega arith; keeps = λ l h. h }

@@ -13,7 +13,7 @@ loop-x-preserved c x less =
     elim (below_or_is x c.loop-x.x less) [
       | inl before ↦ c.loop-x.invariant x before
       | inr same ↦ subst (λ (y : ℕ). IsHigherAt c.args.g.now c.args.d.now c.args.e.0 c.args.f.0 y) (sym same)
-      (c.is_higher_at.ensures.0 c.if-not-is_higher_at.false)
+          (c.is_higher_at.ensures.0 c.if-not-is_higher_at.false)
     ]
 
 pub returns-else-not-is_higher_at : goal.returns-else-not-is_higher_at
@@ -23,11 +23,11 @@ returns-else-not-is_higher_at c = ((λ t x compared. at_or_before x compared), (
     last = ap (λ (p : Point). p.x) (c.east_end-x-end.ensures ∙ ap (λ (l : List Point). east_end l) c.line-upper.ensures)
 
     at_or_before : (x : ℕ) → AreCompared c.args.g.now c.args.d.now c.args.e.0 c.args.f.0 x →
-    height (line c.args.d.now c.args.f.0) x < height (line c.args.d.now c.args.e.0) x
+        height (line c.args.d.now c.args.f.0) x < height (line c.args.d.now c.args.e.0) x
     at_or_before x compared =
         let to = compared.first.to_east in
         elim (below_or_is x c.loop-x.x (omega (arith, to, last))) [
           | inl before ↦ (c.loop-x.invariant x before).higher compared
           | inr same ↦ (subst (λ (y : ℕ). IsHigherAt c.args.g.now c.args.d.now c.args.e.0 c.args.f.0 y) (sym same)
-          (c.is_higher_at.ensures.0 c.if-not-is_higher_at.false)).higher compared
+              (c.is_higher_at.ensures.0 c.if-not-is_higher_at.false)).higher compared
         ]
