@@ -8,7 +8,8 @@ use Rattle.track_order.specs.Order.{EdgeOrder}
 use Rattle.plan_text.specs.declared.sheet_fault.SheetWhat.{SheetWhat}
 use Rattle.plan_text.specs.declared.sheet_fault.SheetFault.{SheetFault}
 use Rattle.plan_text.specs.declared.sheet_fault.SheetFault.TheVariants.{Sheet as SheetHas, Memory as SheetMemory}
-use Rattle.plan_text.specs.SheetFaults.{IsSheetFault}
+use Rattle.plan_text.specs.SheetFaults.{IsSheetFault, HasSheetFault}
+use Rattle.plan_text.proofs.SheetLaws.{sheet_or_fault}
 use Rattle.drawing_cnf.specs.Moved.{Former}
 use Rattle.run_input.specs.declared.fault.RunFault.{RunFault}
 use Rattle.run_input.specs.declared.fault.RunFault.TheVariants.{Sheet}
@@ -20,10 +21,11 @@ use Rattle.run_input.specs.Input.{HasStation, IsRefusal}
 use Rattle.run_input.specs.Met.{Met, between, HasRead}
 use Rattle.run_input.specs.Reading.{IsInput, IsUnreadInput}
 use Rattle.run_input.specs.Answer.{text_input, IsAnswerAfter, IsAnswerOn}
+use Rattle.run_input.proofs.InputLemmas.{one_graph, station_or_fault}
 use Rattle.run_input.proofs.AnswerLemmas.{IsRead, read_on, on_weaker, unread_on, answer_before}
 use Rattle.run_explain_redraw.specs.declared.judging.Rejected.{Rejected}
 use Rattle.run_explain_redraw.specs.declared.judging.Rejected.TheVariants.{With, Memory}
-use Rattle.run_explain_redraw.specs.Judged.{AreJudged, HaveFault}
+use Rattle.run_explain_redraw.specs.Judged.{GivesFormer, IsFormerSheetJudged, IsFormerJudged, AreJudged, HaveFormer, HaveFault}
 use Rattle.run_explain_redraw.specs.Rejection.{RejectedWith, IsUnreadOfThree}
 use Rattle.run_explain_redraw.specs.Answer.{IsAnswerToThree, AreInputs}
 
@@ -105,3 +107,23 @@ unread_answer input former sheet met r fault status text is unread told =
     three_weaker input former sheet met None HaveFault status text (λ bytes old said none. absurd none)
     (subst (λ (s : Status). IsAnswerToThree input former sheet met None s text) (sym told.status_is)
     (subst (λ (t : List ℕ). IsAnswerToThree input former sheet met None (fault_status fault) t) (sym told.line_is) there))
+
+-- ---- there are former points, or there is a fault
+
+-- of the sheet
+sheet_or_its_fault : (sheet : List ℕ) (g h k : Graph) (former : Former) (status : Status) (text : List ℕ) → GivesFormer g h sheet former → k ≡ h → IsFormerSheetJudged (λ former status text. ⊥) g k sheet status text → ⊥
+sheet_or_its_fault sheet g h k former status text gives same (inl none) = none.2
+sheet_or_its_fault sheet g h k former status text gives same (inr refused) =
+    sheet_or_fault h true sheet gives.has.sheet refused.what refused.line gives.has.told (subst (λ (x : Graph). HasSheetFault x true sheet refused.what refused.line) same refused.first)
+
+-- of the former file, or of the sheet
+old_or_its_fault : (bytes old sheet : List ℕ) (g i : Graph) (o : EdgeOrder) (former : Former) (status : Status) (text : List ℕ) → HaveFormer bytes old sheet g o former → IsFormerJudged (λ former status text. ⊥) i old sheet status text → g ≡ i → ⊥
+old_or_its_fault bytes old sheet g i o former status text have (inr refused) is = station_or_fault old have.old_graph have.old_order refused.fault have.old_station refused.has
+old_or_its_fault bytes old sheet g i o former status text have (inl judged) is =
+    sheet_or_its_fault sheet g have.old_graph judged.0 former status text have.gives (one_graph old judged.0 have.old_graph judged.2.has_graph have.old_station.has_graph)
+    (subst (λ (x : Graph). IsFormerSheetJudged (λ former status text. ⊥) x judged.0 sheet status text) (sym is) judged.3)
+
+pub former_or_fault : (bytes old sheet : List ℕ) (g : Graph) (o : EdgeOrder) (former : Former) (status : Status) (text : List ℕ) → HaveFormer bytes old sheet g o former → HaveFault bytes old sheet status text → ⊥
+former_or_fault bytes old sheet g o former status text have (inr refused) = station_or_fault bytes g o refused.fault have.has_station refused.has
+former_or_fault bytes old sheet g o former status text have (inl judged) =
+    old_or_its_fault bytes old sheet g judged.0 o former status text have judged.3 (one_graph bytes g judged.0 have.has_station.has_graph judged.2.has_graph)

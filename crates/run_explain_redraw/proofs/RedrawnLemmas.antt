@@ -7,11 +7,15 @@ use Rattle.plan_core.specs.Graph.{Graph}
 use Rattle.plan_core.specs.Lawful.{HasSizeOf}
 use Rattle.track_order.specs.Order.{EdgeOrder}
 use Rattle.refute_log.specs.Told.{Lines}
+use Rattle.refute_log.specs.Log.{Derives}
 use Rattle.refute_log.specs.FileLog.{BeginsLog}
+use Rattle.refute_log.proofs.LogLemmas.{derives_none}
+use Rattle.drawing_cnf.specs.Layout.{Layout}
 use Rattle.drawing_cnf.specs.Moved.{Former}
 use Rattle.search_least.specs.declared.fewest.Fewest.{Fewest}
 use Rattle.search_least.specs.declared.fewest.Fewest.TheVariants.{Best, NoDrawing, Spent, Room}
 use Rattle.search_least.specs.Fewest.{IsRightFewest}
+use Rattle.search_moved.specs.Told.{IsMovedEnd}
 use Rattle.run_input.specs.declared.status.Status.{Status}
 use Rattle.run_input.specs.declared.status.Status.TheVariants as statuses
 use Rattle.run_input.specs.Met.{Met, between, HasRead, IsUnwritten, LeftSo}
@@ -103,3 +107,9 @@ pub redraw_untold : {T : Type 0} (log : Option (List ℕ)) (input former sheet :
 redraw_untold log input former sheet old new Refused before after found answered same (inl refused) = absurd (answered refused)
 redraw_untold None input former sheet old new Refused before after found answered same (inr none) = absurd (none (refl, found))
 redraw_untold (Some file) input former sheet old new Refused before after found answered same (inr none) = same (λ e. let no : Some file ≡ None = e in absurd (cc))
+
+-- ---- its lines derive
+
+pub moved_derives : (y : Layout) (former : Former) (budget room : ℕ) (o : Fewest) (lines : Lines) → IsMovedEnd y former budget room o lines → Derives lines
+moved_derives y former budget room o lines (inl log) = log.derives
+moved_derives y former budget room o lines (inr none) = subst Derives (sym none.1) derives_none

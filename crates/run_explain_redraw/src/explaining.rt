@@ -9,6 +9,7 @@ ghost use Rattle.law_core.specs.Why.{IsRightWhy};
 ghost use Rattle.run_input.specs.Status.{IsAnswered, IsRefused};
 ghost use Rattle.run_input.specs.Met.{between, ReadsInputs, IsUnwritten};
 ghost use Rattle.run_input.specs.Answer.{IsFileJudged, IsAnswerToFile, HasReadStation};
+ghost use Rattle.run_draw_front.specs.SearchLog.{DerivesIfNew};
 ghost use Rattle.run_explain_redraw.specs.WhyText.{why_text};
 ghost use Rattle.run_explain_redraw.specs.Explained.{IsExplainAnswer, explain_task, status_of_why};
 
@@ -81,6 +82,7 @@ fn explain_station<L: LogSink>(
     ensures answer { let told = told_to L.tells L.learnt log.old log.new in
         IfOk result (λ r. IsExplainAnswer asked.now told station.now.graph station.now.order r.status r.text.items) }
     ensures unrefused { IsOkAnd result (λ r. IsRefused r.status) → ⊥ }
+    ensures derives { DerivesIfNew (L.tells log.old) (L.tells log.new) }
     ensures later { L.is_later log.old log.new }
     ensures cause { IsErrOf result Cut.Unwritten → Rose (L.faults log.old) (L.faults log.new) }
 {
@@ -116,6 +118,7 @@ pub fn explain<F: Files, T: LogSink>(
     ensures same { WhereTold (F.at files.old).contents (F.at files.new).contents SameFiles }
     ensures cause { IsErrOf result Cut.Unwritten → Rose (T.faults trace.old) (T.faults trace.new) }
     ensures later { (F.at files.old).read_faults ≤ (F.at files.new).read_faults }
+    ensures derives { DerivesIfNew (T.tells trace.old) (T.tells trace.new) }
     ensures traced { T.is_later trace.old trace.new }
     ensures untold { let met = between (F.at files.old) (F.at files.new) in
         IsOkAnd result (λ r. IsRefused r.status) ⊎ (HasReadStation input.now met → ⊥) → trace.new ≡ trace.old }

@@ -2,7 +2,7 @@
 //!
 //! `explaining` searches for laws that can't be met together, or finds that a drawing exists, and answers with their
 //! text (`writing`). `specs/Explained` says what is answered, `specs/WhyText` with which text; `laws` says when a
-//! drawing exists by the answer. `explain` writes no file.
+//! drawing exists by the answer, and that files with former points have no fault. `explain` writes no file.
 //!
 //! `judging` reads the file, the former file and the sheet, and `former_points` finds where each node was: where the
 //! node of its name is in the sheet's drawing. `redrawing` searches for a drawing in which as few nodes as can be
@@ -21,5 +21,5 @@ mod redrawing;
 mod writing;
 
 pub use explaining::{ExplainAsked, explain};
-pub use laws::exists_where_lawful;
+pub use laws::{exists_where_lawful, former_or_fault};
 pub use redrawing::{RedrawAsked, redraw};

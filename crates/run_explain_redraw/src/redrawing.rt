@@ -7,7 +7,7 @@ ghost use Rattle.refute_log.specs.ToldTo.{told_to};
 ghost use Rattle.refute_log.specs.FileLog.{BeginsLog, FileBeginsLog};
 ghost use Rattle.run_input.specs.Status.{IsAnswered, IsRefused};
 ghost use Rattle.run_input.specs.Met.{between, ReadsInputs, IsUnwritten, LeftSo, HasLeft};
-ghost use Rattle.run_draw_front.specs.SearchLog.{HoldsLog, IsRunLog};
+ghost use Rattle.run_draw_front.specs.SearchLog.{DerivesIfNew, HoldsLog, IsRunLog};
 ghost use Rattle.run_draw_front.specs.Written.{file_named, FailsToWrite};
 ghost use Rattle.run_explain_redraw.specs.Redrawn.{status_of_moved};
 ghost use Rattle.run_explain_redraw.specs.Known.{HasSearchedKnown, IsRedrawnKnown};
@@ -55,6 +55,7 @@ fn search<L: LogSink>(
     requires same { length known.now.former.items ≡ length known.now.station.graph.nodes }
     ensures searched { IfOk result
         (HasSearchedKnown known.now asked.now (told_to L.tells L.learnt log.old log.new)) }
+    ensures derives { DerivesIfNew (L.tells log.old) (L.tells log.new) }
     ensures later { L.is_later log.old log.new }
     ensures faults { L.faults log.old ≤ L.faults log.new }
     ensures cause { IsErrOf result Cut.Unwritten → Rose (L.faults log.old) (L.faults log.new) }
@@ -134,6 +135,7 @@ fn search_told<F: Files, T: LogSink>(
         (Rose (T.faults trace.old) (T.faults trace.new)) }
     ensures read_faults { (F.at files.new).read_faults ≡ (F.at files.old).read_faults }
     ensures reads { (F.at files.new).reads ≡ (F.at files.old).reads }
+    ensures derives { DerivesIfNew (T.tells trace.old) (T.tells trace.new) }
     ensures traced { T.is_later trace.old trace.new }
     ensures untold { asked.now.log ≢ None → trace.new ≡ trace.old }
 {
@@ -176,6 +178,7 @@ fn redraw_known<F: Files, T: LogSink>(
         (Rose (T.faults trace.old) (T.faults trace.new)) }
     ensures read_faults { (F.at files.new).read_faults ≡ (F.at files.old).read_faults }
     ensures reads { (F.at files.new).reads ≡ (F.at files.old).reads }
+    ensures derives { DerivesIfNew (T.tells trace.old) (T.tells trace.new) }
     ensures traced { T.is_later trace.old trace.new }
     ensures untold { asked.now.log ≢ None → trace.new ≡ trace.old }
 {
@@ -218,6 +221,7 @@ pub fn redraw<F: Files, T: LogSink>(
         IsErrOf result Cut.Unwritten → FailsToWrite (file_named asked.now.log) (asked.now.log ≡ None) met
         (Rose (T.faults trace.old) (T.faults trace.new)) }
     ensures later { (F.at files.old).read_faults ≤ (F.at files.new).read_faults }
+    ensures derives { DerivesIfNew (T.tells trace.old) (T.tells trace.new) }
     ensures traced { T.is_later trace.old trace.new }
     ensures untold { let met = between (F.at files.old) (F.at files.new) in
         IsOkAnd result (λ r. IsRefused r.status)

@@ -8,3 +8,10 @@ pub mod VerifiedRuns
 pub mod HintedRuns
 pub mod SoLemmas
 pub mod SoExcludes
+pub mod SearchEnds
+pub mod DrawnRuns
+pub mod SignalledRuns
+pub mod FrontRuns
+pub mod RedrawnRuns
+pub mod ExplainedRuns
+pub mod SoReadBack

@@ -3,3 +3,4 @@ pub mod Run
 pub mod WholeRuns
 pub mod So
 pub mod Excluded
+pub mod SearchedRuns

@@ -6,6 +6,7 @@ ghost use Rattle.run_input.specs.Met.{between, ReadsInputs, IsUnread, IsUnwritte
 ghost use Rattle.refute_log.specs.ToldTo.{told_to};
 ghost use Rattle.schematic_main.specs.Commands.{HasApartPair, inputs_of, outputs_of, AnswersAlone, MayWrite, MayTell};
 ghost use Rattle.schematic_main.specs.Commands.{MayLeave, Owes};
+ghost use Rattle.run_draw_front.specs.SearchLog.{DerivesIfNew};
 ghost use Rattle.run_draw_front.specs.Written.{AreFilesApart};
 ghost use Rattle.schematic_main.specs.Run.{CommandFailsToWrite};
 
@@ -43,6 +44,7 @@ pub fn answer_to<F: Files, T: LogSink>(
         IsErrOf result Cut.Unwritten → CommandFailsToWrite command.now met (Rose (T.faults trace.old) (T.faults
         trace.new)) }
     ensures later { (F.at files.old).read_faults ≤ (F.at files.new).read_faults }
+    ensures derives { DerivesIfNew (T.tells trace.old) (T.tells trace.new) }
     ensures traced { T.is_later trace.old trace.new }
     ensures untold { let met = between (F.at files.old) (F.at files.new) in
         IsOkAnd result (λ r. IsRefused r.status) ⊎ (MayTell command.now met → ⊥) → trace.new ≡ trace.old }

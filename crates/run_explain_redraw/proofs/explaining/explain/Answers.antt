@@ -7,6 +7,7 @@ use Rattle.run_input.proofs.AnswerLemmas.{refused_on}
 use Rattle.run_input.proofs.MetLemmas.{reads_one}
 use Rattle.run_explain_redraw.specs.Explained.{IsExplainAnswer}
 use Rattle.run_input.proofs.AnswerLemmas.{untold_here}
+use Rattle.run_draw_front.proofs.DerivesLemmas.{new_unchanged}
 use Rattle.run_explain_redraw.proofs.explaining.explain.Goals as goal
 
 pub returns-in-Ok-clause-reads : goal.returns-in-Ok-clause-reads
@@ -26,3 +27,12 @@ returns-in_ok-fault_reply-in-Err-Fault-clause-answer g c =
     let reply = c.in_ok-fault_reply-in-Err-Fault.field-0 in
     refused_on (IsExplainAnswer c.args.asked.now traced) c.args.input.now met c.in-Err-Fault.field-0 c.in-Err-Fault.fault reply.status reply.text.items c.in-Err-Fault.ensures.refusal
     c.in-Err-Fault.field-0-is c.in_ok-fault_reply-in-Err-Fault.ensures.told
+
+pub returns-in_err-fault_reply-in-Err-Fault-clause-derives : goal.returns-in_err-fault_reply-in-Err-Fault-clause-derives
+returns-in_err-fault_reply-in-Err-Fault-clause-derives g c = new_unchanged (g.T.LogSink.tells c.args.trace.now) (g.met.T.LogSink.one_reading c.args.trace.now)
+
+pub returns-in_ok-fault_reply-in-Err-Fault-clause-derives : goal.returns-in_ok-fault_reply-in-Err-Fault-clause-derives
+returns-in_ok-fault_reply-in-Err-Fault-clause-derives g c = new_unchanged (g.T.LogSink.tells c.args.trace.now) (g.met.T.LogSink.one_reading c.args.trace.now)
+
+pub returns-in-Err-Memory-clause-derives : goal.returns-in-Err-Memory-clause-derives
+returns-in-Err-Memory-clause-derives g c = new_unchanged (g.T.LogSink.tells c.args.trace.now) (g.met.T.LogSink.one_reading c.args.trace.now)

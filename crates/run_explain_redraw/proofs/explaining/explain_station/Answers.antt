@@ -3,6 +3,7 @@ use Rattle.refute_log.specs.ToldTo.{told_to}
 use Rattle.law_core.specs.Why.{IsRightWhy}
 use Rattle.run_explain_redraw.specs.Explained.{ExplainJob, explain_task}
 use Rattle.run_explain_redraw.proofs.ExplainedLemmas.{explained}
+use Rattle.run_draw_front.proofs.DerivesLemmas.{new_told}
 use Rattle.run_explain_redraw.proofs.explaining.explain_station.Goals as goal
 
 pub reply_of-requires : goal.reply_of-requires
@@ -16,3 +17,21 @@ returns-in_ok-reply_of-in-Ok-clause-answer g c =
     let reply = c.in_ok-reply_of-in-Ok.field-0 in
     explained c.asked.inside.grid.now c.asked.inside.budget c.args.asked.now traced c.args.station.now.graph c.args.station.now.order c.in-Ok.why reply.status reply.text.items
     c.asked.view_is c.in-Ok.ensures.right c.in-Ok.ensures.lines c.in_ok-reply_of-in-Ok.ensures.status c.in_ok-reply_of-in-Ok.ensures.text
+
+pub returns-in_err-reply_of-in-Ok-clause-derives : goal.returns-in_err-reply_of-in-Ok-clause-derives
+returns-in_err-reply_of-in-Ok-clause-derives g c =
+    let k = g.L.LogSink in
+    let lines = c.in-Ok.ensures.lines in
+    new_told (k.tells c.args.log.now) (k.tells c.explain.new.log) lines.0 (g.met.L.LogSink.one_reading c.explain.new.log) lines.1.behind lines.2.derives
+
+pub returns-in_ok-reply_of-in-Ok-clause-derives : goal.returns-in_ok-reply_of-in-Ok-clause-derives
+returns-in_ok-reply_of-in-Ok-clause-derives g c =
+    let k = g.L.LogSink in
+    let lines = c.in-Ok.ensures.lines in
+    new_told (k.tells c.args.log.now) (k.tells c.explain.new.log) lines.0 (g.met.L.LogSink.one_reading c.explain.new.log) lines.1.behind lines.2.derives
+
+pub returns-in-Err-Log-clause-derives : goal.returns-in-Err-Log-clause-derives
+returns-in-Err-Log-clause-derives g c = λ none lines is. (c.in-Err-Log.ensures.left none lines is).derives
+
+pub returns-in-Err-Memory-clause-derives : goal.returns-in-Err-Memory-clause-derives
+returns-in-Err-Memory-clause-derives g c = λ none lines is. (c.in-Err-Memory.ensures.left none lines is).derives

@@ -10,6 +10,7 @@ use Rattle.run_input.specs.Met.{between, LeftSo}
 use Rattle.run_draw_front.proofs.LeavesLemmas.{NamedMay}
 use Rattle.run_explain_redraw.specs.Answer.{HasReadFormer}
 use Rattle.run_explain_redraw.proofs.RedrawnLemmas.{redrawn_on, rejected_on, redraw_leaves, redraw_unwritten, redraw_untold}
+use Rattle.run_draw_front.proofs.DerivesLemmas.{new_unchanged}
 use Rattle.run_explain_redraw.proofs.redrawing.redraw.Goals as goal
 
 pub redraw_known-requires : goal.redraw_known-requires
@@ -86,3 +87,9 @@ returns-in-Err-With-clause-answer g c =
     let told =
     rejected_on c.args.input.now c.args.former.now c.args.sheet.now c.args.asked.now met traced reply.status reply.text.items (rw c.in-Err-With.field-0-is at c.in-Err-With.ensures.rejected) in
     rw (c.in-Err-With.field-0-is) told
+
+pub returns-in-Err-With-clause-derives : goal.returns-in-Err-With-clause-derives
+returns-in-Err-With-clause-derives g c = new_unchanged (g.T.LogSink.tells c.args.trace.now) (g.met.T.LogSink.one_reading c.args.trace.now)
+
+pub returns-in-Err-Memory-clause-derives : goal.returns-in-Err-Memory-clause-derives
+returns-in-Err-Memory-clause-derives g c = new_unchanged (g.T.LogSink.tells c.args.trace.now) (g.met.T.LogSink.one_reading c.args.trace.now)

@@ -12,6 +12,7 @@ use Rattle.schematic_main.specs.Run.{CommandFailsToWrite}
 use Rattle.run_input.proofs.AnswerLemmas.{leaves_same}
 use Rattle.run_draw_front.proofs.LeavesLemmas.{left_alone}
 use Rattle.schematic_main.proofs.AloneLemmas.{trimmed_alone}
+use Rattle.run_draw_front.proofs.DerivesLemmas.{new_unchanged}
 use Rattle.schematic_main.proofs.answers.answer_to.Goals as goal
 
 pub returns-in-Draw-clause-answer : goal.returns-in-Draw-clause-answer
@@ -185,3 +186,36 @@ returns-in_ok-recheck-in-Recheck-clause-answer g c =
 
 pub returns-in_ok-recheck-in-Recheck-clause-leaves : goal.returns-in_ok-recheck-in-Recheck-clause-leaves
 returns-in_ok-recheck-in-Recheck-clause-leaves g c = leaves_same _ (g.F.Files.at c.args.files.now).contents (g.F.Files.at c.recheck.new.files).contents c.in_ok-recheck-in-Recheck.ensures.same
+
+pub returns-in_ok-print-in-Graph-clause-derives : goal.returns-in_ok-print-in-Graph-clause-derives
+returns-in_ok-print-in-Graph-clause-derives g c = new_unchanged (g.T.LogSink.tells c.args.trace.now) (g.met.T.LogSink.one_reading c.args.trace.now)
+
+pub returns-in_err-print-in-Graph-clause-derives : goal.returns-in_err-print-in-Graph-clause-derives
+returns-in_err-print-in-Graph-clause-derives g c = new_unchanged (g.T.LogSink.tells c.args.trace.now) (g.met.T.LogSink.one_reading c.args.trace.now)
+
+pub returns-in_ok-verify-in-Verify-clause-derives : goal.returns-in_ok-verify-in-Verify-clause-derives
+returns-in_ok-verify-in-Verify-clause-derives g c = new_unchanged (g.T.LogSink.tells c.args.trace.now) (g.met.T.LogSink.one_reading c.args.trace.now)
+
+pub returns-in_err-verify-in-Verify-clause-derives : goal.returns-in_err-verify-in-Verify-clause-derives
+returns-in_err-verify-in-Verify-clause-derives g c = new_unchanged (g.T.LogSink.tells c.args.trace.now) (g.met.T.LogSink.one_reading c.args.trace.now)
+
+pub returns-in_ok-check-in-Check-clause-derives : goal.returns-in_ok-check-in-Check-clause-derives
+returns-in_ok-check-in-Check-clause-derives g c = new_unchanged (g.T.LogSink.tells c.args.trace.now) (g.met.T.LogSink.one_reading c.args.trace.now)
+
+pub returns-in_err-check-in-Check-clause-derives : goal.returns-in_err-check-in-Check-clause-derives
+returns-in_err-check-in-Check-clause-derives g c = new_unchanged (g.T.LogSink.tells c.args.trace.now) (g.met.T.LogSink.one_reading c.args.trace.now)
+
+pub returns-in_ok-made-in-Make-clause-derives : goal.returns-in_ok-made-in-Make-clause-derives
+returns-in_ok-made-in-Make-clause-derives g c = new_unchanged (g.T.LogSink.tells c.args.trace.now) (g.met.T.LogSink.one_reading c.args.trace.now)
+
+pub returns-in_err-made-in-Make-clause-derives : goal.returns-in_err-made-in-Make-clause-derives
+returns-in_err-made-in-Make-clause-derives g c = new_unchanged (g.T.LogSink.tells c.args.trace.now) (g.met.T.LogSink.one_reading c.args.trace.now)
+
+pub returns-in_ok-recheck-in-Recheck-clause-derives : goal.returns-in_ok-recheck-in-Recheck-clause-derives
+returns-in_ok-recheck-in-Recheck-clause-derives g c = new_unchanged (g.T.LogSink.tells c.args.trace.now) (g.met.T.LogSink.one_reading c.args.trace.now)
+
+pub returns-in_err-recheck-in-Recheck-clause-derives : goal.returns-in_err-recheck-in-Recheck-clause-derives
+returns-in_err-recheck-in-Recheck-clause-derives g c = new_unchanged (g.T.LogSink.tells c.args.trace.now) (g.met.T.LogSink.one_reading c.args.trace.now)
+
+pub returns-in-Trim-clause-derives : goal.returns-in-Trim-clause-derives
+returns-in-Trim-clause-derives g c = new_unchanged (g.T.LogSink.tells c.args.trace.now) (g.met.T.LogSink.one_reading c.args.trace.now)

@@ -10,6 +10,7 @@ use Rattle.schematic_main.specs.Commands.{inputs_of}
 use Rattle.run_draw_front.proofs.LeavesLemmas.{leaves_weaker}
 use Rattle.schematic_main.proofs.AloneLemmas.{reply_alone}
 use Rattle.schematic_main.proofs.ApartLemmas.{asked_apart, pair_apart}
+use Rattle.run_draw_front.proofs.DerivesLemmas.{new_unchanged}
 use Rattle.schematic_main.proofs.running.reply_to.Goals as goal
 
 pub answer_to-requires : goal.answer_to-requires
@@ -46,3 +47,12 @@ returns-in-Ok-clause-cause g c = λ cut. (c.in-Ok.command, c.in-Ok.ensures.value
 
 pub returns-in-Ok-clause-untold : goal.returns-in-Ok-clause-untold
 returns-in-Ok-clause-untold g c = λ none. c.answer_to.ensures.untold (elim none [ inl refused ↦ inl refused | inr nothing ↦ inr (nothing c.in-Ok.command c.in-Ok.ensures.value) ])
+
+pub returns-in_err-fault_reply-in-Err-Words-clause-derives : goal.returns-in_err-fault_reply-in-Err-Words-clause-derives
+returns-in_err-fault_reply-in-Err-Words-clause-derives g c = new_unchanged (g.T.LogSink.tells c.args.trace.now) (g.met.T.LogSink.one_reading c.args.trace.now)
+
+pub returns-in_ok-fault_reply-in-Err-Words-clause-derives : goal.returns-in_ok-fault_reply-in-Err-Words-clause-derives
+returns-in_ok-fault_reply-in-Err-Words-clause-derives g c = new_unchanged (g.T.LogSink.tells c.args.trace.now) (g.met.T.LogSink.one_reading c.args.trace.now)
+
+pub returns-in-Err-Memory-clause-derives : goal.returns-in-Err-Memory-clause-derives
+returns-in-Err-Memory-clause-derives g c = new_unchanged (g.T.LogSink.tells c.args.trace.now) (g.met.T.LogSink.one_reading c.args.trace.now)
