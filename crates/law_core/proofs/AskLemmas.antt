@@ -112,7 +112,7 @@ base_model y v h = satisfies_left v (base_clauses y.graph (drawing_vars y.graph 
 pub long_enough : (y : Layout) (selecting : List ℕ) (budget room : ℕ) (k : Kept) (n : ℕ) → IsReady y selecting budget room k → n ≡ k.vars → laws_first y.graph y.grid ≤ n + 1
 long_enough y selecting budget room k n ready is = let v = ready.vars in omega (arith, v, is)
 
-meets_each : (y : Layout) (budget room : ℕ) (v : Assignment) (d : Drawing) (wanted : List ℕ) → ((n : ℕ) → n < length (laws_of y) → v (selector_at y.graph y.grid (laws_of y) n) ≡ true → MeetsAt (task_of y budget room) d n) →
+pub meets_each : (y : Layout) (budget room : ℕ) (v : Assignment) (d : Drawing) (wanted : List ℕ) → ((n : ℕ) → n < length (laws_of y) → v (selector_at y.graph y.grid (laws_of y) n) ≡ true → MeetsAt (task_of y budget room) d n) →
     All (λ k. k < length (laws_of y)) wanted → MakesTrue v (query_of (selectors (laws_first y.graph y.grid) (laws_of y)) wanted) → All (MeetsAt (task_of y budget room) d) wanted
 meets_each y budget room v d [] meets there true_all = All-nil (MeetsAt (task_of y budget room) d)
 meets_each y budget room v d (n ∷ ns) meets there true_all =

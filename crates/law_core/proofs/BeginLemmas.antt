@@ -2,7 +2,7 @@
 use Rattle.std.proofs.Common.{◌≡◌, ◌≤◌, ◌<◌, ℕ, zero, suc, ◌+◌, ◌-◌, false, List, [], ◌∷◌, ◌++◌, length, map, refl, sym, ◌∙◌, ap, subst, inl, inr, arith, append-nil}
 use Rattle.std.specs.Prelude.{flat_map, slice_index_or}
 use Rattle.std.proofs.lemmas.List.{length-map}
-use Rattle.std.proofs.lemmas.List.Elements.{All-nil, All-map, All-weaker}
+use Rattle.std.proofs.lemmas.List.Elements.{All-weaker}
 use Rattle.plan_core.proofs.ListFacts.{all_mapped}
 use Rattle.plan_core.specs.Drawing.{Drawing}
 use Rattle.plan_core.specs.Lawful.{Instance, NodeOnGrid, Lawful}
@@ -41,7 +41,8 @@ use Rattle.law_core.specs.Law.{instance_of}
 use Rattle.law_core.specs.Choices.{choices_size, selectors}
 use Rattle.law_core.specs.Known.{laws_of, formula_of, task_of, HasFormula, AreSelecting, IsReady, KnowsWhy}
 use Rattle.law_core.proofs.FormulaLemmas.{all_laws}
-use Rattle.law_core.specs.Query.{IsAboutLaws}
+use Rattle.law_core.specs.Query.{IsLawPlaced}
+use Rattle.search_least.proofs.BehindLemmas.{behind_none, behind_mapped}
 use Rattle.law_core.specs.Why.{IsRightWhy, IsWhyCause, IsWhyLog, IsWhyLeft, FormulaPasses, formula_lines, HasLawPlaces, IsWhyOf}
 
 -- ---- the selecting variables
@@ -115,7 +116,7 @@ begun_knows y budget room laws f old new l0 l1 n0 n1 has blank_is t goes =
       learnt_are = omega (arith, l, z, none_learnt);
       spent = omega (arith, l, z);
       fits = subst (λ n. n ≤ room) belongs.words full;
-      asked = All-map (IsAboutLaws (task_of y budget room)) Formula cs (λ k d lt. tt);
+      asked = behind_mapped (IsLawPlaced (task_of y budget room)) Formula [] cs (λ before c. tt) (behind_none (IsLawPlaced (task_of y budget room)));
     }
 
 -- ---- the answer
@@ -229,7 +230,7 @@ nothing_told y budget room n log passes = (
     begins = (formula_lines y, refl);
     fits = omega arith;
     within = omega arith;
-    asked = All-nil (IsAboutLaws (task_of y budget room));
+    asked = behind_none (IsLawPlaced (task_of y budget room));
     cause = inl (refl, passes);
   },
 )

@@ -1,13 +1,14 @@
 -- What a question leaves of the solver and of the log.
-use Rattle.std.proofs.Common.{◌≡◌, ◌≤◌, ◌<◌, ℕ, ◌+◌, ◌-◌, ◌^◌, List, [], ◌++◌, length, sym, ◌∙◌, ap, subst, arith, append-nil}
-use Rattle.std.specs.Prelude.{flat_map, All, map}
-use Rattle.std.proofs.lemmas.List.Elements.{All-nil, All-cons, All-append, All-map}
+use Rattle.std.proofs.Common.{◌≡◌, ◌≤◌, ◌<◌, ℕ, ◌+◌, ◌-◌, ◌^◌, List, [], ◌∷◌, ◌++◌, length, sym, ◌∙◌, ap, subst, arith, append-nil}
+use Rattle.std.specs.Prelude.{flat_map, map, Some, None, fold}
+use Rattle.std.proofs.lemmas.Grind.{fold-append}
 use Rattle.outside_io.specs.Counts.{rose_by}
 use Rattle.cnf_core.specs.Lit.{Literal}
 use Rattle.cnf_core.specs.Clause.{Clauses}
+use Rattle.cnf_core.specs.Truths.{assignment}
 use Rattle.refute_log.specs.declared.line.LogLine.TheVariants.{Learnt, Query, Refuted as RefutedLine, Model as ModelLine}
 use Rattle.refute_log.specs.Told.{Lines}
-use Rattle.refute_log.specs.Log.{learnt, Open, clause_lines}
+use Rattle.refute_log.specs.Log.{learnt, asked, facts_of, Open, clause_lines}
 use Rattle.refute_log.specs.Steps.{GoesOn, Leaves}
 use Rattle.refute_log.proofs.StepLemmas.{leaves_same, leaves_then, clause_lines_append}
 use Rattle.refute_log.specs.Full.{NextClausePasses}
@@ -15,16 +16,19 @@ use Rattle.refute_log.specs.declared.stop.Stop.TheVariants.{BudgetSpent, RoomFul
 use Rattle.drawing_cnf.specs.Layout.{Layout}
 use Rattle.cdcl_core.specs.declared.answer.Answer.{Answer}
 use Rattle.cdcl_core.specs.declared.answer.Answer.TheVariants.{Model, Refuted as RefutedAnswer, Spent, Room}
-use Rattle.cdcl_core.specs.Kept.{Kept, HasLearnt, AreGiven, IsTrueAnswer}
+use Rattle.cdcl_core.specs.Kept.{Kept, HasLearnt, AreGiven, MakesTrue, HasModel, IsTrueAnswer}
 use Rattle.cdcl_core.specs.Belongs.{Belongs, search_lines, EndsWith, HasSpent, HasSolved}
 use Rattle.cdcl_core.proofs.LeftLemmas.{clause_searched, within_spent}
 use Rattle.lex_minimise.proofs.AskLemmas.{learnt_of_search, count_of_search, is_open, has_no_room, count_after}
 use Rattle.search_why.specs.declared.oracle.Reply.{Reply}
 use Rattle.search_why.specs.declared.oracle.Reply.TheVariants.{Found, Refuted, Stopped}
+use Rattle.search_least.proofs.QuestionLemmas.{query_stays}
+use Rattle.search_least.proofs.BehindLemmas.{behind_unended, behind_ended}
 use Rattle.search_why.specs.Task.{Task}
 use Rattle.search_why.specs.Asked.{TellsReply}
-use Rattle.law_core.specs.Known.{formula_of, task_of, IsReady, KnowsWhy, TellsAnswer}
-use Rattle.law_core.specs.Query.{SelectsLaws, IsAboutLaws, IsReplyOf}
+use Rattle.law_core.specs.Known.{formula_of, task_of, IsWhyFormula, IsReady, KnowsWhy, TellsAnswer}
+use Rattle.law_core.specs.Query.{SelectsLaws, HasLaws, IsLawPlaced, AreAboutLaws, IsReplyOf}
+use Rattle.law_core.proofs.AskLemmas.{meets_each}
 
 -- ---- the lines
 
@@ -56,17 +60,33 @@ answered p old new Spent assume cs lines ending learnt_are spent is_room given b
 answered p old new Room assume cs lines ending learnt_are spent is_room given belongs ends has true_answer =
     subst (NextClausePasses (lines ++ search_lines assume cs ending)) is_room (has_no_room (lines ++ search_lines assume cs ending) new belongs true_answer)
 
-ending_asks_nothing : (p : Task) (a : Answer) (assume : List Literal) (ending : Lines) → EndsWith a assume ending → All (IsAboutLaws p) ending
-ending_asks_nothing p Model assume ending e = subst (All (IsAboutLaws p)) (sym e) (All-cons (IsAboutLaws p) ModelLine [] tt (All-nil (IsAboutLaws p)))
-ending_asks_nothing p RefutedAnswer assume ending e = subst (All (IsAboutLaws p)) (sym e.is) (All-cons (IsAboutLaws p) (RefutedLine e.clause) [] tt (All-nil (IsAboutLaws p)))
-ending_asks_nothing p Spent assume ending e = subst (All (IsAboutLaws p)) (sym e) (All-nil (IsAboutLaws p))
-ending_asks_nothing p Room assume ending e = subst (All (IsAboutLaws p)) (sym e) (All-nil (IsAboutLaws p))
+-- a Model line behind a query that has a model
+model_answers : (y : Layout) (budget room : ℕ) (k : Kept) (assume : List Literal) (before : Lines) → IsWhyFormula y → SelectsLaws (task_of y budget room) assume → HasModel (formula_of y) assume k → (facts_of before).query ≡ Some assume → HasLaws (task_of y budget room) before
+model_answers y budget room k assume before facts (wanted, places, is) model latest =
+    let v = assignment model.values in
+    let s = facts.sound v model.clauses in
+    record {
+      wanted = wanted;
+      places = places;
+      latest = latest ∙ ap Some is;
+      drawing = s.drawing;
+      loose = s.loose;
+      meets = meets_each y budget room v s.drawing wanted s.meets places.there (subst (MakesTrue v) is model.assumptions);
+    }
 
-asks_about_laws : (p : Task) (a : Answer) (assume : List Literal) (cs : Clauses) (lines ending : Lines) → SelectsLaws p assume → EndsWith a assume ending → All (IsAboutLaws p) lines → All (IsAboutLaws p) (lines ++ search_lines assume cs ending)
-asks_about_laws p a assume cs lines ending selects ends before =
-    All-append (IsAboutLaws p) lines (search_lines assume cs ending) before
-    (All-cons (IsAboutLaws p) (Query assume) (map Learnt cs ++ ending) selects
-    (All-append (IsAboutLaws p) (map Learnt cs) ending (All-map (IsAboutLaws p) Learnt cs (λ k d lt. tt)) (ending_asks_nothing p a assume ending ends)))
+-- a question and its answer stand where they may
+laws_placed : (y : Layout) (budget room : ℕ) (k : Kept) (a : Answer) (assume : List Literal) (cs : Clauses) (lines ending : Lines) → IsWhyFormula y → SelectsLaws (task_of y budget room) assume → EndsWith a assume ending → IsTrueAnswer a (formula_of y) assume k →
+    AreAboutLaws (task_of y budget room) lines → AreAboutLaws (task_of y budget room) (lines ++ search_lines assume cs ending)
+laws_placed y budget room k Model assume cs lines ending facts selects e model h =
+    let front : Lines = lines ++ Query assume ∷ map Learnt cs in
+    let latest : (facts_of front).query ≡ Some assume = fold-append asked None lines (Query assume ∷ map Learnt cs) ∙ query_stays (Some assume) cs in
+    behind_ended (IsLawPlaced (task_of y budget room)) lines (search_lines assume cs ending) assume cs ModelLine (ap (search_lines assume cs) e) (λ before c. tt) selects (model_answers y budget room k assume front facts selects model latest) h
+laws_placed y budget room k RefutedAnswer assume cs lines ending facts selects e none h =
+    behind_ended (IsLawPlaced (task_of y budget room)) lines (search_lines assume cs ending) assume cs (RefutedLine e.clause) (ap (search_lines assume cs) e.is) (λ before c. tt) selects tt h
+laws_placed y budget room k Spent assume cs lines ending facts selects e spent h =
+    behind_unended (IsLawPlaced (task_of y budget room)) lines (search_lines assume cs ending) assume cs (ap (search_lines assume cs) e) (λ before c. tt) selects h
+laws_placed y budget room k Room assume cs lines ending facts selects e full h =
+    behind_unended (IsLawPlaced (task_of y budget room)) lines (search_lines assume cs ending) assume cs (ap (search_lines assume cs) e) (λ before c. tt) selects h
 
 pub search_goes : (y : Layout) (selecting : List ℕ) (budget room : ℕ) (old new : Kept) (a : Answer) (assume : List Literal) (before now : Lines → Type 0) (n m : ℕ) → budget < 2 ^ 32 → IsReady y selecting budget room old → SelectsLaws (task_of y budget room) assume →
     HasSolved before now assume old new a (budget - old.learnt) n m → IsTrueAnswer a (formula_of y) assume new → new.words ≤ room →
@@ -84,7 +104,7 @@ search_goes y selecting budget room old new a assume before now n m top ready se
         learnt_are = (let c = k.learnt_are in let d = count_of_search a assume s.learnt lines s.ending s.ends in omega (arith, c, d, count));
         spent = (let spent = ready.spent in omega (arith, spent, few, count));
         fits = subst (λ n. n ≤ room) belongs.words fits;
-        asked = asks_about_laws (task_of y budget room) a assume s.learnt lines s.ending selects s.ends k.asked;
+        asked = laws_placed y budget room new a assume s.learnt lines s.ending ready.facts selects s.ends true_answer k.asked;
       };
       told = s.told;
       counted = s.counted ∙ ap (λ c. rose_by c n) (sym (ap length (learnt_of_search a assume s.learnt s.ending s.ends)));

@@ -1,5 +1,5 @@
 -- What is searched, when the solver can be asked, and which lines are known.
-use Rattle.std.specs.Prelude.{◌≡◌, ◌≤◌, ⊤, ℕ, false, List, All, map, flat_map, length}
+use Rattle.std.specs.Prelude.{◌≡◌, ◌≤◌, ⊤, ℕ, false, List, map, flat_map, length}
 use Rattle.plan_core.specs.Graph.{IsTrackGraph}
 use Rattle.plan_core.specs.Lawful.{Instance}
 use Rattle.cnf_core.specs.declared.limits.TheConstants.{VARS}
@@ -22,7 +22,7 @@ use Rattle.law_core.specs.declared.parties.Law.{Law}
 use Rattle.law_core.specs.Law.{instance_of}
 use Rattle.law_core.specs.Choices.{why_clauses, why_size, selectors}
 use Rattle.law_core.specs.Chosen.{SoundChoices, CoversChoices, why_task}
-use Rattle.law_core.specs.Query.{IsAboutLaws}
+use Rattle.law_core.specs.Query.{AreAboutLaws}
 
 -- the laws of a layout
 abbrev pub laws_of : Layout → List Instance
@@ -71,14 +71,15 @@ pub record IsReady (y : Layout) (selecting : List ℕ) (budget room : ℕ) (k : 
   pub given : AreGiven (formula_of y) k.clauses
   pub spent : k.learnt ≤ budget
 
--- the lines belong to the solver, their Formula lines are the formula's, and their queries select laws
+-- the lines belong to the solver, their Formula lines are the formula's, their queries select laws, and their Model
+-- lines answer them
 pub record KnowsWhy (p : Task) (k : Kept) (lines : Lines) : Type 0 where
   pub belongs : Belongs lines k
   pub told_are : clause_lines lines ≡ map Formula p.clauses
   pub learnt_are : k.learnt ≡ length (flat_map learnt lines)
   pub spent : k.learnt ≤ p.budget
   pub fits : words_of (flat_map added lines) ≤ p.room
-  pub asked : All (IsAboutLaws p) lines
+  pub asked : AreAboutLaws p lines
 
 -- where the solver gave a question up, its lines have the cause
 abbrev pub TellsAnswer : Task → Answer → Lines → Type 0

@@ -21,7 +21,7 @@ use Rattle.law_core.specs.declared.ending.Why.{Why}
 use Rattle.law_core.specs.declared.ending.Why.TheVariants.{Exists, Laws, Spent, Room}
 use Rattle.law_core.specs.Chosen.{listed_law}
 use Rattle.law_core.specs.Known.{formula_of, size_of, task_of}
-use Rattle.law_core.specs.Query.{IsAboutLaws}
+use Rattle.law_core.specs.Query.{AreAboutLaws}
 
 -- these are the names of laws that no loose drawing meets together, and the drawings, one for each, show that none of
 -- them can be left out
@@ -64,7 +64,7 @@ pub record IsWhyLog (y : Layout) (budget room : ℕ) (w : Why) (lines : Lines) :
   pub begins : BeginsLines (clause_lines lines) (formula_lines y)
   pub fits : words_of (flat_map added lines) ≤ room
   pub within : length (flat_map learnt lines) ≤ budget
-  pub asked : All (IsAboutLaws (task_of y budget room)) lines
+  pub asked : AreAboutLaws (task_of y budget room) lines
   pub cause : IsWhyCause y budget room w lines
 
 -- the lines of a search that ended with an error

@@ -13,7 +13,7 @@ use Rattle.refute_log.specs.Log.{facts_of, clause_lines, BeginsLines, Derives}
 use Rattle.refute_log.specs.Steps.{ToldBehind, GoesOn, StillDerives, GivesNoMore, Leaves}
 use Rattle.refute_log.proofs.LogLemmas.{derives_none, derives_more}
 use Rattle.refute_log.proofs.StepLemmas.{leaves_more, leaves_known, leaves_then, clause_lines_append}
-use Rattle.refute_log.specs.Expected.{bound_lines, sum_lines, sums}
+use Rattle.refute_log.specs.Expected.{bound_lines, sum_lines, sums, expected_lines}
 use Rattle.drawing_cnf.specs.Encoding.{Encoding, encoded_vars}
 use Rattle.drawing_cnf.specs.Expected.{drawing_vars}
 use Rattle.drawing_cnf.specs.Bounded.{Bound, bound}
@@ -23,7 +23,8 @@ use Rattle.cdcl_core.specs.Belongs.{Belongs, GivesAtMost}
 use Rattle.cdcl_core.proofs.ViewLemmas.{new_belongs}
 use Rattle.search_least.proofs.BuildLemmas.{formulas_are_clauses, bounds_are_clauses}
 use Rattle.search_least.specs.Task.{Task, greatest_of}
-use Rattle.search_least.specs.Outcome.{first_lines}
+use Rattle.search_least.specs.Outcome.{IsLeastLeft, first_lines}
+use Rattle.search_least.proofs.OutcomeLemmas.{zero_told}
 use Rattle.drawing_cnf.specs.Lists.{variables_behind, lines_of_bound}
 use Rattle.drawing_cnf.specs.Layout.{Layout, problem_of, layout_of}
 use Rattle.drawing_cnf.proofs.ListLemmas.{sum_is_bound}
@@ -161,6 +162,32 @@ answer_left y told budget room old new l0 l1 n0 n1 R goes h =
     leaves_then (KnowsLines y told budget room old) (KnowsLines y told budget room new) l0 l1 l1 n0 n1 R [] [] goes
     (λ lines more ka kb r. kb.told_are ∙ sym ka.told_are ∙ sym (append-nil (clause_lines lines))) h
 
+-- ---- a search of either kind
+
+-- an error in the formula's clauses, where these are the first of what is expected
+formula_left : (y : Layout) (budget room : ℕ) (expected more : Lines) (e : Encoding) (f : Cnf) (old : Kept) (l0 l1 : Lines → Type 0) → IsFirst y room e → f ≡ e.formula → old ≡ blank room →
+    expected ≡ first_lines (task_of y budget room) ++ more →
+    Leaves (map Formula (drop 0 f.clauses)) (λ ls. Belongs ls old) l0 l1 → l0 [] → (lines : Lines) → l1 lines → Derives lines × BeginsLines (clause_lines lines) expected
+formula_left y budget room expected more e f old l0 l1 first is blank_is all h none lines told =
+    let p = task_of y budget room in
+    let left = h [] (new_belongs old room blank_is) none lines told in
+    let clauses : map Formula (drop 0 f.clauses) ≡ first_lines p = first_does y budget room e f (map Formula (drop 0 f.clauses)) first is refl ∙ ap (λ (z : Layout). first_lines (task_of z budget room)) first.layout in
+    let rest = left.begins.0 in
+    let begins : BeginsLines (clause_lines lines) expected = (
+      rest ++ more,
+      all ∙ ap (λ (ls : Lines). ls ++ more) (sym clauses ∙ left.begins.1 ∙ ap (λ (ls : Lines). ls ++ rest) (sym left.gives)) ∙ append_assoc (clause_lines lines) rest more,
+    ) in
+    (left.derives, begins)
+
+-- an error behind the formula's clauses
+pub behind_formula_left : (P : Task → Lines → Type 0) (y : Layout) (budget room : ℕ) (e : Encoding) (f : Cnf) (old mid : Kept) (l0 l1 l2 : Lines → Type 0) (n0 n1 : ℕ) → IsFirst y room e → f ≡ e.formula → old ≡ blank room →
+    GoesOn (λ ls. Belongs ls old) (λ ls. Belongs ls mid) l0 l1 n0 n1 (λ lines more. more ≡ map Formula (drop 0 f.clauses)) →
+    (l1 (first_lines (task_of (layout_of e) budget room)) → (lines : Lines) → l2 lines → P (task_of (layout_of e) budget room) lines) → l0 [] → (lines : Lines) → l2 lines → P (task_of y budget room) lines
+behind_formula_left P y budget room e f old mid l0 l1 l2 n0 n1 first is blank_is goes h none lines told =
+    let run : ToldBehind (λ ls. Belongs ls mid) l0 l1 n0 n1 [] (λ more. more ≡ map Formula (drop 0 f.clauses)) = goes [] (new_belongs old room blank_is) in
+    let start = subst l1 (first_does y budget room e f run.more first is run.does) (run.told [] none) in
+    subst (λ (z : Layout). P (task_of z budget room) lines) first.layout (h start lines told)
+
 -- ---- the front
 
 abbrev front_rest : Task → Criterion → Criterion → Lines
@@ -177,43 +204,25 @@ pub front_begun : (y : Layout) (budget room : ℕ) (a b : Criterion) (e : Encodi
     Leaves (map Formula (drop 0 f.clauses)) (λ ls. Belongs ls old) l0 l1 → l0 [] → (lines : Lines) → l1 lines → IsFrontLeft (task_of y budget room) a b lines
 front_begun y budget room a b e f old l0 l1 first is blank_is h none lines told =
     let p = task_of y budget room in
-    let left = h [] (new_belongs old room blank_is) none lines told in
-    let clauses : map Formula (drop 0 f.clauses) ≡ first_lines p = first_does y budget room e f (map Formula (drop 0 f.clauses)) first is refl ∙ ap (λ (z : Layout). first_lines (task_of z budget room)) first.layout in
-    let all : front_lines p a b ≡ first_lines p ++ (front_rest p a b) = refl in
-    let rest = left.begins.0 in
-    record {
-      derives = left.derives;
-      begins = (
-        rest ++ front_rest p a b,
-        all ∙ ap (λ (ls : Lines). ls ++ front_rest p a b) (sym clauses ∙ left.begins.1 ∙ ap (λ (ls : Lines). ls ++ rest) (sym left.gives)) ∙ append_assoc (clause_lines lines) rest (front_rest p a b),
-      );
-    }
-
--- an error behind the formula's clauses
-pub front_left : (y : Layout) (budget room : ℕ) (a b : Criterion) (e : Encoding) (f : Cnf) (old mid : Kept) (l0 l1 l2 : Lines → Type 0) (n0 n1 : ℕ) → IsFirst y room e → f ≡ e.formula → old ≡ blank room →
-    GoesOn (λ ls. Belongs ls old) (λ ls. Belongs ls mid) l0 l1 n0 n1 (λ lines more. more ≡ map Formula (drop 0 f.clauses)) →
-    (l1 (first_lines (task_of (layout_of e) budget room)) → (lines : Lines) → l2 lines → IsFrontLeft (task_of (layout_of e) budget room) a b lines) →
-    l0 [] → (lines : Lines) → l2 lines → IsFrontLeft (task_of y budget room) a b lines
-front_left y budget room a b e f old mid l0 l1 l2 n0 n1 first is blank_is goes h none lines told =
-    let run : ToldBehind (λ ls. Belongs ls mid) l0 l1 n0 n1 [] (λ more. more ≡ map Formula (drop 0 f.clauses)) = goes [] (new_belongs old room blank_is) in
-    let start = subst l1 (first_does y budget room e f run.more first is run.does) (run.told [] none) in
-    subst (λ (z : Layout). IsFrontLeft (task_of z budget room) a b lines) first.layout (h start lines told)
+    let left = formula_left y budget room (front_lines p a b) (front_rest p a b) e f old l0 l1 first is blank_is refl h none lines told in
+    record { derives = left.0; begins = left.1 }
 
 -- ---- the search for least values
 
+-- the formula's clauses alone are expected without bounds
+unbounded : (p : Task) (order : List Criterion) → expected_lines p.encoding order (λ c. 0) ≡ first_lines p
+unbounded p order = zero_told p order (λ c. 0) (λ c. refl)
+
 -- nothing was told
-pub values_unbegun : (log : Lines → Type 0) → ((x z : Lines) → log x → log z → x ≡ z) → log [] → (lines : Lines) → log lines → Derives lines
-values_unbegun log one none lines is = subst Derives (one [] lines none is) derives_none
+pub values_unbegun : (y : Layout) (budget room : ℕ) (order : List Criterion) (log : Lines → Type 0) → ((x z : Lines) → log x → log z → x ≡ z) → log [] → (lines : Lines) → log lines → IsLeastLeft (task_of y budget room) order lines
+values_unbegun y budget room order log one none lines is =
+    let p = task_of y budget room in
+    subst (IsLeastLeft p order) (one [] lines none is) (record { derives = derives_none; cap = λ c. 0; begins = (first_lines p, unbounded p order) })
 
 -- an error in the formula's clauses
-pub values_begun : (expected : Lines) (room : ℕ) (old : Kept) (l0 l1 : Lines → Type 0) → old ≡ blank room → Leaves expected (λ ls. Belongs ls old) l0 l1 → l0 [] → (lines : Lines) → l1 lines → Derives lines
-values_begun expected room old l0 l1 blank_is h none lines told = (h [] (new_belongs old room blank_is) none lines told).derives
-
--- an error behind the formula's clauses
-pub values_left : (y : Layout) (budget room : ℕ) (e : Encoding) (f : Cnf) (known : Lines → Type 0) (old mid : Kept) (l0 l1 l2 : Lines → Type 0) (n0 n1 : ℕ) → IsFirst y room e → f ≡ e.formula → old ≡ blank room →
-    GoesOn (λ ls. Belongs ls old) (λ ls. Belongs ls mid) l0 l1 n0 n1 (λ lines more. more ≡ map Formula (drop 0 f.clauses)) → known (first_lines (task_of (layout_of e) budget room)) →
-    StillDerives known l1 l2 → l0 [] → (lines : Lines) → l2 lines → Derives lines
-values_left y budget room e f known old mid l0 l1 l2 n0 n1 first is blank_is goes knows h none lines told =
-    let run : ToldBehind (λ ls. Belongs ls mid) l0 l1 n0 n1 [] (λ more. more ≡ map Formula (drop 0 f.clauses)) = goes [] (new_belongs old room blank_is) in
-    let start = subst l1 (first_does y budget room e f run.more first is run.does) (run.told [] none) in
-    h (first_lines (task_of (layout_of e) budget room)) knows start lines told
+pub values_begun : (y : Layout) (budget room : ℕ) (order : List Criterion) (e : Encoding) (f : Cnf) (old : Kept) (l0 l1 : Lines → Type 0) → IsFirst y room e → f ≡ e.formula → old ≡ blank room →
+    Leaves (map Formula (drop 0 f.clauses)) (λ ls. Belongs ls old) l0 l1 → l0 [] → (lines : Lines) → l1 lines → IsLeastLeft (task_of y budget room) order lines
+values_begun y budget room order e f old l0 l1 first is blank_is h none lines told =
+    let p = task_of y budget room in
+    let left = formula_left y budget room (expected_lines p.encoding order (λ c. 0)) [] e f old l0 l1 first is blank_is (unbounded p order ∙ sym (append-nil (first_lines p))) h none lines told in
+    record { derives = left.0; cap = λ c. 0; begins = left.1 }

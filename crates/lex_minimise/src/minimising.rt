@@ -6,9 +6,8 @@ ghost use Rattle.track_order.specs.Order.{IsOrderOf};
 ghost use Rattle.refute_log.specs.Told.{Lines};
 ghost use Rattle.refute_log.specs.ToldTo.{told_to};
 ghost use Rattle.cdcl_core.specs.Kept.{blank};
-ghost use Rattle.refute_log.specs.Log.{Derives};
-ghost use Rattle.refute_log.specs.Steps.{ToldBehind, StillDerives};
-ghost use Rattle.search_least.specs.Outcome.{IsOutcome, IsRightOutcome, first_lines};
+ghost use Rattle.refute_log.specs.Steps.{ToldBehind};
+ghost use Rattle.search_least.specs.Outcome.{IsOutcome, IsRightOutcome, IsLeastLeft, first_lines};
 ghost use Rattle.drawing_cnf.specs.Layout.{layout};
 ghost use Rattle.lex_minimise.specs.Task.{task_of};
 ghost use Rattle.lex_minimise.specs.Told.{IsLogOfSolver};
@@ -41,7 +40,9 @@ fn search_from<L: LogSink>(
     ensures lines { let p = task_with known.old in
         IfOk result (λ o. ToldBehind (IsLogOfSolver solver.new) (L.tells log.old) (L.tells log.new) (L.learnt log.old)
         (L.learnt log.new) (first_lines p) (λ m. IsOutcome p wanted.now o (first_lines p ++ m))) }
-    ensures still { OnErr result (StillDerives (KnowsWith known.old solver.old) (L.tells log.old) (L.tells log.new)) }
+    ensures left { let p = task_with known.old in
+        OnErr result (L.tells log.old (first_lines p) → (lines : Lines) → L.tells log.new lines →
+        IsLeastLeft p wanted.now lines) }
     ensures later { L.is_later log.old log.new }
     ensures faults { L.faults log.old ≤ L.faults log.new }
     ensures cause { IsErrOf result MinFault.Log → Rose (L.faults log.old) (L.faults log.new) }
@@ -71,7 +72,8 @@ pub fn minimise_with<L: LogSink>(
     ensures lines { let p = task_of (layout g.now t.now grid.now) limits.now.budget limits.now.room in
         IfOk result (λ o. (ls : Lines) × told_to L.tells L.learnt log.old log.new ls
         × IsOutcome p wanted.now o ls × IsLogOfSolver solver.new ls) }
-    ensures left { OnErr result (L.tells log.old [] → (lines : Lines) → L.tells log.new lines → Derives lines) }
+    ensures left { let p = task_of (layout g.now t.now grid.now) limits.now.budget limits.now.room in
+        OnErr result (L.tells log.old [] → (lines : Lines) → L.tells log.new lines → IsLeastLeft p wanted.now lines) }
     ensures later { L.is_later log.old log.new }
     ensures faults { L.faults log.old ≤ L.faults log.new }
     ensures cause { IsErrOf result MinFault.Log → Rose (L.faults log.old) (L.faults log.new) }
@@ -102,7 +104,8 @@ pub fn minimise_with<L: LogSink>(
 /// The order `t` is that of the graph's edges. The log takes all lines: the drawings' clauses, each criterion's clauses
 /// with its bounds, whole or not at all, the questions, what is learnt, and the answers. `Spent` comes where as many
 /// clauses were learnt as the budget allows, `Room` where what comes next has no room: too many words or variables.
-/// After an error a log that had no line derives.
+/// After an error a log that had no line derives, and its Formula and Bound lines are the first of those that are
+/// expected.
 pub fn minimise<L: LogSink>(
     alloc: Global,
     g: &PortGraph,
@@ -119,7 +122,8 @@ pub fn minimise<L: LogSink>(
     ensures lines { let p = task_of (layout g.now t.now grid.now) limits.now.budget limits.now.room in
         IfOk result (λ o. (lines : Lines) × told_to L.tells L.learnt log.old log.new lines
         × IsOutcome p wanted.now o lines) }
-    ensures left { OnErr result (L.tells log.old [] → (lines : Lines) → L.tells log.new lines → Derives lines) }
+    ensures left { let p = task_of (layout g.now t.now grid.now) limits.now.budget limits.now.room in
+        OnErr result (L.tells log.old [] → (lines : Lines) → L.tells log.new lines → IsLeastLeft p wanted.now lines) }
     ensures later { L.is_later log.old log.new }
     ensures faults { L.faults log.old ≤ L.faults log.new }
     ensures cause { IsErrOf result MinFault.Log → Rose (L.faults log.old) (L.faults log.new) }

@@ -1,6 +1,6 @@
 -- The outcomes.
 use Rattle.std.proofs.Common.{◌≡◌, ℕ, ◌<◌, ◌≤◌, ◌⊎◌, List, [], ◌∷◌, ◌++◌, length, map, refl, sym, ◌∙◌, ap, subst, inl, inr, arith, append-nil, append_assoc}
-use Rattle.std.specs.Prelude.{All, Contains, None, Option, MatchOption, ⊤, flat_map}
+use Rattle.std.specs.Prelude.{All, Contains, None, Option, MatchOption, ⊤, flat_map, fold}
 use Rattle.std.proofs.lemmas.Bool.{cases_lt}
 use Rattle.std.proofs.lemmas.List.Elements.{All-map, All-contains}
 use Rattle.plan_core.specs.Drawing.{Drawing}
@@ -10,7 +10,7 @@ use Rattle.refute_log.specs.declared.line.LogLine.{LogLine}
 use Rattle.refute_log.specs.declared.line.LogLine.TheVariants.{Formula, Refuted as RefutedLine, Model}
 use Rattle.refute_log.specs.Lines.{MayAllBeTold}
 use Rattle.refute_log.specs.Told.{Lines}
-use Rattle.refute_log.specs.Log.{added, learnt, Derives, Due, clause_lines}
+use Rattle.refute_log.specs.Log.{added, asked, learnt, Derives, Due, clause_lines}
 use Rattle.refute_log.specs.declared.stop.Stop.{Stop}
 use Rattle.refute_log.specs.declared.stop.Stop.TheVariants.{BudgetSpent, RoomFull}
 use Rattle.refute_log.specs.Steps.{ToldBehind, Continues}
@@ -24,10 +24,10 @@ use Rattle.search_least.specs.declared.fewest.Fewest.TheVariants.{NoDrawing}
 use Rattle.search_least.specs.CountTask.{CountTask, IsOne}
 use Rattle.search_least.specs.CountAsked.{IsBelow, SaysReached, IsAsked, IsAnswer, IsRightAnswer}
 use Rattle.search_least.specs.Fewest.{IsRightFewest, IsEnd, IsFewestLog, stopped_with}
-use Rattle.search_least.specs.CountPlaced.{IsCountPlaced, AreCountsAsked}
+use Rattle.search_least.specs.CountPlaced.{HasComeTo, IsNextLimit, IsCountPlaced, AreCountsAsked}
 use Rattle.search_least.specs.Run.{RefutesNothing, IsRunToEnd}
 use Rattle.search_least.proofs.BehindLemmas.{behind_none, behind_mapped}
-use Rattle.search_least.proofs.AskLemmas.{asks_no_clauses, no_refuted, no_model, ends_in, stopped_end, counts_asked, latest_query}
+use Rattle.search_least.proofs.AskLemmas.{asks_no_clauses, no_refuted, no_model, ends_in, stopped_end, counts_asked, comes_to, latest_query}
 
 -- ---- of drawings
 
@@ -75,17 +75,28 @@ EndsBehind p outcome lines more = lines ≡ map Formula p.clauses → IsWholeSea
 formulas_placed : (p : CountTask) (lines : Lines) → lines ≡ map Formula p.clauses → AreCountsAsked p lines
 formulas_placed p lines is = subst (AreCountsAsked p) (sym is) (behind_mapped (IsCountPlaced p) Formula [] p.clauses (λ before c. tt) (behind_none (IsCountPlaced p)))
 
+formulas_ask_nothing : (cs : Clauses) → fold asked None (map Formula cs) ≡ None
+formulas_ask_nothing [] = refl
+formulas_ask_nothing (c ∷ cs) = formulas_ask_nothing cs
+
+-- any drawing is asked for behind them
+any_is_next : (p : CountTask) (lines : Lines) → lines ≡ map Formula p.clauses → IsNextLimit p lines None
+any_is_next p lines is = (tt, ap (fold asked None) is ∙ formulas_ask_nothing p.clauses)
+
 pub first_found : {S : Type 0} (knows log : S → Lines → Type 0) (count : S → ℕ) (a b e : S) (q p : CountTask) (r : Answer) (d : Drawing) (outcome : Fewest) → q ≡ p → r ≡ Found d → IsRightAnswer p None r →
-    Continues knows log count a b (λ lines more. IsAnswer p lines None r more) → Continues knows log count b e (IsRunToEnd q outcome) → Continues knows log count a e (EndsBehind p outcome)
+    Continues knows log count a b (λ lines more. IsAnswer p lines None r more) → Continues knows log count b e (IsRunToEnd q (q.count d) outcome) → Continues knows log count a e (EndsBehind p outcome)
 first_found knows log count a b e q p r d outcome same was right asked run =
-    goes_on knows log count a b e (λ lines more. IsAnswer p lines None r more) (IsRunToEnd p outcome) (EndsBehind p outcome) asked (subst (λ (x : CountTask). Continues knows log count b e (IsRunToEnd x outcome)) same run)
+    goes_on knows log count a b e (λ lines more. IsAnswer p lines None r more) (IsRunToEnd p (p.count d) outcome) (EndsBehind p outcome) asked (subst (λ (x : CountTask). Continues knows log count b e (IsRunToEnd x (x.count d) outcome)) same run)
     (λ lines xs ys ka kb ke answer end is.
     let got : IsAsked p None (Model ∷ []) xs = subst (λ (x : Answer). IsAnswer p lines None x xs) was answer in
     let nothing : RefutesNothing lines = subst RefutesNothing (sym is) (formulas_refute_nothing p.clauses) in
     record {
       none = both xs ys (asks_no_clauses p None (Model ∷ []) xs got refl) end.none;
       end = subst (IsEnd p outcome) (append_assoc lines xs ys) (end.end (no_refuted p None (Model ∷ []) lines xs got not_model nothing));
-      placed = subst (AreCountsAsked p) (append_assoc lines xs ys) (end.placed (counts_asked p None lines xs r answer right (formulas_placed p lines is)));
+      placed = subst (AreCountsAsked p) (append_assoc lines xs ys) (end.placed (record {
+        placed = counts_asked p None lines xs r answer right (any_is_next p lines is) (formulas_placed p lines is);
+        comes = comes_to p None (p.count d) lines xs got tt;
+      }));
     })
   where
     both : (xs ys : Lines) → clause_lines xs ≡ [] → clause_lines ys ≡ [] → clause_lines (xs ++ ys) ≡ []
@@ -99,7 +110,7 @@ first_refuted knows log count a b p r was right asked = becomes knows log count 
     record {
       none = asks_no_clauses p None (RefutedLine got.0 ∷ []) xs got.2 refl;
       end = subst (λ (c : List Literal). Contains (lines ++ xs) (RefutedLine c)) (no_literal p got.0 got.1) (ends_in p None lines xs (RefutedLine got.0) got.2);
-      placed = counts_asked p None lines xs r answer right (formulas_placed p lines is);
+      placed = counts_asked p None lines xs r answer right (any_is_next p lines is) (formulas_placed p lines is);
     })
 
 pub first_stopped : {S : Type 0} (knows log : S → Lines → Type 0) (count : S → ℕ) (a b : S) (p : CountTask) (r : Answer) (stop : Stop) (outcome : Fewest) → r ≡ Stopped stop → outcome ≡ stopped_with stop None → IsRightAnswer p None r →
@@ -112,9 +123,9 @@ first_stopped knows log count a b p r stop outcome was ended right asked = becom
       end = stopped_end p stop None outcome (lines ++ xs) ended (
         got.1,
         no_refuted p None [] lines xs got.0 not_nothing (subst RefutesNothing (sym is) (formulas_refute_nothing p.clauses)),
-        (no_model p None lines xs got.0 (subst (λ (ls : Lines). Contains ls Model → ⊥) (sym is) (only_formulas p.clauses Model (λ c e. cc))), latest_query p None lines xs got.0),
+        (no_model p None lines xs got.0 (subst (λ (ls : Lines). Contains ls Model → ⊥) (sym is) (only_formulas p.clauses Model (λ c e. cc))), latest_query p None [] lines xs (λ x. refl) got.0),
       );
-      placed = counts_asked p None lines xs r answer right (formulas_placed p lines is);
+      placed = counts_asked p None lines xs r answer right (any_is_next p lines is) (formulas_placed p lines is);
     })
 
 -- ---- the whole search

@@ -1,7 +1,6 @@
 pub mod QuestionLemmas
 pub mod BehindLemmas
 pub mod PlacedLemmas
-pub mod StillLemmas
 pub mod LowerLemmas
 pub mod RunLemmas
 pub mod BuildLemmas
@@ -12,3 +11,4 @@ pub mod BeforeLemmas
 pub mod CapLemmas
 pub mod AskLemmas
 pub mod FewestLemmas
+pub mod LeftLemmas

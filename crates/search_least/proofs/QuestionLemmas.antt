@@ -72,15 +72,18 @@ learnt_no_query : (q : Queries) (cs : Clauses) → fold after_line q (map Learnt
 learnt_no_query q [] = refl
 learnt_no_query q (c ∷ cs) = learnt_no_query q cs
 
+pub question_queries : (lines : Lines) (query : List Literal) (cs : Clauses) (ending more : Lines) → more ≡ Query query ∷ (map Learnt cs ++ ending) →
+    queries (lines ++ more) ≡ fold after_line (record { latest = Some query; modelled = (queries lines).modelled }) ending
+question_queries lines query cs ending more is =
+    let start : Queries = record { latest = None; modelled = None } in
+    let next : Queries = record { latest = Some query; modelled = (queries lines).modelled } in
+    fold-append after_line start lines more ∙ ap (fold after_line (queries lines)) is ∙ fold-append after_line next (map Learnt cs) ending ∙ ap (λ (q : Queries). fold after_line q ending) (learnt_no_query next cs)
+
 pub asked_queries : (lines : Lines) (bounds : List Below) (ending more : Lines) (a : IsAsked lines bounds ending more) →
     queries (lines ++ more) ≡ fold after_line (record { latest = Some a.query; modelled = (queries lines).modelled }) ending
-asked_queries lines bounds ending more a =
-    let start : Queries = record { latest = None; modelled = None } in
-    let next : Queries = record { latest = Some a.query; modelled = (queries lines).modelled } in
-    fold-append after_line start lines more ∙ ap (fold after_line (queries lines)) a.is
-    ∙ fold-append after_line next (map Learnt a.clauses) ending ∙ ap (λ (q : Queries). fold after_line q ending) (learnt_no_query next a.clauses)
+asked_queries lines bounds ending more a = question_queries lines a.query a.clauses ending more a.is
 
-negated_longer : (lines more : Lines) (bounds : List Below) (query : List Literal) → AreNegated lines bounds query → AreNegated (lines ++ more) bounds query
+pub negated_longer : (lines more : Lines) (bounds : List Below) (query : List Literal) → AreNegated lines bounds query → AreNegated (lines ++ more) bounds query
 negated_longer lines more [] [] h = tt
 negated_longer lines more [] (l ∷ ls) h = absurd h
 negated_longer lines more (b ∷ bs) [] h = absurd h

@@ -1,5 +1,5 @@
 -- One question, and the lines that it tells.
-use Rattle.std.specs.Prelude.{◌≡◌, ◌<◌, ⊤, ℕ, List, [], ◌∷◌, ◌++◌, All, map, Option, None, Some}
+use Rattle.std.specs.Prelude.{◌≡◌, ◌≤◌, ◌<◌, ⊤, ℕ, List, [], ◌∷◌, ◌++◌, All, map, Option, None, Some, MatchOption}
 use Rattle.cnf_core.specs.Lit.{Literal, negate}
 use Rattle.cnf_core.specs.Clause.{Clauses}
 use Rattle.refute_log.specs.declared.line.LogLine.TheVariants.{Learnt, Query, Refuted as RefutedLine, Model}
@@ -13,6 +13,10 @@ use Rattle.search_least.specs.CountTask.{CountTask, IsOne}
 abbrev pub IsBelow : Option ℕ → ℕ → Type 0
 IsBelow None n = ⊤
 IsBelow (Some limit) n = n < limit
+
+-- where there is a limit, it is a number that has a literal
+abbrev pub IsLimit : CountTask → Option ℕ → Type 0
+IsLimit p limit = MatchOption limit ⊤ (λ k. (1 ≤ k) × (k ≤ p.most))
 
 -- as a query
 abbrev pub query_of : CountTask → Option ℕ → List Literal

@@ -29,8 +29,9 @@ pub record RefutesFewer (p : CountTask) (lines : Lines) (n : ℕ) : Type 0 where
   pub among : Contains lines (Refuted clause)
   pub each : All (λ l. l ≡ p.at_least n) clause
 
--- where a search stopped: nothing was refuted; with a drawing its count is positive and the latest query asks for less,
--- so that no drawing found before it counts less; without one no model was found and the latest query asks for any
+-- where a search stopped: nothing was refuted; with a drawing its count is positive and the latest query asks for less
+-- (limits fall, so that each query before asked for any or below a greater number); without one no model was found and
+-- the latest query asks for any
 abbrev pub IsStoppedSearch : CountTask → Stop → Option Drawing → Lines → Type 0
 IsStoppedSearch p stop best lines = IsCause p.budget p.room stop lines
     × ((clause : List Literal) → Contains lines (Refuted clause) → ⊥)

@@ -15,6 +15,7 @@ use Rattle.search_least.specs.Task.{Task, greatest_of}
 use Rattle.search_least.specs.Asked.{below_limit, AreOnce}
 use Rattle.search_least.specs.Reached.{Reached, Holds}
 use Rattle.search_least.specs.Caps.{AllZero, AreCapped, IsCauseWith}
+use Rattle.search_least.specs.Outcome.{IsLeastLeft}
 
 -- from place i on, j is the first with a positive value
 pub record IsFirstPositive (order : List Criterion) (i j : ℕ) (v : Values) : Type 0 where
@@ -89,6 +90,12 @@ BoundedTo p order i held (Some stop) s d cap lines = StoppedAt p order s stop d 
 
 abbrev pub BoundedSo : Task → List Criterion → ℕ → List Below → Advanced → (Criterion → ℕ) → Lines → Type 0
 BoundedSo p order i held r cap lines = BoundedTo p order i held r.stop r.settled r.best cap lines
+
+-- whatever the log tells after an error is left of a search, where what it told before was known and was so
+abbrev pub LeavesSearch : Task → List Criterion → (before : Lines → Type 0) → (known log_old log_new : Lines → Type 0) →
+    Type 0
+LeavesSearch p order before known log_old log_new = (lines : Lines) → known lines → before lines → log_old lines →
+    (told : Lines) → log_new told → IsLeastLeft p order told
 
 -- what is so of the lines before leads to what is so with the further ones
 abbrev pub LeadsTo : (before behind : Lines → Type 0) → Lines → Lines → Type 0

@@ -8,10 +8,10 @@ ghost use Rattle.plan_core.specs.Order.{IsOrder};
 ghost use Rattle.refute_log.specs.Expected.{expected_vars};
 ghost use Rattle.search_least.specs.Task.{IsLawful};
 ghost use Rattle.search_least.specs.Asked.{IsWithinCap};
-ghost use Rattle.refute_log.specs.Steps.{Continues, StillDerives};
+ghost use Rattle.refute_log.specs.Steps.{Continues};
 ghost use Rattle.search_least.specs.Caps.{AllZero};
 ghost use Rattle.search_least.specs.State.{IsFirstPositive, AreBefore, Counted, SearchState, GoesTo, IsCapOf};
-ghost use Rattle.search_least.specs.State.{BoundedSo, LeadsTo, hold as hold_of};
+ghost use Rattle.search_least.specs.State.{BoundedSo, LeadsTo, LeavesSearch, hold as hold_of};
 
 use crate::MinFault;
 use crate::lowering::lower;
@@ -98,7 +98,9 @@ fn bounded<O: Oracle>(
     ensures lines { let p = O.task oracle.old in
         IfOk result (λ r. Continues O.knows O.log O.learnt oracle.old oracle.new (LeadsTo (SearchState p order.now i
         held.now best (O.caps oracle.old)) (BoundedSo p order.now i held.now r (O.caps oracle.new)))) }
-    ensures still { OnErr result (StillDerives (O.knows oracle.old) (O.log oracle.old) (O.log oracle.new)) }
+    ensures left { let p = O.task oracle.old in
+        OnErr result (LeavesSearch p order.now (SearchState p order.now i held.now best (O.caps oracle.old))
+        (O.knows oracle.old) (O.log oracle.old) (O.log oracle.new)) }
     ensures later { O.is_later oracle.old oracle.new }
     ensures faults { O.faults oracle.old ≤ O.faults oracle.new }
     ensures cause { IsErrOf result MinFault.Log → Rose (O.faults oracle.old) (O.faults oracle.new) }
@@ -151,7 +153,9 @@ pub(crate) fn advance<O: Oracle>(
     ensures lines { let p = O.task oracle.old in
         IfOk result (λ r. Continues O.knows O.log O.learnt oracle.old oracle.new
         (GoesTo p order.now i held.old.items held.new.items best (O.caps oracle.old) (O.caps oracle.new) r)) }
-    ensures still { OnErr result (StillDerives (O.knows oracle.old) (O.log oracle.old) (O.log oracle.new)) }
+    ensures left { let p = O.task oracle.old in
+        OnErr result (LeavesSearch p order.now (SearchState p order.now i held.old.items best (O.caps oracle.old))
+        (O.knows oracle.old) (O.log oracle.old) (O.log oracle.new)) }
     ensures later { O.is_later oracle.old oracle.new }
     ensures faults { O.faults oracle.old ≤ O.faults oracle.new }
     ensures cause { IsErrOf result MinFault.Log → Rose (O.faults oracle.old) (O.faults oracle.new) }

@@ -17,8 +17,9 @@ fn lower<Q: CountOracle>(questions: &mut Q, first: Drawing) -> Result<Fewest, Mi
     requires one { IsOne (Q.task questions.old) first }
     ensures task { Q.task questions.new ≡ Q.task questions.old }
     ensures right { IfOk result (IsRightFewest (Q.task questions.old)) }
-    ensures lines { IfOk result (λ r. Continues Q.knows Q.log Q.learnt questions.old questions.new
-        (IsRunToEnd (Q.task questions.old) r)) }
+    ensures lines { let p = Q.task questions.old in
+        IfOk result (λ r. Continues Q.knows Q.log Q.learnt questions.old questions.new
+        (IsRunToEnd p (p.count first) r)) }
     ensures leaves { OnErr result (Leaves [] (Q.knows questions.old) (Q.log questions.old) (Q.log questions.new)) }
     ensures later { Q.is_later questions.old questions.new }
     ensures faults { Q.faults questions.old ≤ Q.faults questions.new }

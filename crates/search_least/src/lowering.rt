@@ -8,7 +8,7 @@ ghost use Rattle.plan_core.specs.Order.{IsOrder};
 ghost use Rattle.search_least.specs.Asked.{below_limit, IsWithinCap};
 ghost use Rattle.search_least.specs.State.{AreBefore};
 ghost use Rattle.search_least.specs.Task.{IsLawful};
-ghost use Rattle.refute_log.specs.Steps.{Continues, StillDerives};
+ghost use Rattle.refute_log.specs.Steps.{Continues, Leaves};
 ghost use Rattle.search_least.specs.Reached.{RunTo};
 
 use crate::MinFault;
@@ -68,7 +68,7 @@ pub(crate) fn lower<O: Oracle>(
     ensures caps { OnOk result (O.caps oracle.new ≡ O.caps oracle.old) }
     ensures lines { IfOk result (λ r. Continues O.knows O.log O.learnt oracle.old oracle.new (λ lines more.
         RunTo (O.task oracle.old) order.now i held.now best r.stop r.best lines more)) }
-    ensures still { OnErr result (StillDerives (O.knows oracle.old) (O.log oracle.old) (O.log oracle.new)) }
+    ensures leaves { OnErr result (Leaves [] (O.knows oracle.old) (O.log oracle.old) (O.log oracle.new)) }
     ensures later { O.is_later oracle.old oracle.new }
     ensures faults { O.faults oracle.old ≤ O.faults oracle.new }
     ensures cause { IsErrOf result MinFault.Log → Rose (O.faults oracle.old) (O.faults oracle.new) }

@@ -1,5 +1,5 @@
 // What is asked: a formula's clauses, a solver and a log, as one thing.
-ghost use Rattle.std.specs.Prelude.{◌≡◌, ◌≤◌, ⊤, ℕ, [], OnOk, OnErr, IfOk, IsErrOf, MatchOption, flat_map, length};
+ghost use Rattle.std.specs.Prelude.{◌≡◌, ◌≤◌, ℕ, [], OnOk, OnErr, IfOk, IsErrOf, flat_map, length};
 ghost use Rattle.outside_io.specs.Counts.{Rose};
 ghost use Rattle.plan_core.specs.Drawing.{Drawing as PlainDrawing};
 ghost use Rattle.cnf_core.specs.Clause.{words_of};
@@ -8,7 +8,7 @@ ghost use Rattle.refute_log.specs.Told.{Lines};
 ghost use Rattle.refute_log.specs.Log.{added, learnt as learnt_of, Derives, Due};
 ghost use Rattle.refute_log.specs.Steps.{Continues, Leaves};
 ghost use Rattle.search_least.specs.CountTask.{CountTask, IsOne, CoversCounts};
-ghost use Rattle.search_least.specs.CountAsked.{IsAnswer, IsRightAnswer};
+ghost use Rattle.search_least.specs.CountAsked.{IsLimit, IsAnswer, IsRightAnswer};
 
 use crate::MinFault;
 use plan_geometry::Drawing;
@@ -58,7 +58,7 @@ pub trait CountOracle {
     /// Asks for a drawing with a count below the limit, where there is one.
     fn ask(&mut self, limit: Option<u32>) -> Result<Answer, MinFault>
         requires ready { ready self.old }
-        requires limit { MatchOption limit ⊤ (λ k. (1 ≤ k) × (k ≤ (task self.old).most)) }
+        requires limit { IsLimit (task self.old) limit }
         ensures right { IfOk result (IsRightAnswer (task self.old) limit) }
         ensures lines { IfOk result (λ r. Continues knows log learnt self.old self.new (λ lines more.
             IsAnswer (task self.old) lines limit r more)) }

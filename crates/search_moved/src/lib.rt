@@ -23,5 +23,5 @@ mod telling;
 
 pub use beginning::fewest_moved;
 pub use counted::count_moved;
-pub use laws::moved_formula_is_small;
+pub use laws::{moved_formula_is_small, moved_formula_stands_for_drawings};
 pub use search_least::Fewest;

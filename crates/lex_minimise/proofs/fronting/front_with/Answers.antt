@@ -5,13 +5,13 @@ use Rattle.search_least.specs.Task.{IsLawful}
 use Rattle.search_least.specs.Outcome.{first_lines}
 use Rattle.trade_off.specs.Front.{IsFrontUpTo}
 use Rattle.trade_off.specs.declared.outcome.FrontEnd.TheVariants.{Room}
-use Rattle.trade_off.specs.Outcome.{IsRightFront, IsFrontLog}
+use Rattle.trade_off.specs.Outcome.{IsRightFront, IsFrontLog, IsFrontLeft}
 use Rattle.trade_off.proofs.FrontLemmas.{up_to_none}
 use Rattle.lex_minimise.specs.Known.{KnowsLines, IsReady}
 use Rattle.lex_minimise.specs.Task.{task_of}
 use Rattle.lex_minimise.proofs.StartLemmas.{nothing_told, layout_is, IsFirst, first_ready, first_knows, whole_told, if_ok_from}
 use Rattle.lex_minimise.proofs.FrontLemmas.{no_room_front}
-use Rattle.lex_minimise.proofs.LeftLemmas.{front_unbegun, front_begun, front_left}
+use Rattle.lex_minimise.proofs.LeftLemmas.{front_unbegun, front_begun, behind_formula_left}
 use Rattle.refute_log.proofs.StepLemmas.{on_err_weaker}
 use Rattle.lex_minimise.proofs.fronting.front_with.Goals as goal
 use Rattle.outside_io.proofs.Results.{on_err_anyway}
@@ -143,5 +143,5 @@ returns-clause-left g c =
       vars_fit = e.vars_fit refl;
       covers = e.covers;
     } in
-    on_err_weaker c.front_from.result _ _ (front_left y budget room c.args.a c.args.b c.in-Ok.encoded c.formula.result.now c.args.solver.now c.add_clauses.new.solver (k.tells c.args.log.now) (k.tells c.add_clauses.new.log) (k.tells c.front_from.new.log) (k.learnt c.args.log.now) (k.learnt c.add_clauses.new.log)
+    on_err_weaker c.front_from.result _ _ (behind_formula_left (λ p lines. IsFrontLeft p c.args.a c.args.b lines) y budget room c.in-Ok.encoded c.formula.result.now c.args.solver.now c.add_clauses.new.solver (k.tells c.args.log.now) (k.tells c.add_clauses.new.log) (k.tells c.front_from.new.log) (k.learnt c.args.log.now) (k.learnt c.add_clauses.new.log)
     first c.formula.ensures c.requires.new c.in_ok-add_clauses.ensures.lines) c.front_from.ensures.left

@@ -2,13 +2,13 @@ use Rattle.std.proofs.Common.{None, Err, refl, ap, List, IfOk, sym, subst}
 use Rattle.drawing_cnf.specs.Bounded.{Bound}
 use Rattle.drawing_cnf.specs.Layout.{Layout, layout, layout_of}
 use Rattle.search_least.specs.declared.outcome.Outcome.TheVariants.{Room}
-use Rattle.search_least.specs.Outcome.{IsOutcome, IsRightOutcome, first_lines}
+use Rattle.search_least.specs.Outcome.{IsOutcome, IsRightOutcome, IsLeastLeft, first_lines}
 use Rattle.lex_minimise.specs.Known.{KnowsLines, IsReady}
 use Rattle.lex_minimise.specs.Task.{task_of}
 use Rattle.lex_minimise.proofs.StartLemmas.{no_room_end, nothing_told, layout_is, IsFirst, first_ready, first_knows, whole_told, if_ok_from}
 use Rattle.outside_io.proofs.Results.{on_err_anyway}
 use Rattle.refute_log.proofs.StepLemmas.{on_err_weaker}
-use Rattle.lex_minimise.proofs.LeftLemmas.{values_unbegun, values_begun, values_left}
+use Rattle.lex_minimise.proofs.LeftLemmas.{values_unbegun, values_begun, behind_formula_left}
 use Rattle.lex_minimise.proofs.minimising.minimise_with.Goals as goal
 
 pub returns-in-Err-Room-clause-lines : goal.returns-in-Err-Room-clause-lines
@@ -93,12 +93,27 @@ returns-clause-lines g c =
 pub returns-in-Err-Memory-clause-left : goal.returns-in-Err-Memory-clause-left
 returns-in-Err-Memory-clause-left g c =
     let k = g.L.LogSink in
-    λ none lines is. values_unbegun (k.tells c.args.log.now) (g.met.L.LogSink.one_reading c.args.log.now) none lines is
+    λ none lines is. values_unbegun (layout c.args.g.now c.args.t.now c.args.grid.now) c.args.limits.now.budget c.args.limits.now.room c.args.wanted.now (k.tells c.args.log.now) (g.met.L.LogSink.one_reading c.args.log.now) none lines is
 
 pub returns-in_err-add_clauses-clause-left : goal.returns-in_err-add_clauses-clause-left
 returns-in_err-add_clauses-clause-left g c =
     let k = g.L.LogSink in
-    on_err_anyway _ _ (values_begun _ c.args.limits.now.room c.args.solver.now (k.tells c.args.log.now) (k.tells c.add_clauses.new.log) c.requires.new c.in_err-add_clauses.ensures.leaves)
+    let e = c.in-Ok.ensures in
+    let y = layout c.args.g.now c.args.t.now c.args.grid.now in
+    let budget = c.args.limits.now.budget in
+    let room = c.args.limits.now.room in
+    let first : IsFirst y room c.in-Ok.encoded = record {
+      layout = layout_is c.in-Ok.encoded c.args.g.now c.args.t.now c.args.grid.now e.graph e.order e.grid;
+      whole = e.whole;
+      bounds = e.bounds;
+      kept = e.kept;
+      clauses = e.clauses;
+      vars = e.vars;
+      words_fit = e.words_fit refl;
+      vars_fit = e.vars_fit refl;
+      covers = e.covers;
+    } in
+    on_err_anyway _ _ (values_begun y budget room c.args.wanted.now c.in-Ok.encoded c.formula.result.now c.args.solver.now (k.tells c.args.log.now) (k.tells c.add_clauses.new.log) first c.formula.ensures c.requires.new c.in_err-add_clauses.ensures.leaves)
 
 pub returns-clause-left : goal.returns-clause-left
 returns-clause-left g c =
@@ -118,11 +133,7 @@ returns-clause-left g c =
       vars_fit = e.vars_fit refl;
       covers = e.covers;
     } in
-    let known : KnowsLines (layout_of c.in-Ok.encoded) c.new.result.items budget room c.add_clauses.new.solver (first_lines (task_of (layout_of c.in-Ok.encoded) budget room)) =
-    subst (λ (bs : List Bound). KnowsLines (layout_of c.in-Ok.encoded) bs budget room c.add_clauses.new.solver (first_lines (task_of (layout_of c.in-Ok.encoded) budget room))) (sym c.new.ensures.items)
-    (first_knows y budget room c.in-Ok.encoded c.formula.result.now c.args.solver.now c.add_clauses.new.solver (k.tells c.args.log.now) (k.tells c.add_clauses.new.log) (k.learnt c.args.log.now) (k.learnt c.add_clauses.new.log)
-    first c.formula.ensures c.requires.new c.in_ok-add_clauses.ensures.taken c.in_ok-add_clauses.ensures.lines) in
     on_err_weaker c.search_from.result _ _
-    (values_left y budget room c.in-Ok.encoded c.formula.result.now (KnowsLines (layout_of c.in-Ok.encoded) c.new.result.items budget room c.add_clauses.new.solver) c.args.solver.now c.add_clauses.new.solver
-    (k.tells c.args.log.now) (k.tells c.add_clauses.new.log) (k.tells c.search_from.new.log) (k.learnt c.args.log.now) (k.learnt c.add_clauses.new.log) first c.formula.ensures c.requires.new c.in_ok-add_clauses.ensures.lines known)
-    c.search_from.ensures.still
+    (behind_formula_left (λ p lines. IsLeastLeft p c.args.wanted.now lines) y budget room c.in-Ok.encoded c.formula.result.now c.args.solver.now c.add_clauses.new.solver (k.tells c.args.log.now) (k.tells c.add_clauses.new.log) (k.tells c.search_from.new.log)
+    (k.learnt c.args.log.now) (k.learnt c.add_clauses.new.log) first c.formula.ensures c.requires.new c.in_ok-add_clauses.ensures.lines)
+    c.search_from.ensures.left

@@ -7,12 +7,12 @@ use Rattle.search_least.specs.declared.oracle.Below.{Below}
 use Rattle.search_least.specs.Asked.{IsWithinCap}
 use Rattle.refute_log.specs.Steps.{Continues}
 use Rattle.search_least.specs.Caps.{AllZero}
-use Rattle.search_least.specs.State.{AreBefore, IsCapOf, SearchState, BoundedTo}
+use Rattle.search_least.specs.State.{AreBefore, IsCapOf, SearchState, BoundedTo, LeavesSearch}
 use Rattle.search_least.proofs.RunLemmas.{no_more}
 use Rattle.search_least.proofs.BeforeLemmas.{before_next, before_later}
 use Rattle.search_least.proofs.AdvanceLemmas.{go_zeros, go_only_zero, go_bounded, all_held}
 use Rattle.outside_io.proofs.Results.{on_err_anyway}
-use Rattle.search_least.proofs.StillLemmas.{still_here}
+use Rattle.search_least.proofs.LeftLemmas.{bounded_left}
 use Rattle.search_least.proofs.advancing.advance.Goals as goal
 
 pub returns-then-most-eq0-clause-lines : goal.returns-then-most-eq0-clause-lines
@@ -60,11 +60,19 @@ returns-in-None-clause-before g c = before_later c.args.order.now c.args.i c.get
 pub bounded-requires-clause-before : goal.bounded-requires-clause-before
 bounded-requires-clause-before g c = subst (λ (bs : List Below). AreBefore c.args.order.now c.args.i bs) (sym c.deref.ensures.value) c.requires.before
 
-pub returns-in_err-advanced-in-Some-clause-still : goal.returns-in_err-advanced-in-Some-clause-still
-returns-in_err-advanced-in-Some-clause-still g c = let o = g.O.Oracle in
-    on_err_anyway _ _ c.in_err-advanced-in-Some.ensures.still
+pub returns-in_err-advanced-in-Some-clause-left : goal.returns-in_err-advanced-in-Some-clause-left
+returns-in_err-advanced-in-Some-clause-left g c = let o = g.O.Oracle in
+    let a = c.args.oracle.now in
+    let p = o.task a in
+    on_err_anyway _ _ (subst (λ (bs : List Below). LeavesSearch p c.args.order.now (SearchState p c.args.order.now c.args.i bs c.args.best (o.caps a)) (o.knows a) (o.log a) (o.log c.bounded.new.oracle)) c.deref.ensures.value
+    c.in_err-advanced-in-Some.ensures.left)
 
-pub returns-in_err-hold-in-Some-clause-still : goal.returns-in_err-hold-in-Some-clause-still
-returns-in_err-hold-in-Some-clause-still g c = let o = g.O.Oracle in
+pub returns-in_err-hold-in-Some-clause-left : goal.returns-in_err-hold-in-Some-clause-left
+returns-in_err-hold-in-Some-clause-left g c = let o = g.O.Oracle in
+    let a = c.args.oracle.now in
     let b = c.bounded.new.oracle in
-    on_err_anyway _ _ (still_here o.knows o.log o.learnt c.args.oracle.now b _ (g.met.O.Oracle.derives b) (g.met.O.Oracle.one_reading b) c.in_ok-advanced-in-Some.ensures.lines)
+    let p = o.task a in
+    let r = c.in_ok-advanced-in-Some.advanced in
+    on_err_anyway _ _ (bounded_left o.knows o.log o.learnt a b p c.args.order.now c.args.i c.args.held.now.items r.stop r.settled c.args.best r.best (o.caps a) (o.caps b) (g.met.O.Oracle.derives b) (g.met.O.Oracle.one_reading b)
+    (subst (λ (bs : List Below). Continues o.knows o.log o.learnt a b (λ lines more. SearchState p c.args.order.now c.args.i bs c.args.best (o.caps a) lines → BoundedTo p c.args.order.now c.args.i bs r.stop r.settled r.best (o.caps b) (lines ++ more)))
+    c.deref.ensures.value c.in_ok-advanced-in-Some.ensures.lines))

@@ -11,7 +11,7 @@ use Rattle.search_least.specs.State.{IsCapOf, Counted}
 use Rattle.search_least.proofs.BuildLemmas.{counted_built, vars_same}
 use Rattle.search_least.proofs.AdvanceLemmas.{bounded_whole, bounded_no_room, value_bounded}
 use Rattle.outside_io.proofs.Results.{on_err_anyway}
-use Rattle.search_least.proofs.StillLemmas.{still_left, still_later}
+use Rattle.search_least.proofs.LeftLemmas.{built_left, asked_left}
 use Rattle.search_least.proofs.advancing.bounded.Goals as goal
 
 pub build-requires-clause-positive : goal.build-requires-clause-positive
@@ -79,11 +79,13 @@ returns-in_ok-lowered-in-Whole-clause-vars g c = let o = g.O.Oracle in
     vars_same p c.args.order.now (with_cap (o.caps a) c.get-c.result c.args.cap) (o.caps l) (o.vars a + sum_vars_of p.encoding (o.vars a) c.get-c.result c.args.cap) (o.vars l)
     (c.in_ok-lowered-in-Whole.ensures.caps ∙ state.0) (c.in_ok-lowered-in-Whole.ensures.vars ∙ state.1) built.vars_are
 
-pub returns-in_err-build-clause-still : goal.returns-in_err-build-clause-still
-returns-in_err-build-clause-still g c = let o = g.O.Oracle in
+pub returns-in_err-build-clause-left : goal.returns-in_err-build-clause-left
+returns-in_err-build-clause-left g c = let o = g.O.Oracle in
     let a = c.args.oracle.now in
-    on_err_anyway _ _ (still_left _ (o.knows a) (o.log a) (o.log c.build.new.self) c.in_err-build.ensures.leaves)
+    on_err_anyway _ _ (built_left (o.task a) c.args.order.now c.args.i c.get-c.result c.args.cap c.args.held.now c.args.best (o.caps a) (o.vars a) (o.knows a) (o.log a) (o.log c.build.new.self) c.requires.order c.get-c.ensures c.requires.counted c.in_err-build.ensures.leaves)
 
-pub returns-in_err-lowered-in-Whole-clause-still : goal.returns-in_err-lowered-in-Whole-clause-still
-returns-in_err-lowered-in-Whole-clause-still g c = let o = g.O.Oracle in
-    on_err_anyway _ _ (still_later o.knows o.log o.learnt c.args.oracle.now c.build.new.self c.lower.new.oracle _ c.in_ok-build.ensures.lines c.in_err-lowered-in-Whole.ensures.still)
+pub returns-in_err-lowered-in-Whole-clause-left : goal.returns-in_err-lowered-in-Whole-clause-left
+returns-in_err-lowered-in-Whole-clause-left g c = let o = g.O.Oracle in
+    let a = c.args.oracle.now in
+    on_err_anyway _ _ (asked_left o.knows o.log o.learnt a c.build.new.self c.lower.new.oracle (o.task a) c.args.order.now c.args.i c.get-c.result c.args.cap c.args.held.now c.args.best (o.caps a) (o.vars a) c.in_ok-build.field-0
+    c.requires.order c.get-c.ensures c.requires.counted c.in-Whole.is c.in_ok-build.ensures.lines c.in_err-lowered-in-Whole.ensures.leaves)

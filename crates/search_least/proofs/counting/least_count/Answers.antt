@@ -31,7 +31,7 @@ returns-in-Found-clause-lines g c = let q = g.Q.CountOracle in
     let b = c.ask.new.self in
     let e = c.lower.new.questions in
     let p = q.task a in
-    IfOk-weaker c.lower.result (λ r. Continues q.knows q.log q.learnt b e (IsRunToEnd (q.task b) r))
+    IfOk-weaker c.lower.result (λ r. Continues q.knows q.log q.learnt b e (IsRunToEnd (q.task b) ((q.task b).count c.in-Found.first) r))
     (λ r. ToldBehind (q.knows e) (q.log a) (q.log e) (q.learnt a) (q.learnt e) (map Formula p.clauses) (λ more. IsFewestLog p r (map Formula p.clauses ++ more)))
     (λ r h. tells q.knows q.log q.learnt a e p r
     (log_laws_at q.knows e (q.task e) p (c.lower.ensures.task ∙ c.in_ok-first.ensures.task)

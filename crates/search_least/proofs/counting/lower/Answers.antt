@@ -21,7 +21,7 @@ loop-count-init g c = let q = g.Q.CountOracle in
       one = c.requires.one;
       later = g.met.Q.CountOracle.later_same a;
       faults = omega arith;
-      lines = run_none q.knows q.log q.learnt a (q.task a);
+      lines = run_none q.knows q.log q.learnt a (q.task a) ((q.task a).count c.args.first) c.count-count.result c.count-count.ensures;
     }
 
 pub ask-requires-clause-limit : goal.ask-requires-clause-limit
@@ -59,7 +59,8 @@ loop-count-preserved g c = let q = g.Q.CountOracle in
       one = one;
       later = g.met.Q.CountOracle.later_more a b e c.loop-count.invariant.later c.in_ok-d.ensures.later;
       faults = (let m = c.loop-count.invariant.faults in let n = c.in_ok-d.ensures.faults in omega arith);
-      lines = run_found q.knows q.log q.learnt a b e (q.task b) (q.task a) (Some c.loop-count.count) c.in_ok-d.field-0 c.in-Found.d (record { same = c.loop-count.invariant.task; right = c.in_ok-d.ensures.right }) c.in-Found.is c.loop-count.invariant.lines c.in_ok-d.ensures.lines;
+      lines = run_found q.knows q.log q.learnt a b e (q.task b) (q.task a) ((q.task a).count c.args.first) c.loop-count.count c.count-count-in-Found.result c.in_ok-d.field-0 c.in-Found.d
+          (record { same = c.loop-count.invariant.task; within = (omega arith, c.loop-count.invariant.within); right = c.in_ok-d.ensures.right }) c.in-Found.is is c.loop-count.invariant.lines c.in_ok-d.ensures.lines;
     }
 
 pub returns-in-Refuted-clause-right : goal.returns-in-Refuted-clause-right
@@ -77,7 +78,7 @@ pub returns-in-Refuted-clause-lines : goal.returns-in-Refuted-clause-lines
 returns-in-Refuted-clause-lines g c = let q = g.Q.CountOracle in
     let a = c.args.questions.now in
     let b = c.loop-count.questions in
-    ends_refuted q.knows q.log q.learnt a b c.ask.new.self (q.task b) (q.task a) c.loop-count.count c.in_ok-d.field-0 c.loop-count.best (record { same = c.loop-count.invariant.task; right = c.in_ok-d.ensures.right }) c.in-Refuted.is c.loop-count.invariant.count c.loop-count.invariant.lines c.in_ok-d.ensures.lines
+    ends_refuted q.knows q.log q.learnt a b c.ask.new.self (q.task b) (q.task a) ((q.task a).count c.args.first) c.loop-count.count c.in_ok-d.field-0 c.loop-count.best (record { same = c.loop-count.invariant.task; within = (omega arith, c.loop-count.invariant.within); right = c.in_ok-d.ensures.right }) c.in-Refuted.is c.loop-count.invariant.count c.loop-count.invariant.lines c.in_ok-d.ensures.lines
 
 pub returns-in-Stopped-clause-right : goal.returns-in-Stopped-clause-right
 returns-in-Stopped-clause-right g c = let q = g.Q.CountOracle in
@@ -87,8 +88,8 @@ pub returns-in-Stopped-clause-lines : goal.returns-in-Stopped-clause-lines
 returns-in-Stopped-clause-lines g c = let q = g.Q.CountOracle in
     let a = c.args.questions.now in
     let b = c.loop-count.questions in
-    ends_stopped q.knows q.log q.learnt a b c.ask.new.self (q.task b) (q.task a) (Some c.loop-count.count) c.in_ok-d.field-0 c.loop-count.best c.in-Stopped.stop c.stopped_with.result (record { same = c.loop-count.invariant.task; right = c.in_ok-d.ensures.right }) c.in-Stopped.is c.stopped_with.ensures
-    (let is = c.loop-count.invariant.count in (omega (arith, is), ap Some is)) c.loop-count.invariant.lines c.in_ok-d.ensures.lines
+    ends_stopped q.knows q.log q.learnt a b c.ask.new.self (q.task b) (q.task a) ((q.task a).count c.args.first) c.loop-count.count c.in_ok-d.field-0 c.loop-count.best c.in-Stopped.stop c.stopped_with.result (record { same = c.loop-count.invariant.task; within = (omega arith, c.loop-count.invariant.within); right = c.in_ok-d.ensures.right }) c.in-Stopped.is c.stopped_with.ensures
+    c.loop-count.invariant.count c.loop-count.invariant.lines c.in_ok-d.ensures.lines
 
 pub returns-clause-right : goal.returns-clause-right
 returns-clause-right g c = let q = g.Q.CountOracle in
@@ -96,9 +97,9 @@ returns-clause-right g c = let q = g.Q.CountOracle in
 
 pub returns-clause-lines : goal.returns-clause-lines
 returns-clause-lines g c = let q = g.Q.CountOracle in
-    ends_zero q.knows q.log q.learnt c.args.questions.now c.loop-count.questions (q.task c.args.questions.now) c.loop-count.best (let is = c.loop-count.invariant.count in omega (arith, is)) c.loop-count.invariant.lines
+    ends_zero q.knows q.log q.learnt c.args.questions.now c.loop-count.questions (q.task c.args.questions.now) ((q.task c.args.questions.now).count c.args.first) c.loop-count.count c.loop-count.best (let is = c.loop-count.invariant.count in omega (arith, is)) c.loop-count.invariant.lines
 
 pub returns-in_err-d-clause-leaves : goal.returns-in_err-d-clause-leaves
 returns-in_err-d-clause-leaves g c = let q = g.Q.CountOracle in
     let a = c.args.questions.now in
-    on_err_anyway _ _ (leaves_later q.knows q.log q.learnt a c.loop-count.questions c.ask.new.self (IsRunOfDrawings (q.task a)) [] [] c.loop-count.invariant.lines (λ lines more h. h.none) c.in_err-d.ensures.leaves)
+    on_err_anyway _ _ (leaves_later q.knows q.log q.learnt a c.loop-count.questions c.ask.new.self (IsRunOfDrawings (q.task a) ((q.task a).count c.args.first) c.loop-count.count) [] [] c.loop-count.invariant.lines (λ lines more h. h.none) c.in_err-d.ensures.leaves)

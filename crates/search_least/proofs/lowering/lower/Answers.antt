@@ -3,7 +3,8 @@ use Rattle.plan_core.specs.Values.{values_of, value_of}
 use Rattle.search_least.proofs.RunLemmas.{run_none, run_found_at, run_refuted_at, run_stopped_at, run_zero, built_all, found_less, found_lawful, less_still, less_there}
 use Rattle.search_least.proofs.BeforeLemmas.{once_asked}
 use Rattle.outside_io.proofs.Results.{on_err_anyway}
-use Rattle.search_least.proofs.StillLemmas.{still_left, still_later, still_here}
+use Rattle.refute_log.proofs.StepLemmas.{leaves_later, leaves_here}
+use Rattle.search_least.specs.Reached.{Run}
 use Rattle.search_least.proofs.lowering.lower.Goals as goal
 
 pub loop-value-init : goal.loop-value-init
@@ -89,13 +90,15 @@ returns-clause-lines g c = let o = g.O.Oracle in
 pub ask-requires-clause-once : goal.ask-requires-clause-once
 ask-requires-clause-once g c = once_asked c.args.order.now c.args.i c.get-c.result c.loop-value.value c.args.held.now c.deref.result.now c.requires.order c.get-c.ensures c.requires.before (c.deref.ensures.value ∙ c.in_ok-bounds.ensures)
 
-pub returns-in_err-bounds-clause-still : goal.returns-in_err-bounds-clause-still
-returns-in_err-bounds-clause-still g c = let o = g.O.Oracle in
+pub returns-in_err-bounds-clause-leaves : goal.returns-in_err-bounds-clause-leaves
+returns-in_err-bounds-clause-leaves g c = let o = g.O.Oracle in
+    let a = c.args.oracle.now in
     let b = c.loop-value.oracle in
-    on_err_anyway _ _ (still_here o.knows o.log o.learnt c.args.oracle.now b _ (g.met.O.Oracle.derives b) (g.met.O.Oracle.one_reading b) c.loop-value.invariant.lines)
+    on_err_anyway _ _ (leaves_here o.knows o.log o.learnt a b (Run (o.task a) c.args.order.now c.args.i c.args.held.now c.args.best c.loop-value.best)
+    c.loop-value.invariant.lines (λ lines more h. h.0) (g.met.O.Oracle.derives b) (g.met.O.Oracle.one_reading b))
 
-pub returns-in_err-d-clause-still : goal.returns-in_err-d-clause-still
-returns-in_err-d-clause-still g c = let o = g.O.Oracle in
-    let b = c.loop-value.oracle in
-    let e = c.ask.new.self in
-    on_err_anyway _ _ (still_later o.knows o.log o.learnt c.args.oracle.now b e _ c.loop-value.invariant.lines (still_left [] (o.knows b) (o.log b) (o.log e) c.in_err-d.ensures.leaves))
+pub returns-in_err-d-clause-leaves : goal.returns-in_err-d-clause-leaves
+returns-in_err-d-clause-leaves g c = let o = g.O.Oracle in
+    let a = c.args.oracle.now in
+    on_err_anyway _ _ (leaves_later o.knows o.log o.learnt a c.loop-value.oracle c.ask.new.self (Run (o.task a) c.args.order.now c.args.i c.args.held.now c.args.best c.loop-value.best) [] []
+    c.loop-value.invariant.lines (λ lines more h. h.0) c.in_err-d.ensures.leaves)

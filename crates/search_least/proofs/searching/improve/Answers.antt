@@ -12,7 +12,8 @@ use Rattle.plan_core.proofs.OrderLemmas.{few_criteria}
 use Rattle.search_least.proofs.BeforeLemmas.{no_bounds}
 use Rattle.search_least.proofs.OutcomeLemmas.{state_none, state_then, ends_best, ends_unfinished, laws_at}
 use Rattle.outside_io.proofs.Results.{on_err_anyway}
-use Rattle.search_least.proofs.StillLemmas.{still_later}
+use Rattle.refute_log.specs.Told.{Lines}
+use Rattle.search_least.proofs.LeftLemmas.{search_later}
 use Rattle.search_least.proofs.searching.improve.Goals as goal
 
 pub loop-i-init : goal.loop-i-init
@@ -92,6 +93,9 @@ loop-i-preserved g c = let o = g.O.Oracle in
       lines = subst (λ (x : Option Stop). Continues o.knows o.log o.learnt a e (λ lines more. SearchState (o.task a) c.args.wanted.now 0 [] c.args.first (o.caps a) lines → Advances (o.task a) c.args.wanted.now c.loop-i.i c.advance.new.held.items x r.settled r.best (o.caps e) (lines ++ more))) c.in-None.is run;
     }
 
-pub returns-in_err-advanced-clause-still : goal.returns-in_err-advanced-clause-still
-returns-in_err-advanced-clause-still g c = let o = g.O.Oracle in
-    on_err_anyway _ _ (still_later o.knows o.log o.learnt c.args.oracle.now c.loop-i.oracle c.advance.new.oracle _ c.loop-i.invariant.lines c.in_err-advanced.ensures.still)
+pub returns-in_err-advanced-clause-left : goal.returns-in_err-advanced-clause-left
+returns-in_err-advanced-clause-left g c = let o = g.O.Oracle in
+    let a = c.args.oracle.now in
+    let b = c.loop-i.oracle in
+    on_err_anyway _ _ (search_later o.knows o.log o.learnt a b c.advance.new.oracle (o.task b) (o.task a) c.args.wanted.now (SearchState (o.task a) c.args.wanted.now 0 [] c.args.first (o.caps a))
+    (λ (x : Task) (lines : Lines). SearchState x c.args.wanted.now c.loop-i.i c.loop-i.held.items c.loop-i.best (o.caps b) lines) c.loop-i.invariant.task c.loop-i.invariant.lines c.in_err-advanced.ensures.left)

@@ -1,8 +1,9 @@
-use Rattle.std.proofs.Common.{◌≡◌, ◌++◌}
+use Rattle.std.proofs.Common.{◌≡◌, ◌++◌, refl}
 use Rattle.std.proofs.lemmas.Result.{IfOk-weaker}
 use Rattle.refute_log.specs.Steps.{ToldBehind, Continues}
 use Rattle.search_least.specs.Outcome.{IsOutcome, IsRightOutcome, first_lines}
 use Rattle.search_least.proofs.OutcomeLemmas.{right_run, tells_run}
+use Rattle.refute_log.proofs.StepLemmas.{on_err_weaker}
 use Rattle.search_least.proofs.searching.least_values.Goals as goal
 
 pub returns-clause-right : goal.returns-clause-right
@@ -21,3 +22,7 @@ returns-clause-lines g c = let o = g.O.Oracle in
     IfOk-weaker c.search.result (λ x. Continues o.knows o.log o.learnt a e (λ lines more. lines ≡ first_lines p → IsOutcome p c.args.wanted.now x (lines ++ more)))
     (λ x. ToldBehind (o.knows e) (o.log a) (o.log e) (o.learnt a) (o.learnt e) (first_lines p) (λ more. IsOutcome p c.args.wanted.now x (first_lines p ++ more)))
     (λ x run. tells_run o.knows o.log o.learnt a e p c.args.wanted.now x c.requires.start run) c.search.ensures.lines
+
+pub returns-clause-left : goal.returns-clause-left
+returns-clause-left g c = let o = g.O.Oracle in
+    on_err_weaker c.search.result _ _ (λ h told lines is. h (first_lines (o.task c.args.oracle.now)) c.requires.start refl told lines is) c.search.ensures.left

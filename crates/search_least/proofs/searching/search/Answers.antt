@@ -8,7 +8,8 @@ use Rattle.search_least.specs.Outcome.{IsOutcome, first_lines}
 use Rattle.search_least.proofs.OutcomeLemmas.{zero_counted, fresh_still, first_found, first_refuted, first_stopped, laws_at}
 use Rattle.outside_io.proofs.Results.{on_err_anyway}
 use Rattle.refute_log.proofs.StepLemmas.{on_err_weaker}
-use Rattle.search_least.proofs.StillLemmas.{still_left, still_later}
+use Rattle.refute_log.specs.Told.{Lines}
+use Rattle.search_least.proofs.LeftLemmas.{first_left, first_goes, search_later}
 use Rattle.search_least.proofs.searching.search.Goals as goal
 
 pub improve-requires-clause-counted : goal.improve-requires-clause-counted
@@ -52,11 +53,17 @@ returns-in-Found-clause-lines g c = let o = g.O.Oracle in
     (λ m. ap (λ (f : Criterion → ℕ). f m) c.in_ok-first.ensures.caps ∙ c.requires.fresh.none m) refl c.in-Found.is c.in_ok-first.ensures.right c.in_ok-first.ensures.lines run)
     c.improve.ensures.lines
 
-pub returns-in_err-first-clause-still : goal.returns-in_err-first-clause-still
-returns-in_err-first-clause-still g c = let o = g.O.Oracle in
+pub returns-in_err-first-clause-left : goal.returns-in_err-first-clause-left
+returns-in_err-first-clause-left g c = let o = g.O.Oracle in
     let a = c.args.oracle.now in
-    on_err_anyway _ _ (still_left [] (o.knows a) (o.log a) (o.log c.ask.new.self) c.in_err-first.ensures.leaves)
+    on_err_anyway _ _ (first_left (o.task a) c.args.wanted.now (o.caps a) (o.knows a) (o.log a) (o.log c.ask.new.self) c.requires.fresh.none c.in_err-first.ensures.leaves)
 
-pub returns-in-Found-clause-still : goal.returns-in-Found-clause-still
-returns-in-Found-clause-still g c = let o = g.O.Oracle in
-    on_err_weaker c.improve.result _ _ (still_later o.knows o.log o.learnt c.args.oracle.now c.ask.new.self c.improve.new.oracle _ c.in_ok-first.ensures.lines) c.improve.ensures.still
+pub returns-in-Found-clause-left : goal.returns-in-Found-clause-left
+returns-in-Found-clause-left g c = let o = g.O.Oracle in
+    let a = c.args.oracle.now in
+    let b = c.ask.new.self in
+    let p = o.task a in
+    on_err_weaker c.improve.result _ _ (search_later o.knows o.log o.learnt a b c.improve.new.oracle (o.task b) p c.args.wanted.now (λ (lines : Lines). lines ≡ first_lines p)
+    (λ (x : Task) (lines : Lines). SearchState x c.args.wanted.now 0 [] c.in-Found.first (o.caps b) lines) c.in_ok-first.ensures.task
+    (first_goes o.knows o.log o.learnt a b p c.args.wanted.now c.in-Found.first c.in_ok-first.field-0 (o.caps b) (λ m. ap (λ (f : Criterion → ℕ). f m) c.in_ok-first.ensures.caps ∙ c.requires.fresh.none m) c.in-Found.is c.in_ok-first.ensures.right c.in_ok-first.ensures.lines))
+    c.improve.ensures.left
