@@ -1,8 +1,10 @@
 -- A question about laws, and what its answer says of drawings.
-use Rattle.std.proofs.Common.{◌≡◌, ◌≢◌, ◌≤◌, ◌<◌, ℕ, zero, suc, ◌+◌, Bool, true, false, List, [], ◌∷◌, length, get_or, refl, sym, ◌∙◌, ap, subst, inl, inr, arith}
+use Rattle.std.proofs.Common.{◌≡◌, ◌≢◌, ◌≤◌, ◌<◌, ℕ, zero, suc, ◌+◌, Bool, true, false, List, [], ◌∷◌, length, get_or, refl, sym, ◌∙◌, ap, subst, inl, inr}
+use Rattle.std.proofs.Common.{arith}
 use Rattle.std.specs.Prelude.{All, AllPairs, Contains, Some, ◌||◌, ◌==◌, cond, filter, slice_index_or}
 use Rattle.std.proofs.lemmas.Bool.Decides.{nat_tests}
-use Rattle.std.proofs.lemmas.List.Elements.{All-nil, All-cons, All-head, All-tail, All-contains, All-weaker, Contains-get_or, Contains-append_cases, Contains-append_right}
+use Rattle.std.proofs.lemmas.List.Elements.{All-nil, All-cons, All-head, All-tail, All-contains, All-weaker, Contains-get_or, Contains-append_cases}
+use Rattle.std.proofs.lemmas.List.Elements.{Contains-append_right}
 use Rattle.plan_core.proofs.Listing.{Contains-filter}
 use Rattle.plan_core.proofs.ListFacts.{pairs_head, pairs_tail}
 use Rattle.plan_core.specs.Graph.{Graph}
@@ -39,13 +41,15 @@ pub selectors_count : (first : ℕ) (laws : List Instance) → length (selectors
 selectors_count first [] = refl
 selectors_count first (i ∷ rest) = ap suc (selectors_count (first + choice_size i) rest)
 
-selectors_within : (first : ℕ) (laws : List Instance) (top : ℕ) → 1 ≤ first → first + choices_size laws ≤ top + 1 → All (λ x. (1 ≤ x) × (x ≤ top)) (selectors first laws)
+selectors_within : (first : ℕ) (laws : List Instance) (top : ℕ) → 1 ≤ first → first + choices_size laws ≤ top + 1 →
+    All (λ x. (1 ≤ x) × (x ≤ top)) (selectors first laws)
 selectors_within first [] top low high = All-nil (λ (x : ℕ). (1 ≤ x) × (x ≤ top))
 selectors_within first (i ∷ rest) top low high =
     All-cons (λ (x : ℕ). (1 ≤ x) × (x ≤ top)) first (selectors (first + choice_size i) rest) (low, omega (arith, high))
     (selectors_within (first + choice_size i) rest top (omega (arith, low)) (omega (arith, high)))
 
-pub selecting_within : (y : Layout) (selecting : List ℕ) (budget room : ℕ) (k : Kept) → IsReady y selecting budget room k → All (λ x. (1 ≤ x) × (x ≤ VARS)) selecting
+pub selecting_within : (y : Layout) (selecting : List ℕ) (budget room : ℕ) (k : Kept) → IsReady y selecting budget room k →
+    All (λ x. (1 ≤ x) × (x ≤ VARS)) selecting
 selecting_within y selecting budget room k ready =
     let few = (ready.facts).few in
     subst (All (λ x. (1 ≤ x) × (x ≤ VARS))) (sym ready.selecting_are)
@@ -65,13 +69,16 @@ selecting_few y selecting budget room k ready =
     let few = (ready.facts).few in
     omega (arith, count, le, few)
 
-pub wanted_there : (y : Layout) (selecting wanted : List ℕ) (budget room : ℕ) → AreSelecting y selecting → AreLawPlaces (task_of y budget room) wanted → All (λ n. n < length selecting) wanted
+pub wanted_there : (y : Layout) (selecting wanted : List ℕ) (budget room : ℕ) → AreSelecting y selecting → AreLawPlaces (task_of y budget room) wanted →
+    All (λ n. n < length selecting) wanted
 wanted_there y selecting wanted budget room is places =
-    All-weaker (λ n. n < length (laws_of y)) (λ n. n < length selecting) (λ n lt. subst (λ m. n < m) (sym (selecting_count y selecting is)) lt) wanted places.there
+    All-weaker (λ n. n < length (laws_of y)) (λ n. n < length selecting) (λ n lt. subst (λ m. n < m) (sym (selecting_count y selecting is)) lt) wanted
+    places.there
 
 -- ---- the query
 
-query_avoids : (g : Graph) (grid : GridSize) (laws : List Instance) (n : ℕ) (wanted : List ℕ) → n < length laws → All (λ k. k < length laws) wanted → All (λ k. n ≢ k) wanted →
+query_avoids : (g : Graph) (grid : GridSize) (laws : List Instance) (n : ℕ) (wanted : List ℕ) → n < length laws → All (λ k. k < length laws) wanted →
+    All (λ k. n ≢ k) wanted →
     Avoids (selector_at g grid laws n) (query_of (selectors (laws_first g grid) laws) wanted)
 query_avoids g grid laws n [] lt there other = tt
 query_avoids g grid laws n (k ∷ ks) lt there other = (
@@ -79,18 +86,21 @@ query_avoids g grid laws n (k ∷ ks) lt there other = (
   query_avoids g grid laws n ks lt (All-tail (λ i. i < length laws) k ks there) (All-tail (λ i. n ≢ i) k ks other),
 )
 
-query_distinct : (g : Graph) (grid : GridSize) (laws : List Instance) (wanted : List ℕ) → All (λ k. k < length laws) wanted → AllPairs (λ a b. a ≢ b) wanted → AreDistinct (query_of (selectors (laws_first g grid) laws) wanted)
+query_distinct : (g : Graph) (grid : GridSize) (laws : List Instance) (wanted : List ℕ) → All (λ k. k < length laws) wanted → AllPairs (λ a b. a ≢ b) wanted →
+    AreDistinct (query_of (selectors (laws_first g grid) laws) wanted)
 query_distinct g grid laws [] there once = tt
 query_distinct g grid laws (n ∷ ns) there once = (
   query_avoids g grid laws n ns (All-head (λ i. i < length laws) n ns there) (All-tail (λ i. i < length laws) n ns there) (pairs_head (λ a b. a ≢ b) n ns once),
   query_distinct g grid laws ns (All-tail (λ i. i < length laws) n ns there) (pairs_tail (λ a b. a ≢ b) n ns once),
 )
 
-pub distinct : (y : Layout) (selecting wanted : List ℕ) (budget room : ℕ) → AreSelecting y selecting → AreLawPlaces (task_of y budget room) wanted → AreDistinct (query_of selecting wanted)
+pub distinct : (y : Layout) (selecting wanted : List ℕ) (budget room : ℕ) → AreSelecting y selecting → AreLawPlaces (task_of y budget room) wanted →
+    AreDistinct (query_of selecting wanted)
 distinct y selecting wanted budget room is places =
     subst (λ (xs : List ℕ). AreDistinct (query_of xs wanted)) (sym is) (query_distinct y.graph y.grid (laws_of y) wanted places.there places.once)
 
-query_named : (g : Graph) (grid : GridSize) (laws : List Instance) (ds : Clauses) (wanted : List ℕ) → AreAmong (loose_clauses g grid laws) ds → All (λ k. k < length laws) wanted →
+query_named : (g : Graph) (grid : GridSize) (laws : List Instance) (ds : Clauses) (wanted : List ℕ) → AreAmong (loose_clauses g grid laws) ds →
+    All (λ k. k < length laws) wanted →
     All (λ l. IsNamed ds l.var) (query_of (selectors (laws_first g grid) laws) wanted)
 query_named g grid laws ds [] among there = All-nil (λ (l : Literal). IsNamed ds l.var)
 query_named g grid laws ds (n ∷ ns) among there =
@@ -99,7 +109,8 @@ query_named g grid laws ds (n ∷ ns) among there =
     (named_in (loose_clauses g grid laws) ds x among (selectors_named g grid laws n (All-head (λ i. i < length laws) n ns there)))
     (query_named g grid laws ds ns among (All-tail (λ i. i < length laws) n ns there))
 
-pub named : (y : Layout) (selecting wanted : List ℕ) (budget room : ℕ) (ds : Clauses) → AreSelecting y selecting → AreAmong (formula_of y) ds → AreLawPlaces (task_of y budget room) wanted →
+pub named : (y : Layout) (selecting wanted : List ℕ) (budget room : ℕ) (ds : Clauses) → AreSelecting y selecting → AreAmong (formula_of y) ds →
+    AreLawPlaces (task_of y budget room) wanted →
     All (λ l. IsNamed ds l.var) (query_of selecting wanted)
 named y selecting wanted budget room ds is among places =
     subst (λ (xs : List ℕ). All (λ l. IsNamed ds l.var) (query_of xs wanted)) (sym is) (query_named y.graph y.grid (laws_of y) ds wanted among places.there)
@@ -107,13 +118,17 @@ named y selecting wanted budget room ds is among places =
 -- ---- the drawing that is found
 
 pub base_model : (y : Layout) (v : Assignment) → SatisfiesAll v (formula_of y) → SatisfiesAll v (base_clauses y.graph (drawing_vars y.graph y.grid) y.grid)
-base_model y v h = satisfies_left v (base_clauses y.graph (drawing_vars y.graph y.grid) y.grid) (choices_clauses y.graph (drawing_vars y.graph y.grid) y.grid.width (laws_first y.graph y.grid) (laws_of y)) h
+base_model y v h = satisfies_left v (base_clauses y.graph (drawing_vars y.graph y.grid) y.grid)
+    (choices_clauses y.graph (drawing_vars y.graph y.grid) y.grid.width (laws_first y.graph y.grid) (laws_of y)) h
 
-pub long_enough : (y : Layout) (selecting : List ℕ) (budget room : ℕ) (k : Kept) (n : ℕ) → IsReady y selecting budget room k → n ≡ k.vars → laws_first y.graph y.grid ≤ n + 1
+pub long_enough : (y : Layout) (selecting : List ℕ) (budget room : ℕ) (k : Kept) (n : ℕ) → IsReady y selecting budget room k → n ≡ k.vars →
+    laws_first y.graph y.grid ≤ n + 1
 long_enough y selecting budget room k n ready is = let v = ready.vars in omega (arith, v, is)
 
-pub meets_each : (y : Layout) (budget room : ℕ) (v : Assignment) (d : Drawing) (wanted : List ℕ) → ((n : ℕ) → n < length (laws_of y) → v (selector_at y.graph y.grid (laws_of y) n) ≡ true → MeetsAt (task_of y budget room) d n) →
-    All (λ k. k < length (laws_of y)) wanted → MakesTrue v (query_of (selectors (laws_first y.graph y.grid) (laws_of y)) wanted) → All (MeetsAt (task_of y budget room) d) wanted
+pub meets_each : (y : Layout) (budget room : ℕ) (v : Assignment) (d : Drawing) (wanted : List ℕ) →
+    ((n : ℕ) → n < length (laws_of y) → v (selector_at y.graph y.grid (laws_of y) n) ≡ true → MeetsAt (task_of y budget room) d n) →
+    All (λ k. k < length (laws_of y)) wanted → MakesTrue v (query_of (selectors (laws_first y.graph y.grid) (laws_of y)) wanted) →
+    All (MeetsAt (task_of y budget room) d) wanted
 meets_each y budget room v d [] meets there true_all = All-nil (MeetsAt (task_of y budget room) d)
 meets_each y budget room v d (n ∷ ns) meets there true_all =
     let x = selector_at y.graph y.grid (laws_of y) n in
@@ -122,19 +137,24 @@ meets_each y budget room v d (n ∷ ns) meets there true_all =
     All-cons (MeetsAt (task_of y budget room) d) n ns (meets n (All-head (λ i. i < length (laws_of y)) n ns there) holds)
     (meets_each y budget room v d ns meets (All-tail (λ i. i < length (laws_of y)) n ns there) (All-tail (λ l. truth v l ≡ true) (positive_of x) rest true_all))
 
-found_meets : (y : Layout) (selecting wanted : List ℕ) (budget room : ℕ) (v : Assignment) (d : Drawing) → IsWhyFormula y → AreSelecting y selecting → AreLawPlaces (task_of y budget room) wanted → SatisfiesAll v (formula_of y) → MakesTrue v (query_of selecting wanted) →
-    ((other : Drawing) → IsJoinedOnGrid y.graph y.grid other → StandsFor v y.graph (drawing_vars y.graph y.grid) other → other ≡ d) → All (MeetsAt (task_of y budget room) d) wanted
+found_meets : (y : Layout) (selecting wanted : List ℕ) (budget room : ℕ) (v : Assignment) (d : Drawing) → IsWhyFormula y → AreSelecting y selecting →
+    AreLawPlaces (task_of y budget room) wanted → SatisfiesAll v (formula_of y) → MakesTrue v (query_of selecting wanted) →
+    ((other : Drawing) → IsJoinedOnGrid y.graph y.grid other → StandsFor v y.graph (drawing_vars y.graph y.grid) other → other ≡ d) →
+    All (MeetsAt (task_of y budget room) d) wanted
 found_meets y selecting wanted budget room v d facts is places all true_all alone =
     let s = facts.sound v all in
     let same : s.drawing ≡ d = alone s.drawing (loose_joined y.graph y.grid s.drawing facts.graph s.loose) s.stands in
     subst (λ (x : Drawing). All (MeetsAt (task_of y budget room) x) wanted) same
     (meets_each y budget room v s.drawing wanted s.meets places.there (subst (λ (xs : List ℕ). MakesTrue v (query_of xs wanted)) is true_all))
 
-pub model_meets : (y : Layout) (selecting wanted : List ℕ) (budget room : ℕ) (k : Kept) (assume : List Literal) (m : List Bool) (d : Drawing) → IsReady y selecting budget room k → AreLawPlaces (task_of y budget room) wanted → assume ≡ query_of selecting wanted →
-    HasModel (formula_of y) assume k → k.model ≡ Some m → ((other : Drawing) → IsJoinedOnGrid y.graph y.grid other → StandsFor (assignment m) y.graph (drawing_vars y.graph y.grid) other → other ≡ d) → All (MeetsAt (task_of y budget room) d) wanted
+pub model_meets : (y : Layout) (selecting wanted : List ℕ) (budget room : ℕ) (k : Kept) (assume : List Literal) (m : List Bool) (d : Drawing) →
+    IsReady y selecting budget room k → AreLawPlaces (task_of y budget room) wanted → assume ≡ query_of selecting wanted →
+    HasModel (formula_of y) assume k → k.model ≡ Some m → ((other : Drawing) → IsJoinedOnGrid y.graph y.grid other → StandsFor (assignment m) y.graph
+    (drawing_vars y.graph y.grid) other → other ≡ d) → All (MeetsAt (task_of y budget room) d) wanted
 model_meets y selecting wanted budget room k assume m d ready places is model k_model alone =
     let same : model.values ≡ m = (let e : Some (model.values) ≡ Some m = sym model.model ∙ k_model in cc) in
-    found_meets y selecting wanted budget room (assignment m) d ready.facts ready.selecting_are places (subst (λ (x : List Bool). SatisfiesAll (assignment x) (formula_of y)) same model.clauses)
+    found_meets y selecting wanted budget room (assignment m) d ready.facts ready.selecting_are places
+    (subst (λ (x : List Bool). SatisfiesAll (assignment x) (formula_of y)) same model.clauses)
     (subst (MakesTrue (assignment m)) is (subst (λ (x : List Bool). MakesTrue (assignment x) assume) same model.assumptions)) alone
 
 -- ---- the places that a refutation needs
@@ -152,7 +172,8 @@ itself n = grind (arith, nat_tests)
 
 pub variable_there : (ls : List Literal) (l : Literal) → Contains ls l → has_variable ls l.var ≡ true
 variable_there [] l (k, lt, is) = absurd (omega (arith, lt))
-variable_there (m ∷ ms) l (zero, lt, is) = ap (λ (z : Literal). (z.var == l.var) || has_variable ms l.var) is ∙ ap (λ b. b || has_variable ms l.var) (itself l.var)
+variable_there (m ∷ ms) l (zero, lt, is) = ap (λ (z : Literal). (z.var == l.var) || has_variable ms l.var) is
+    ∙ ap (λ b. b || has_variable ms l.var) (itself l.var)
 variable_there (m ∷ ms) l (suc k, lt, is) = or_right (m.var == l.var) (has_variable ms l.var) (variable_there ms l (k, omega (arith, lt), is))
   where
     or_right : (a b : Bool) → b ≡ true → (a || b) ≡ true
@@ -172,20 +193,24 @@ of_place selecting (n ∷ ns) l there = elim (Contains-append_cases (positive_of
   | inr later ↦ let r = of_place selecting ns l later in record { place = r.place; among = Contains-append_right (n ∷ []) ns r.place r.among; is = r.is }
 ]
 
-core_true : (y : Layout) (selecting wanted : List ℕ) (refuted : List Literal) (v : Assignment) → AreSelecting y selecting → All (λ k. k < length (laws_of y)) wanted → All (λ l. Contains (query_of selecting wanted) l) refuted →
+core_true : (y : Layout) (selecting wanted : List ℕ) (refuted : List Literal) (v : Assignment) → AreSelecting y selecting →
+    All (λ k. k < length (laws_of y)) wanted → All (λ l. Contains (query_of selecting wanted) l) refuted →
     ((n : ℕ) → n < length (laws_of y) → v (selector_at y.graph y.grid (laws_of y) n) ≡ has_number (places_in selecting refuted wanted) n) → MakesTrue v refuted
 core_true y selecting wanted refuted v is there among selects = λ k d lt.
     let l = get_or refuted k d in
     let r : IsOfPlace selecting wanted l = of_place selecting wanted l (among k d lt) in
     let n = r.place in
     let x = slice_index_or selecting n 0 in
-    let named : has_variable refuted x ≡ true = ap (has_variable refuted) (sym (ap (λ (z : Literal). z.var) r.is)) ∙ variable_there refuted l (Contains-get_or refuted k d lt) in
-    let core : Contains (places_in selecting refuted wanted) n = Contains-filter (λ i. has_variable refuted (slice_index_or selecting i 0)) wanted n r.among named in
+    let named : has_variable refuted x ≡ true = ap (has_variable refuted) (sym (ap (λ (z : Literal). z.var) r.is))
+    ∙ variable_there refuted l (Contains-get_or refuted k d lt) in
+    let core : Contains (places_in selecting refuted wanted) n = Contains-filter (λ i. has_variable refuted (slice_index_or selecting i 0)) wanted n r.among
+    named in
     let within : n < length (laws_of y) = All-contains (λ i. i < length (laws_of y)) wanted n there r.among in
     let same : v x ≡ v (selector_at y.graph y.grid (laws_of y) n) = ap (λ (xs : List ℕ). v (slice_index_or xs n 0)) is in
     ap (truth v) r.is ∙ (same ∙ selects n within ∙ has_contained (places_in selecting refuted wanted) n core)
 
-pub core_refuted : (y : Layout) (selecting wanted : List ℕ) (budget room : ℕ) (assume refuted : List Literal) → IsWhyFormula y → AreSelecting y selecting → AreLawPlaces (task_of y budget room) wanted → assume ≡ query_of selecting wanted →
+pub core_refuted : (y : Layout) (selecting wanted : List ℕ) (budget room : ℕ) (assume refuted : List Literal) → IsWhyFormula y → AreSelecting y selecting →
+    AreLawPlaces (task_of y budget room) wanted → assume ≡ query_of selecting wanted →
     AreRefuted (formula_of y) assume refuted → NoneMeetsLaws (task_of y budget room) (places_in selecting refuted wanted)
 core_refuted y selecting wanted budget room assume refuted facts is places asked none = λ d loose all.
     let core = places_in selecting refuted wanted in
@@ -204,9 +229,14 @@ kept_among t (x ∷ xs) = by (t x) (All-weaker (Contains xs) (Contains (x ∷ xs
     by false h = h
 
 -- the reply of a refuted question
-pub core_reply : (y : Layout) (selecting slice wanted core : List ℕ) (budget room : ℕ) (assume refuted literals : List Literal) → IsWhyFormula y → AreSelecting y selecting → AreLawPlaces (task_of y budget room) wanted → assume ≡ query_of selecting wanted →
-    AreRefuted (formula_of y) assume refuted → slice ≡ selecting → literals ≡ refuted → core ≡ places_in slice literals wanted → All (Contains wanted) core × NoneMeetsLaws (task_of y budget room) core
+pub core_reply : (y : Layout) (selecting slice wanted core : List ℕ) (budget room : ℕ) (assume refuted literals : List Literal) → IsWhyFormula y →
+    AreSelecting y selecting → AreLawPlaces (task_of y budget room) wanted → assume ≡ query_of selecting wanted →
+    AreRefuted (formula_of y) assume refuted → slice ≡ selecting → literals ≡ refuted → core ≡ places_in slice literals wanted →
+    All (Contains wanted) core × NoneMeetsLaws (task_of y budget room) core
 core_reply y selecting slice wanted core budget room assume refuted literals facts are places asked none same_slice same_literals is =
     subst (λ (c : List ℕ). All (Contains wanted) c × NoneMeetsLaws (task_of y budget room) c)
-    (sym (is ∙ ap (λ (ls : List Literal). places_in slice ls wanted) same_literals ∙ ap (λ (xs : List ℕ). places_in xs refuted wanted) same_slice))
-    (kept_among (λ n. has_variable refuted (slice_index_or selecting n 0)) wanted, core_refuted y selecting wanted budget room assume refuted facts are places asked none)
+    (sym (is ∙ ap (λ (ls : List Literal). places_in slice ls wanted) same_literals ∙ ap (λ (xs : List ℕ). places_in xs refuted wanted) same_slice)) (
+      kept_among (λ n. has_variable refuted (slice_index_or selecting n 0)) wanted,
+      core_refuted y selecting wanted budget room assume refuted facts are places
+          asked none,
+    )

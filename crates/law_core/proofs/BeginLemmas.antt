@@ -1,5 +1,6 @@
 -- The beginning of a search for an explanation, and the whole of its lines.
-use Rattle.std.proofs.Common.{◌≡◌, ◌≤◌, ◌<◌, ℕ, zero, suc, ◌+◌, ◌-◌, false, List, [], ◌∷◌, ◌++◌, length, map, refl, sym, ◌∙◌, ap, subst, inl, inr, arith, append-nil}
+use Rattle.std.proofs.Common.{◌≡◌, ◌≤◌, ◌<◌, ℕ, zero, suc, ◌+◌, ◌-◌, false, List, [], ◌∷◌, ◌++◌, length, map, refl, sym, ◌∙◌, ap, subst, inl, inr, arith}
+use Rattle.std.proofs.Common.{append-nil}
 use Rattle.std.specs.Prelude.{flat_map, slice_index_or}
 use Rattle.std.proofs.lemmas.List.{length-map}
 use Rattle.std.proofs.lemmas.List.Elements.{All-weaker}
@@ -47,7 +48,8 @@ use Rattle.law_core.specs.Why.{IsRightWhy, IsWhyCause, IsWhyLog, IsWhyLeft, Form
 
 -- ---- the selecting variables
 
-pub size_there : (y : Layout) (room : ℕ) (laws slice : List Law) (f : Cnf) (vars : ℕ) → HasFormula y room laws f → slice ≡ laws → vars ≡ f.vars → choices_size (map instance_of slice) ≤ vars
+pub size_there : (y : Layout) (room : ℕ) (laws slice : List Law) (f : Cnf) (vars : ℕ) → HasFormula y room laws f → slice ≡ laws → vars ≡ f.vars →
+    choices_size (map instance_of slice) ≤ vars
 size_there y room laws slice f vars has same is =
     subst (λ (is : List Instance). choices_size is ≤ vars) (sym (ap (map instance_of) same ∙ has.laws_are)) (let v = has.vars in omega (arith, v, is))
 
@@ -57,12 +59,14 @@ vars_few y room laws f vars has is = subst (λ n. n ≤ VARS) (sym (is ∙ has.v
 pub words_fit : (y : Layout) (room : ℕ) (laws : List Law) (f : Cnf) → HasFormula y room laws f → words_of f.clauses ≤ f.room
 words_fit y room laws f has = let fit = has.words_fit in let w = ap words_of has.clauses in let r = has.kept in omega (arith, fit, w, r)
 
-pub selecting_are : (y : Layout) (room : ℕ) (laws slice : List Law) (f : Cnf) (vars : ℕ) (selecting : List ℕ) → HasFormula y room laws f → slice ≡ laws → vars ≡ f.vars →
+pub selecting_are : (y : Layout) (room : ℕ) (laws slice : List Law) (f : Cnf) (vars : ℕ) (selecting : List ℕ) → HasFormula y room laws f → slice ≡ laws →
+    vars ≡ f.vars →
     selecting ≡ selectors (vars + 1 - choices_size (map instance_of slice)) (map instance_of slice) → AreSelecting y selecting
 selecting_are y room laws slice f vars selecting has same_slice same is =
     let v = has.vars in
     let first : vars + 1 - choices_size (laws_of y) ≡ laws_first y.graph y.grid = omega (arith, v, same) in
-    is ∙ ap (λ (is : List Instance). selectors (vars + 1 - choices_size is) is) (ap (map instance_of) same_slice ∙ has.laws_are) ∙ ap (λ n. selectors n (laws_of y)) first
+    is ∙ ap (λ (is : List Instance). selectors (vars + 1 - choices_size is) is) (ap (map instance_of) same_slice ∙ has.laws_are)
+    ∙ ap (λ n. selectors n (laws_of y)) first
 
 -- ---- the formula's clauses are told to a new solver
 
@@ -75,7 +79,8 @@ blank_vars k room n is = let v = ap (λ (x : Kept). x.vars) is in omega (arith, 
 pub blank_fits : (k : Kept) (room : ℕ) (cs : Clauses) → k ≡ blank room → words_of cs ≤ room → k.words + words_of cs ≤ k.room
 blank_fits k room cs is fits = let w = ap (λ (x : Kept). x.words) is in let r = ap (λ (x : Kept). x.room) is in omega (arith, w, r, fits)
 
-pub blank_taken : (old new : Kept) (room n : ℕ) (cs : Clauses) → old ≡ blank room → HasTaken (with_more_vars old (n - old.vars)) new cs → HasTaken (with_more_vars old n) new cs
+pub blank_taken : (old new : Kept) (room n : ℕ) (cs : Clauses) → old ≡ blank room → HasTaken (with_more_vars old (n - old.vars)) new cs →
+    HasTaken (with_more_vars old n) new cs
 blank_taken old new room n cs is h =
     let v = ap (λ (x : Kept). x.vars) is in
     let all : n - old.vars ≡ n = omega (arith, v) in
@@ -83,7 +88,8 @@ blank_taken old new room n cs is h =
 
 -- ---- the formula's clauses were told
 
-pub begun_ready : (y : Layout) (selecting : List ℕ) (budget room : ℕ) (laws : List Law) (f : Cnf) (old new : Kept) → HasFormula y room laws f → AreSelecting y selecting → old ≡ blank room → HasTaken (with_more_vars old f.vars) new f.clauses → IsReady y selecting budget room new
+pub begun_ready : (y : Layout) (selecting : List ℕ) (budget room : ℕ) (laws : List Law) (f : Cnf) (old new : Kept) → HasFormula y room laws f →
+    AreSelecting y selecting → old ≡ blank room → HasTaken (with_more_vars old f.vars) new f.clauses → IsReady y selecting budget room new
 begun_ready y selecting budget room laws f old new has are blank_is t =
     let given : AreGiven f.clauses new.clauses = t.given [] (new_given old room blank_is) in
     record {
@@ -96,8 +102,10 @@ begun_ready y selecting budget room laws f old new has are blank_is t =
       spent = (let l = t.learnt in let z = ap (λ (k : Kept). k.learnt) blank_is in omega (arith, l, z));
     }
 
-begun_knows : (y : Layout) (budget room : ℕ) (laws : List Law) (f : Cnf) (old new : Kept) (l0 l1 : Lines → Type 0) (n0 n1 : ℕ) → HasFormula y room laws f → old ≡ blank room → HasTaken (with_more_vars old f.vars) new f.clauses →
-    GoesOn (λ ls. Belongs ls old) (λ ls. Belongs ls new) l0 l1 n0 n1 (λ lines more. more ≡ map Formula f.clauses) → KnowsWhy (task_of y budget room) new (formula_lines y)
+begun_knows : (y : Layout) (budget room : ℕ) (laws : List Law) (f : Cnf) (old new : Kept) (l0 l1 : Lines → Type 0) (n0 n1 : ℕ) → HasFormula y room laws f →
+    old ≡ blank room → HasTaken (with_more_vars old f.vars) new f.clauses →
+    GoesOn (λ ls. Belongs ls old) (λ ls. Belongs ls new) l0 l1 n0 n1 (λ lines more. more ≡ map Formula f.clauses) →
+    KnowsWhy (task_of y budget room) new (formula_lines y)
 begun_knows y budget room laws f old new l0 l1 n0 n1 has blank_is t goes =
     let cs = formula_of y in
     let told : ToldBehind (λ ls. Belongs ls new) l0 l1 n0 n1 [] (λ more. more ≡ map Formula f.clauses) = goes [] (new_belongs old room blank_is) in
@@ -125,8 +133,10 @@ mapped_both : {X Y Z : Type 0} (f : Y → Z) (h : X → Y) (xs : List X) → map
 mapped_both f h [] = refl
 mapped_both f h (x ∷ xs) = ap (λ zs. f (h x) ∷ zs) (mapped_both f h xs)
 
-pub right_answer : (y : Layout) (budget room : ℕ) (o : Outcome) (w : Why) → IsRightOutcome (task_of y budget room) o → IsWhyOf (laws_of y) o w → IsRightWhy (task_of y budget room) w
-right_answer y budget room (Exists d) (why.Exists e) right is = let p = task_of y budget room in subst (λ (x : Drawing). Lawful p.graph p.above p.grid x) (sym is) right
+pub right_answer : (y : Layout) (budget room : ℕ) (o : Outcome) (w : Why) → IsRightOutcome (task_of y budget room) o → IsWhyOf (laws_of y) o w →
+    IsRightWhy (task_of y budget room) w
+right_answer y budget room (Exists d) (why.Exists e) right is = let p = task_of y budget room in subst (λ (x : Drawing). Lawful p.graph p.above p.grid x)
+    (sym is) right
 right_answer y budget room (Exists d) (why.Laws names without) right is = absurd is
 right_answer y budget room (Exists d) why.Spent right is = absurd is
 right_answer y budget room (Exists d) why.Room right is = absurd is
@@ -159,16 +169,19 @@ choice_within (i ∷ rest) (suc n) choice = let lt = choice_within rest n choice
 pub all_searched : (y : Layout) (budget room : ℕ) → IsOrderOf y.graph y.order → HasAllLaws (task_of y budget room)
 all_searched y budget room ordered = all_laws y.graph (is_above y.order) (is_overlap y.order) y.grid budget room (order_tables y.graph y.order ordered)
 
-pub has_places : (y : Layout) (budget room : ℕ) (laws : List Law) (o : Outcome) → map instance_of laws ≡ laws_of y → IsRightOutcome (task_of y budget room) o → HasLawPlaces (length laws) o
+pub has_places : (y : Layout) (budget room : ℕ) (laws : List Law) (o : Outcome) → map instance_of laws ≡ laws_of y → IsRightOutcome (task_of y budget room) o →
+    HasLawPlaces (length laws) o
 has_places y budget room laws (Exists d) are right = tt
 has_places y budget room laws (Laws places without) are right =
     let p = task_of y budget room in
     let count : length (laws_of y) ≡ length laws = sym (ap length are) ∙ length-map laws instance_of in
-    All-weaker (λ n. IsChoiceOf p.graph p.above (law_at p n)) (λ n. n < length laws) (λ n c. subst (λ m. n < m) count (choice_within (laws_of y) n c.choice)) places
+    All-weaker (λ n. IsChoiceOf p.graph p.above (law_at p n)) (λ n. n < length laws) (λ n c. subst (λ m. n < m) count (choice_within (laws_of y) n c.choice))
+    places
     (all_mapped (IsChoiceOf p.graph p.above) (law_at p) places (right.0).each)
 has_places y budget room laws (Stopped stop) are right = tt
 
-why_cause : (y : Layout) (budget room : ℕ) (o : Outcome) (w : Why) (lines : Lines) → clause_lines lines ≡ formula_lines y → TellsOutcome (task_of y budget room) o lines → IsWhyOf (laws_of y) o w → IsWhyCause y budget room w lines
+why_cause : (y : Layout) (budget room : ℕ) (o : Outcome) (w : Why) (lines : Lines) → clause_lines lines ≡ formula_lines y →
+    TellsOutcome (task_of y budget room) o lines → IsWhyOf (laws_of y) o w → IsWhyCause y budget room w lines
 why_cause y budget room (Exists d) (why.Exists e) lines all tells is = all
 why_cause y budget room (Exists d) (why.Laws names without) lines all tells is = absurd is
 why_cause y budget room (Exists d) why.Spent lines all tells is = absurd is
@@ -186,7 +199,8 @@ why_cause y budget room (Stopped RoomFull) (why.Laws names without) lines all te
 why_cause y budget room (Stopped RoomFull) why.Spent lines all tells is = absurd is
 why_cause y budget room (Stopped RoomFull) why.Room lines all tells is = inr (all, tells)
 
-why_log : (y : Layout) (budget room : ℕ) (k : Kept) (o : Outcome) (w : Why) (lines : Lines) → KnowsWhy (task_of y budget room) k lines → TellsOutcome (task_of y budget room) o lines → IsWhyOf (laws_of y) o w → IsWhyLog y budget room w lines
+why_log : (y : Layout) (budget room : ℕ) (k : Kept) (o : Outcome) (w : Why) (lines : Lines) → KnowsWhy (task_of y budget room) k lines →
+    TellsOutcome (task_of y budget room) o lines → IsWhyOf (laws_of y) o w → IsWhyLog y budget room w lines
 why_log y budget room k o w lines h tells is = record {
   formed = (h.belongs).formed;
   derives = (h.belongs).derives;
@@ -198,14 +212,17 @@ why_log y budget room k o w lines h tells is = record {
   cause = why_cause y budget room o w lines h.told_are tells is;
 }
 
-pub whole_log : (y : Layout) (budget room : ℕ) (laws : List Law) (f : Cnf) (o : Outcome) (w : Why) (old mid new : Kept) (l0 l1 l2 : Lines → Type 0) (n0 n1 n2 : ℕ) → HasFormula y room laws f → old ≡ blank room → HasTaken (with_more_vars old f.vars) mid f.clauses →
+pub whole_log : (y : Layout) (budget room : ℕ) (laws : List Law) (f : Cnf) (o : Outcome) (w : Why) (old mid new : Kept) (l0 l1 l2 : Lines → Type 0)
+    (n0 n1 n2 : ℕ) → HasFormula y room laws f → old ≡ blank room → HasTaken (with_more_vars old f.vars) mid f.clauses →
     GoesOn (λ ls. Belongs ls old) (λ ls. Belongs ls mid) l0 l1 n0 n1 (λ lines more. more ≡ map Formula f.clauses) →
-    GoesOn (KnowsWhy (task_of y budget room) mid) (KnowsWhy (task_of y budget room) new) l1 l2 n1 n2 (λ lines more. TellsOutcome (task_of y budget room) o (lines ++ more)) → IsWhyOf (laws_of y) o w →
+    GoesOn (KnowsWhy (task_of y budget room) mid) (KnowsWhy (task_of y budget room) new) l1 l2 n1 n2
+    (λ lines more. TellsOutcome (task_of y budget room) o (lines ++ more)) → IsWhyOf (laws_of y) o w →
     (lines : Lines) × IsToldTo l0 l2 n0 n2 lines × IsWhyLog y budget room w lines
 whole_log y budget room laws f o w old mid new l0 l1 l2 n0 n1 n2 has blank_is t goes search is =
     let start = formula_lines y in
     let p = task_of y budget room in
-    let s : ToldBehind (KnowsWhy (task_of y budget room) new) l1 l2 n1 n2 start (λ more. TellsOutcome p o (start ++ more)) = search start (begun_knows y budget room laws f old mid l0 l1 n0 n1 has blank_is t goes) in
+    let s : ToldBehind (KnowsWhy (task_of y budget room) new) l1 l2 n1 n2 start (λ more. TellsOutcome p o (start ++ more)) = search start
+    (begun_knows y budget room laws f old mid l0 l1 n0 n1 has blank_is t goes) in
     let second : ToldBehind (IsLogOfSolver new) l1 l2 n1 n2 start (λ more. IsWhyLog y budget room w (start ++ more)) = record {
       more = s.more;
       knows = record { belongs = (s.knows).belongs; learnt = (s.knows).learnt_are };
@@ -214,12 +231,14 @@ whole_log y budget room laws f o w old mid new l0 l1 l2 n0 n1 n2 has blank_is t 
       does = why_log y budget room new o w (start ++ s.more) s.knows s.does is;
     } in
     let whole = told_whole start (IsWhyLog y budget room w) room old mid new l0 l1 l2 n0 n1 n2 blank_is
-    (goes_weaker (λ ls. Belongs ls old) (λ ls. Belongs ls mid) l0 l1 n0 n1 (λ lines more. more ≡ map Formula f.clauses) (λ lines more. more ≡ start) goes (λ lines more does. does ∙ ap (map Formula) has.clauses)) second in
+    (goes_weaker (λ ls. Belongs ls old) (λ ls. Belongs ls mid) l0 l1 n0 n1 (λ lines more. more ≡ map Formula f.clauses) (λ lines more. more ≡ start) goes
+    (λ lines more does. does ∙ ap (map Formula) has.clauses)) second in
     (whole.0, whole.1, whole.2)
 
 -- ---- no room for the formula
 
-pub nothing_told : (y : Layout) (budget room n : ℕ) (log : Lines → Type 0) → FormulaPasses y room → (lines : Lines) × IsToldTo log log n n lines × IsWhyLog y budget room why.Room lines
+pub nothing_told : (y : Layout) (budget room n : ℕ) (log : Lines → Type 0) → FormulaPasses y room →
+    (lines : Lines) × IsToldTo log log n n lines × IsWhyLog y budget room why.Room lines
 nothing_told y budget room n log passes = (
   [],
   record { behind = λ ls t. subst log (sym (append-nil ls)) t; counted = refl },
@@ -242,7 +261,8 @@ pub left_none : (y : Layout) (log : Lines → Type 0) → ((a b : Lines) → log
 left_none y log one none lines is = subst (IsWhyLeft y) (one [] lines none is) (record { derives = derives_none; begins = (formula_lines y, refl) })
 
 -- an error in the formula's clauses
-pub left_begun : (y : Layout) (room : ℕ) (laws : List Law) (f : Cnf) (old : Kept) (l0 l1 : Lines → Type 0) → HasFormula y room laws f → old ≡ blank room → Leaves (map Formula f.clauses) (λ ls. Belongs ls old) l0 l1 → l0 [] → (lines : Lines) → l1 lines → IsWhyLeft y lines
+pub left_begun : (y : Layout) (room : ℕ) (laws : List Law) (f : Cnf) (old : Kept) (l0 l1 : Lines → Type 0) → HasFormula y room laws f → old ≡ blank room →
+    Leaves (map Formula f.clauses) (λ ls. Belongs ls old) l0 l1 → l0 [] → (lines : Lines) → l1 lines → IsWhyLeft y lines
 left_begun y room laws f old l0 l1 has blank_is h none lines told =
     let left = h [] (new_belongs old room blank_is) none lines told in
     record {
@@ -251,8 +271,10 @@ left_begun y room laws f old l0 l1 has blank_is h none lines told =
     }
 
 -- an error behind them
-pub left_later : (y : Layout) (budget room : ℕ) (laws : List Law) (f : Cnf) (old mid : Kept) (l0 l1 l2 : Lines → Type 0) (n0 n1 : ℕ) → HasFormula y room laws f → old ≡ blank room → HasTaken (with_more_vars old f.vars) mid f.clauses →
-    GoesOn (λ ls. Belongs ls old) (λ ls. Belongs ls mid) l0 l1 n0 n1 (λ lines more. more ≡ map Formula f.clauses) → Leaves [] (KnowsWhy (task_of y budget room) mid) l1 l2 → l0 [] → (lines : Lines) → l2 lines → IsWhyLeft y lines
+pub left_later : (y : Layout) (budget room : ℕ) (laws : List Law) (f : Cnf) (old mid : Kept) (l0 l1 l2 : Lines → Type 0) (n0 n1 : ℕ) →
+    HasFormula y room laws f → old ≡ blank room → HasTaken (with_more_vars old f.vars) mid f.clauses →
+    GoesOn (λ ls. Belongs ls old) (λ ls. Belongs ls mid) l0 l1 n0 n1 (λ lines more. more ≡ map Formula f.clauses) →
+    Leaves [] (KnowsWhy (task_of y budget room) mid) l1 l2 → l0 [] → (lines : Lines) → l2 lines → IsWhyLeft y lines
 left_later y budget room laws f old mid l0 l1 l2 n0 n1 has blank_is t goes h none lines told =
     let start = formula_lines y in
     let run : ToldBehind (λ ls. Belongs ls mid) l0 l1 n0 n1 [] (λ more. more ≡ map Formula f.clauses) = goes [] (new_belongs old room blank_is) in
@@ -264,7 +286,8 @@ left_later y budget room laws f old mid l0 l1 l2 n0 n1 has blank_is t goes h non
       derives = left.derives;
       begins = (
         [],
-        sym knows.told_are ∙ sym (append-nil (clause_lines start)) ∙ ap (λ (ls : Lines). clause_lines start ++ ls) (sym nothing) ∙ sym left.gives ∙ sym (append-nil (clause_lines lines)),
+        sym knows.told_are ∙ sym (append-nil (clause_lines start)) ∙ ap (λ (ls : Lines). clause_lines start ++ ls) (sym nothing) ∙ sym left.gives
+            ∙ sym (append-nil (clause_lines lines)),
       );
     }
   where

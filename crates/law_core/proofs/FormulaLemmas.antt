@@ -20,7 +20,8 @@ use Rattle.law_core.specs.Chosen.{SoundChoices, CoversChoices}
 use Rattle.law_core.proofs.LooseLemmas.{joined_loose, loose_joined}
 use Rattle.law_core.proofs.ChoiceLemmas.{AreChoices, choices_mean, ChoicesHold, choices_extend}
 
-pub sound : (g : Graph) (above : ℕ → ℕ → Bool) (grid : GridSize) (laws : List Instance) → IsTrackGraph g → IsGrid grid → AreChoices g above laws → SoundChoices g grid laws (loose_clauses g grid laws)
+pub sound : (g : Graph) (above : ℕ → ℕ → Bool) (grid : GridSize) (laws : List Instance) → IsTrackGraph g → IsGrid grid → AreChoices g above laws →
+    SoundChoices g grid laws (loose_clauses g grid laws)
 sound g above grid laws is size are v h =
     let x = drawing_vars g grid in
     let base = base_clauses g x grid in
@@ -33,7 +34,8 @@ sound g above grid laws is size are v h =
       meets = choices_mean v g above grid b.drawing (laws_first g grid) laws is are b.reads b.loose (satisfies_right v base more h);
     }
 
-pub covers : (g : Graph) (above : ℕ → ℕ → Bool) (grid : GridSize) (laws : List Instance) → IsTrackGraph g → IsGrid grid → laws_first g grid ≤ VARS + 1 → AreChoices g above laws → CoversChoices g grid laws (loose_clauses g grid laws)
+pub covers : (g : Graph) (above : ℕ → ℕ → Bool) (grid : GridSize) (laws : List Instance) → IsTrackGraph g → IsGrid grid → laws_first g grid ≤ VARS + 1 →
+    AreChoices g above laws → CoversChoices g grid laws (loose_clauses g grid laws)
 covers g above grid laws is size few are d loose chosen meets =
     let x = drawing_vars g grid in
     let joined = loose_joined g grid d is loose in
@@ -80,9 +82,11 @@ edge_choices false false false e f = tt
 
 all_choices : (g : Graph) (above overlap : ℕ → ℕ → Bool) → AllChoices (instances g above overlap)
 all_choices g above overlap =
-    choices_both (instance_pairs (length g.nodes) (λ u v. Ordered u v ∷ [])) (instances_from (λ n. Aligned n ∷ []) 0 (length g.nodes) ++ (instance_pairs (length g.nodes) (λ u v. Apart u v ∷ []) ++ instance_pairs (length g.edges) (edge_pair above overlap)))
+    choices_both (instance_pairs (length g.nodes) (λ u v. Ordered u v ∷ [])) (instances_from (λ n. Aligned n ∷ []) 0 (length g.nodes)
+    ++ (instance_pairs (length g.nodes) (λ u v. Apart u v ∷ []) ++ instance_pairs (length g.edges) (edge_pair above overlap)))
     (paired_choices (λ u v. Ordered u v ∷ []) (length g.nodes) (λ a b. (tt, tt)))
-    (choices_both (instances_from (λ n. Aligned n ∷ []) 0 (length g.nodes)) (instance_pairs (length g.nodes) (λ u v. Apart u v ∷ []) ++ instance_pairs (length g.edges) (edge_pair above overlap))
+    (choices_both (instances_from (λ n. Aligned n ∷ []) 0 (length g.nodes)) (instance_pairs (length g.nodes) (λ u v. Apart u v ∷ []) ++ instance_pairs
+    (length g.edges) (edge_pair above overlap))
     (listed_choices (λ n. Aligned n ∷ []) 0 (length g.nodes) (λ k. (tt, tt)))
     (choices_both (instance_pairs (length g.nodes) (λ u v. Apart u v ∷ [])) (instance_pairs (length g.edges) (edge_pair above overlap))
     (paired_choices (λ u v. Apart u v ∷ []) (length g.nodes) (λ a b. (tt, tt)))
@@ -112,15 +116,25 @@ has_clauses (Parted e f) h = tt
 
 -- the list that a search goes over
 pub all_laws : (g : Graph) (above overlap : ℕ → ℕ → Bool) (grid : GridSize) (budget room : ℕ) → AreTablesOf g above overlap →
-    HasAllLaws (record { graph = g; above = above; grid = grid; laws = instances g above overlap; clauses = why_clauses g above overlap grid; budget = budget; room = room })
+    HasAllLaws (record {
+      graph = g;
+      above = above;
+      grid = grid;
+      laws = instances g above overlap;
+      clauses = why_clauses g above overlap grid;
+      budget = budget;
+      room = room;
+    })
 all_laws g above overlap grid budget room t = record {
   each = each_choice g above (instances g above overlap) (laws_are_choices g above overlap t);
   all = λ i is choice. (all_listed g above overlap t).all i is (has_clauses i choice);
 }
 
 -- the formula
-pub why_sound : (g : Graph) (above overlap : ℕ → ℕ → Bool) (grid : GridSize) → IsTrackGraph g → IsGrid grid → AreTablesOf g above overlap → SoundChoices g grid (instances g above overlap) (why_clauses g above overlap grid)
+pub why_sound : (g : Graph) (above overlap : ℕ → ℕ → Bool) (grid : GridSize) → IsTrackGraph g → IsGrid grid → AreTablesOf g above overlap →
+    SoundChoices g grid (instances g above overlap) (why_clauses g above overlap grid)
 why_sound g above overlap grid is size t = sound g above grid (instances g above overlap) is size (laws_are_choices g above overlap t)
 
-pub why_covers : (g : Graph) (above overlap : ℕ → ℕ → Bool) (grid : GridSize) → IsTrackGraph g → IsGrid grid → laws_first g grid ≤ VARS + 1 → AreTablesOf g above overlap → CoversChoices g grid (instances g above overlap) (why_clauses g above overlap grid)
+pub why_covers : (g : Graph) (above overlap : ℕ → ℕ → Bool) (grid : GridSize) → IsTrackGraph g → IsGrid grid → laws_first g grid ≤ VARS + 1 →
+    AreTablesOf g above overlap → CoversChoices g grid (instances g above overlap) (why_clauses g above overlap grid)
 why_covers g above overlap grid is size few t = covers g above grid (instances g above overlap) is size few (laws_are_choices g above overlap t)

@@ -32,7 +32,8 @@ use Rattle.law_core.proofs.AskLemmas.{meets_each}
 
 -- ---- the lines
 
-pub ready_after : (y : Layout) (selecting : List ℕ) (budget room : ℕ) (old new : Kept) (a : Answer) (cs : Clauses) → budget < 2 ^ 32 → IsReady y selecting budget room old → HasLearnt old new cs → HasSpent a (budget - old.learnt) (length cs) →
+pub ready_after : (y : Layout) (selecting : List ℕ) (budget room : ℕ) (old new : Kept) (a : Answer) (cs : Clauses) → budget < 2 ^ 32 →
+    IsReady y selecting budget room old → HasLearnt old new cs → HasSpent a (budget - old.learnt) (length cs) →
     AreGiven (formula_of y) new.clauses → IsReady y selecting budget room new
 ready_after y selecting budget room old new a cs top ready h has given =
     let n = within_spent a (budget - old.learnt) (length cs) has in
@@ -47,21 +48,26 @@ ready_after y selecting budget room old new a cs top ready h has given =
       spent = (let s = ready.spent in omega (arith, n, count, s));
     }
 
-answered : (p : Task) (old new : Kept) (a : Answer) (assume : List Literal) (cs : Clauses) (lines ending : Lines) → old.learnt ≡ length (flat_map learnt lines) → old.learnt ≤ p.budget → new.room ≡ p.room → (given : Clauses) →
-    Belongs (lines ++ search_lines assume cs ending) new → EndsWith a assume ending → HasSpent a (p.budget - old.learnt) (length cs) → IsTrueAnswer a given assume new → TellsAnswer p a (lines ++ search_lines assume cs ending)
+answered : (p : Task) (old new : Kept) (a : Answer) (assume : List Literal) (cs : Clauses) (lines ending : Lines) →
+    old.learnt ≡ length (flat_map learnt lines) → old.learnt ≤ p.budget → new.room ≡ p.room → (given : Clauses) →
+    Belongs (lines ++ search_lines assume cs ending) new → EndsWith a assume ending → HasSpent a (p.budget - old.learnt) (length cs) →
+    IsTrueAnswer a given assume new → TellsAnswer p a (lines ++ search_lines assume cs ending)
 answered p old new Model assume cs lines ending learnt_are spent is_room given belongs ends has true_answer = tt
 answered p old new RefutedAnswer assume cs lines ending learnt_are spent is_room given belongs ends has true_answer = tt
 answered p old new Spent assume cs lines ending learnt_are spent is_room given belongs ends has true_answer =
     let same : search_lines assume cs ending ≡ search_lines assume cs [] = ap (search_lines assume cs) ends in
     let belongs_so : Belongs (lines ++ search_lines assume cs []) new = subst (λ (ls : Lines). Belongs (lines ++ ls) new) same belongs in
     let count : length (flat_map learnt (lines ++ search_lines assume cs ending)) ≡ p.budget =
-    count_of_search Spent assume cs lines ending ends ∙ (let e : length cs ≡ p.budget - old.learnt = has in let f : length (flat_map learnt lines) + length cs ≡ p.budget = omega (arith, e, learnt_are, spent) in f) in
+    count_of_search Spent assume cs lines ending ends ∙ (let e : length cs ≡ p.budget - old.learnt = has in let f : length (flat_map learnt lines) + length cs
+    ≡ p.budget = omega (arith, e, learnt_are, spent) in f) in
     (count, subst (λ (ls : Lines). Open (lines ++ ls)) (sym same) (is_open assume cs lines new belongs_so true_answer))
 answered p old new Room assume cs lines ending learnt_are spent is_room given belongs ends has true_answer =
     subst (NextClausePasses (lines ++ search_lines assume cs ending)) is_room (has_no_room (lines ++ search_lines assume cs ending) new belongs true_answer)
 
 -- a Model line behind a query that has a model
-model_answers : (y : Layout) (budget room : ℕ) (k : Kept) (assume : List Literal) (before : Lines) → IsWhyFormula y → SelectsLaws (task_of y budget room) assume → HasModel (formula_of y) assume k → (facts_of before).query ≡ Some assume → HasLaws (task_of y budget room) before
+model_answers : (y : Layout) (budget room : ℕ) (k : Kept) (assume : List Literal) (before : Lines) → IsWhyFormula y →
+    SelectsLaws (task_of y budget room) assume → HasModel (formula_of y) assume k → (facts_of before).query ≡ Some assume →
+    HasLaws (task_of y budget room) before
 model_answers y budget room k assume before facts (wanted, places, is) model latest =
     let v = assignment model.values in
     let s = facts.sound v model.clauses in
@@ -75,22 +81,29 @@ model_answers y budget room k assume before facts (wanted, places, is) model lat
     }
 
 -- a question and its answer stand where they may
-laws_placed : (y : Layout) (budget room : ℕ) (k : Kept) (a : Answer) (assume : List Literal) (cs : Clauses) (lines ending : Lines) → IsWhyFormula y → SelectsLaws (task_of y budget room) assume → EndsWith a assume ending → IsTrueAnswer a (formula_of y) assume k →
+laws_placed : (y : Layout) (budget room : ℕ) (k : Kept) (a : Answer) (assume : List Literal) (cs : Clauses) (lines ending : Lines) → IsWhyFormula y →
+    SelectsLaws (task_of y budget room) assume → EndsWith a assume ending → IsTrueAnswer a (formula_of y) assume k →
     AreAboutLaws (task_of y budget room) lines → AreAboutLaws (task_of y budget room) (lines ++ search_lines assume cs ending)
 laws_placed y budget room k Model assume cs lines ending facts selects e model h =
     let front : Lines = lines ++ Query assume ∷ map Learnt cs in
     let latest : (facts_of front).query ≡ Some assume = fold-append asked None lines (Query assume ∷ map Learnt cs) ∙ query_stays (Some assume) cs in
-    behind_ended (IsLawPlaced (task_of y budget room)) lines (search_lines assume cs ending) assume cs ModelLine (ap (search_lines assume cs) e) (λ before c. tt) selects (model_answers y budget room k assume front facts selects model latest) h
+    behind_ended (IsLawPlaced (task_of y budget room)) lines (search_lines assume cs ending) assume cs ModelLine (ap (search_lines assume cs) e)
+    (λ before c. tt) selects (model_answers y budget room k assume front facts selects model latest) h
 laws_placed y budget room k RefutedAnswer assume cs lines ending facts selects e none h =
-    behind_ended (IsLawPlaced (task_of y budget room)) lines (search_lines assume cs ending) assume cs (RefutedLine e.clause) (ap (search_lines assume cs) e.is) (λ before c. tt) selects tt h
+    behind_ended (IsLawPlaced (task_of y budget room)) lines (search_lines assume cs ending) assume cs (RefutedLine e.clause) (ap (search_lines assume cs) e.is)
+    (λ before c. tt) selects tt h
 laws_placed y budget room k Spent assume cs lines ending facts selects e spent h =
-    behind_unended (IsLawPlaced (task_of y budget room)) lines (search_lines assume cs ending) assume cs (ap (search_lines assume cs) e) (λ before c. tt) selects h
+    behind_unended (IsLawPlaced (task_of y budget room)) lines (search_lines assume cs ending) assume cs (ap (search_lines assume cs) e) (λ before c. tt)
+    selects h
 laws_placed y budget room k Room assume cs lines ending facts selects e full h =
-    behind_unended (IsLawPlaced (task_of y budget room)) lines (search_lines assume cs ending) assume cs (ap (search_lines assume cs) e) (λ before c. tt) selects h
+    behind_unended (IsLawPlaced (task_of y budget room)) lines (search_lines assume cs ending) assume cs (ap (search_lines assume cs) e) (λ before c. tt)
+    selects h
 
-pub search_goes : (y : Layout) (selecting : List ℕ) (budget room : ℕ) (old new : Kept) (a : Answer) (assume : List Literal) (before now : Lines → Type 0) (n m : ℕ) → budget < 2 ^ 32 → IsReady y selecting budget room old → SelectsLaws (task_of y budget room) assume →
+pub search_goes : (y : Layout) (selecting : List ℕ) (budget room : ℕ) (old new : Kept) (a : Answer) (assume : List Literal) (before now : Lines → Type 0)
+    (n m : ℕ) → budget < 2 ^ 32 → IsReady y selecting budget room old → SelectsLaws (task_of y budget room) assume →
     HasSolved before now assume old new a (budget - old.learnt) n m → IsTrueAnswer a (formula_of y) assume new → new.words ≤ room →
-    GoesOn (KnowsWhy (task_of y budget room) old) (KnowsWhy (task_of y budget room) new) before now n m (λ lines more. TellsAnswer (task_of y budget room) a (lines ++ more))
+    GoesOn (KnowsWhy (task_of y budget room) old) (KnowsWhy (task_of y budget room) new) before now n m
+    (λ lines more. TellsAnswer (task_of y budget room) a (lines ++ more))
 search_goes y selecting budget room old new a assume before now n m top ready selects s true_answer fits = λ lines k.
     let more = search_lines assume s.learnt s.ending in
     let belongs = s.belongs lines k.belongs in
@@ -100,7 +113,8 @@ search_goes y selecting budget room old new a assume before now n m top ready se
       more = more;
       knows = record {
         belongs = belongs;
-        told_are = clause_lines_append lines more ∙ ap (λ (ls : Lines). clause_lines lines ++ ls) (clause_searched a assume s.learnt s.ending s.ends) ∙ append-nil (clause_lines lines) ∙ k.told_are;
+        told_are = clause_lines_append lines more ∙ ap (λ (ls : Lines). clause_lines lines ++ ls) (clause_searched a assume s.learnt s.ending s.ends)
+            ∙ append-nil (clause_lines lines) ∙ k.told_are;
         learnt_are = (let c = k.learnt_are in let d = count_of_search a assume s.learnt lines s.ending s.ends in omega (arith, c, d, count));
         spent = (let spent = ready.spent in omega (arith, spent, few, count));
         fits = subst (λ n. n ≤ room) belongs.words fits;
@@ -108,23 +122,27 @@ search_goes y selecting budget room old new a assume before now n m top ready se
       };
       told = s.told;
       counted = s.counted ∙ ap (λ c. rose_by c n) (sym (ap length (learnt_of_search a assume s.learnt s.ending s.ends)));
-      does = answered (task_of y budget room) old new a assume s.learnt lines s.ending k.learnt_are ready.spent ((s.kept).room ∙ ready.room_is) (formula_of y) belongs s.ends s.spent true_answer;
+      does = answered (task_of y budget room) old new a assume s.learnt lines s.ending k.learnt_are ready.spent ((s.kept).room ∙ ready.room_is) (formula_of y)
+          belongs s.ends s.spent true_answer;
     }
 
 -- an error behind what is known that tells nothing
-pub known_left : (y : Layout) (budget room : ℕ) (k : Kept) (log : Lines → Type 0) → ((a b : Lines) → log a → log b → a ≡ b) → Leaves [] (KnowsWhy (task_of y budget room) k) log log
+pub known_left : (y : Layout) (budget room : ℕ) (k : Kept) (log : Lines → Type 0) → ((a b : Lines) → log a → log b → a ≡ b) →
+    Leaves [] (KnowsWhy (task_of y budget room) k) log log
 known_left y budget room k log one = leaves_same (KnowsWhy (task_of y budget room) k) log (λ lines h. h.belongs.derives) one
 
 -- an error behind calls that went on
 pub later_left : (y : Layout) (budget room : ℕ) (old new : Kept) (l0 l1 l2 : Lines → Type 0) (n0 n1 : ℕ) (R : Lines → Lines → Type 0) →
-    GoesOn (KnowsWhy (task_of y budget room) old) (KnowsWhy (task_of y budget room) new) l0 l1 n0 n1 R → Leaves [] (KnowsWhy (task_of y budget room) new) l1 l2 → Leaves [] (KnowsWhy (task_of y budget room) old) l0 l2
+    GoesOn (KnowsWhy (task_of y budget room) old) (KnowsWhy (task_of y budget room) new) l0 l1 n0 n1 R →
+    Leaves [] (KnowsWhy (task_of y budget room) new) l1 l2 → Leaves [] (KnowsWhy (task_of y budget room) old) l0 l2
 later_left y budget room old new l0 l1 l2 n0 n1 R goes h =
     leaves_then (KnowsWhy (task_of y budget room) old) (KnowsWhy (task_of y budget room) new) l0 l1 l2 n0 n1 R [] [] goes
     (λ lines more ka kb r. kb.told_are ∙ sym ka.told_are ∙ sym (append-nil (clause_lines lines))) h
 
 -- ---- the reply
 
-pub reply_tells : (y : Layout) (budget room : ℕ) (a : Answer) (r : Reply) (lines : Lines) → IsReplyOf a r → TellsAnswer (task_of y budget room) a lines → TellsReply (task_of y budget room) r lines
+pub reply_tells : (y : Layout) (budget room : ℕ) (a : Answer) (r : Reply) (lines : Lines) → IsReplyOf a r → TellsAnswer (task_of y budget room) a lines →
+    TellsReply (task_of y budget room) r lines
 reply_tells y budget room Model (Found d) lines is h = tt
 reply_tells y budget room Model (Refuted core) lines is h = absurd is
 reply_tells y budget room Model (Stopped stop) lines is h = absurd is

@@ -21,7 +21,8 @@ choice_named g x width i first = record {
   var = refl;
 }
 
-choices_named : (g : Graph) (x : DrawingVars) (width first : ℕ) (laws : List Instance) (n : ℕ) → n < length laws → IsNamed (choices_clauses g x width first laws) (selector first laws n)
+choices_named : (g : Graph) (x : DrawingVars) (width first : ℕ) (laws : List Instance) (n : ℕ) → n < length laws →
+    IsNamed (choices_clauses g x width first laws) (selector first laws n)
 choices_named g x width first [] n lt = absurd (omega (arith, lt))
 choices_named g x width first (i ∷ rest) zero lt =
     in_front (choice_clauses g x width i first) (choices_clauses g x width (first + choice_size i) rest) first (choice_named g x width i first)
@@ -29,12 +30,15 @@ choices_named g x width first (i ∷ rest) (suc n) lt =
     behind (choice_clauses g x width i first) (choices_clauses g x width (first + choice_size i) rest) (selector (first + choice_size i) rest n)
     (choices_named g x width (first + choice_size i) rest n (omega (arith, lt)))
 
-pub selectors_named : (g : Graph) (grid : GridSize) (laws : List Instance) (n : ℕ) → n < length laws → IsNamed (loose_clauses g grid laws) (selector_at g grid laws n)
+pub selectors_named : (g : Graph) (grid : GridSize) (laws : List Instance) (n : ℕ) → n < length laws →
+    IsNamed (loose_clauses g grid laws) (selector_at g grid laws n)
 selectors_named g grid laws n lt =
     let x = drawing_vars g grid in
-    behind (base_clauses g x grid) (choices_clauses g x grid.width (laws_first g grid) laws) (selector_at g grid laws n) (choices_named g x grid.width (laws_first g grid) laws n lt)
+    behind (base_clauses g x grid) (choices_clauses g x grid.width (laws_first g grid) laws) (selector_at g grid laws n)
+    (choices_named g x grid.width (laws_first g grid) laws n lt)
 
-from_first : (first : ℕ) (laws : List Instance) (n : ℕ) → n < length laws → (first ≤ selector first laws n) × (selector first laws n < first + choices_size laws)
+from_first : (first : ℕ) (laws : List Instance) (n : ℕ) → n < length laws →
+    (first ≤ selector first laws n) × (selector first laws n < first + choices_size laws)
 from_first first [] n lt = absurd (omega (arith, lt))
 from_first first (i ∷ rest) zero lt = (omega arith, omega arith)
 from_first first (i ∷ rest) (suc n) lt =
@@ -50,14 +54,16 @@ rising first (i ∷ rest) zero (suc n) lt within = let low = (from_first (first 
 rising first (i ∷ rest) (suc m) zero lt within = absurd (omega (arith, lt))
 rising first (i ∷ rest) (suc m) (suc n) lt within = rising (first + choice_size i) rest m n (omega (arith, lt)) (omega (arith, within))
 
-pub selectors_there : (g : Graph) (grid : GridSize) (laws : List Instance) (n : ℕ) → n < length laws → (laws_first g grid ≤ selector_at g grid laws n) × (selector_at g grid laws n ≤ loose_size g grid laws)
+pub selectors_there : (g : Graph) (grid : GridSize) (laws : List Instance) (n : ℕ) → n < length laws →
+    (laws_first g grid ≤ selector_at g grid laws n) × (selector_at g grid laws n ≤ loose_size g grid laws)
 selectors_there g grid laws n lt =
     let both = from_first (laws_first g grid) laws n lt in
     let low = both.0 in
     let high = both.1 in
     (low, omega (arith, high))
 
-pub selectors_apart : (g : Graph) (grid : GridSize) (laws : List Instance) (m n : ℕ) → m < length laws → n < length laws → m ≢ n → selector_at g grid laws m ≢ selector_at g grid laws n
+pub selectors_apart : (g : Graph) (grid : GridSize) (laws : List Instance) (m n : ℕ) → m < length laws → n < length laws → m ≢ n →
+    selector_at g grid laws m ≢ selector_at g grid laws n
 selectors_apart g grid laws m n lm ln apart e = elim (split m n apart) [
   | inl less ↦ let lt = rising (laws_first g grid) laws m n less ln in omega (arith, lt, e)
   | inr more ↦ let lt = rising (laws_first g grid) laws n m more lm in omega (arith, lt, e)

@@ -1,5 +1,6 @@
 -- What the lines of told bounds are: they cover the drawings, no two of their bounds have one variable, and how many there are.
-use Rattle.std.proofs.Common.{◌≡◌, ◌≢◌, ◌≤◌, ℕ, ◌+◌, ◌⊎◌, Bool, true, false, cond, List, [], ◌∷◌, ◌++◌, length, map, refl, sym, ◌∙◌, ap, subst, inl, inr, arith, append-nil}
+use Rattle.std.proofs.Common.{◌≡◌, ◌≢◌, ◌≤◌, ℕ, ◌+◌, ◌⊎◌, Bool, true, false, cond, List, [], ◌∷◌, ◌++◌, length, map, refl, sym, ◌∙◌, ap, subst, inl, inr}
+use Rattle.std.proofs.Common.{arith, append-nil}
 use Rattle.std.specs.Prelude.{All, AllPairs, Contains, flat_map, fold, min}
 use Rattle.std.proofs.lemmas.Grind.{flat_map-append}
 use Rattle.std.proofs.lemmas.List.Elements.{All-head, All-tail, All-weaker, Contains-append_cases, Contains-append_right}
@@ -36,7 +37,8 @@ use Rattle.drawing_cnf.proofs.ListLemmas.{first_line, length-variables, IsBoundL
 
 -- ---- they cover
 
-pub lines_cover : (y : Layout) (told : List Bound) (lines : Lines) → AreTold y told → clause_lines lines ≡ told_lines y told → CoversDrawings y.graph (is_above y.order) y.grid lines
+pub lines_cover : (y : Layout) (told : List Bound) (lines : Lines) → AreTold y told → clause_lines lines ≡ told_lines y told →
+    CoversDrawings y.graph (is_above y.order) y.grid lines
 lines_cover y told lines facts is = λ d lawful.
     meets_front (told_lines y told) lines (values_of d) ([], sym is ∙ sym (append-nil (clause_lines lines)))
     (meets_with y.graph (is_above y.order) (is_overlap y.order) y.grid told d (facts.covers d lawful))
@@ -52,7 +54,8 @@ cap_within g x grid b = by b.criterion
     by Diagonal = omega arith
     by Width = omega arith
 
-all_behind : (g : Graph) (x : DrawingVars) (grid : GridSize) (vars : ℕ) (told : List Bound) → AreBehind g x grid vars told → (b : Bound) → Contains told b → vars ≤ b.last
+all_behind : (g : Graph) (x : DrawingVars) (grid : GridSize) (vars : ℕ) (told : List Bound) → AreBehind g x grid vars told → (b : Bound) → Contains told b →
+    vars ≤ b.last
 all_behind g x grid vars [] h b there = absurd (let lt = there.1 in omega arith)
 all_behind g x grid vars (a ∷ rest) h b there = elim (Contains-append_cases (a ∷ []) rest b there) [
   | inl here ↦ let e : a ≡ b = first_line a b here in subst (λ (c : Bound). vars ≤ c.last) e h.0
@@ -60,7 +63,8 @@ all_behind g x grid vars (a ∷ rest) h b there = elim (Contains-append_cases (a
 ]
 
 -- the bound of a variable is one
-pub one_bound : (g : Graph) (x : DrawingVars) (grid : GridSize) (vars : ℕ) (told : List Bound) → AreBehind g x grid vars told → (a b : Bound) (j k : ℕ) → Contains told a → Contains told b → 1 ≤ j → j ≤ a.cap → 1 ≤ k → k ≤ b.cap → a.last + j ≡ b.last + k → a ≡ b
+pub one_bound : (g : Graph) (x : DrawingVars) (grid : GridSize) (vars : ℕ) (told : List Bound) → AreBehind g x grid vars told → (a b : Bound) (j k : ℕ) →
+    Contains told a → Contains told b → 1 ≤ j → j ≤ a.cap → 1 ≤ k → k ≤ b.cap → a.last + j ≡ b.last + k → a ≡ b
 one_bound g x grid vars [] h a b j k ia ib low high from to same = absurd (let lt = ia.1 in omega arith)
 one_bound g x grid vars (c ∷ rest) h a b j k ia ib low high from to same =
     elim (Contains-append_cases (c ∷ []) rest a ia) [
@@ -86,10 +90,12 @@ one_bound g x grid vars (c ∷ rest) h a b j k ia ib low high from to same =
       ]
     ]
 
-told_bound : (y : Layout) (told : List Bound) (lines : Lines) → clause_lines lines ≡ told_lines y told → (c : Criterion) (k : ℕ) (x : Var) → Contains lines (BoundLine c k x) → IsOfBound told c k x
+told_bound : (y : Layout) (told : List Bound) (lines : Lines) → clause_lines lines ≡ told_lines y told → (c : Criterion) (k : ℕ) (x : Var) →
+    Contains lines (BoundLine c k x) → IsOfBound told c k x
 told_bound y told lines is c k x there =
     in_lines y.graph (is_above y.order) (is_overlap y.order) y.grid told c k x
-    (subst (λ (ls : Lines). Contains ls (BoundLine c k x)) is (Contains-flat_map clause_line lines (BoundLine c k x) (BoundLine c k x) there (0, omega arith, refl)))
+    (subst (λ (ls : Lines). Contains ls (BoundLine c k x)) is (Contains-flat_map clause_line lines (BoundLine c k x) (BoundLine c k x) there
+    (0, omega arith, refl)))
 
 pub lines_apart : (y : Layout) (told : List Bound) (lines : Lines) → AreTold y told → clause_lines lines ≡ told_lines y told → AreApart lines
 lines_apart y told lines facts is = λ c d k n x z ia ib same.
@@ -104,13 +110,15 @@ lines_apart y told lines facts is = λ c d k n x z ia ib same.
     let tb = lb.to in
     let sb = lb.is in
     let place : (a.told).last + k ≡ (b.told).last + n = omega arith in
-    let one : a.told ≡ b.told = one_bound y.graph (drawing_vars y.graph y.grid) y.grid (formula_size y.graph (is_above y.order) (is_overlap y.order) y.grid) told facts.behind a.told b.told k n a.among b.among fa (omega arith) fb (omega arith) place in
+    let one : a.told ≡ b.told = one_bound y.graph (drawing_vars y.graph y.grid) y.grid (formula_size y.graph (is_above y.order) (is_overlap y.order) y.grid)
+    told facts.behind a.told b.told k n a.among b.among fa (omega arith) fb (omega arith) place in
     let last : (a.told).last ≡ (b.told).last = ap (λ (e : Bound). e.last) one in
     (sym la.same ∙ ap (λ (e : Bound). e.criterion) one ∙ lb.same, (omega arith))
 
 -- ---- how many bounds there are
 
-block_same : (g : Graph) (x : DrawingVars) (grid : GridSize) (b : Bound) (c : Criterion) → b.criterion ≡ c → length (bound_vars c (lines_of_bound g x grid b)) ≡ b.cap
+block_same : (g : Graph) (x : DrawingVars) (grid : GridSize) (b : Bound) (c : Criterion) → b.criterion ≡ c →
+    length (bound_vars c (lines_of_bound g x grid b)) ≡ b.cap
 block_same g x grid b c e =
     let vs = variables_behind b.last b.cap in
     ap length (flat_map-append (bound_var c) (map Formula (clauses_of_bound g x grid b)) (bound_lines b.criterion 1 vs)
@@ -125,7 +133,8 @@ block_other g x grid b c ne =
     ∙ bounds_other c b.criterion 1 vs (differs c b.criterion ne)
 
 blocks_first : (g : Graph) (x : DrawingVars) (grid : GridSize) (b : Bound) (bs : List Bound) (c : Criterion) →
-    bound_vars c (flat_map (lines_of_bound g x grid) (b ∷ bs)) ≡ bound_vars c (lines_of_bound g x grid b) ++ bound_vars c (flat_map (lines_of_bound g x grid) bs)
+    bound_vars c (flat_map (lines_of_bound g x grid) (b ∷ bs)) ≡ bound_vars c (lines_of_bound g x grid b) ++ bound_vars c
+    (flat_map (lines_of_bound g x grid) bs)
 blocks_first g x grid b bs c = flat_map-append (bound_var c) (lines_of_bound g x grid b) (flat_map (lines_of_bound g x grid) bs)
 
 with_other : (f : Criterion → ℕ) (b : Bound) (c : Criterion) → c ≢ b.criterion → with_bound f b c ≡ f c
@@ -148,30 +157,37 @@ none_of g x grid f (b ∷ bs) c h =
 not_same : (b c : Criterion) → same_criterion b c ≡ false → c ≢ b
 not_same b c e same = let k : same_criterion b c ≡ true = ap (same_criterion b) same ∙ same_itself b in let both : true ≡ false = sym k ∙ e in cc
 
-count_step : (g : Graph) (x : DrawingVars) (grid : GridSize) (f : Criterion → ℕ) (b : Bound) (bs : List Bound) (c : Criterion) (t : Bool) → same_criterion b.criterion c ≡ t → AllPairs (λ a d. a.criterion ≢ d.criterion) (b ∷ bs) →
+count_step : (g : Graph) (x : DrawingVars) (grid : GridSize) (f : Criterion → ℕ) (b : Bound) (bs : List Bound) (c : Criterion) (t : Bool) →
+    same_criterion b.criterion c ≡ t → AllPairs (λ a d. a.criterion ≢ d.criterion) (b ∷ bs) →
     (with_bound f b c ≡ 0 → length (bound_vars c (flat_map (lines_of_bound g x grid) bs)) ≡ fold with_bound (with_bound f b) bs c) → f c ≡ 0 →
     length (bound_vars c (flat_map (lines_of_bound g x grid) (b ∷ bs))) ≡ fold with_bound f (b ∷ bs) c
 count_step g x grid f b bs c true e once rest zero =
     let is : b.criterion ≡ c = same_tells b.criterion c e in
-    let others : All (λ d. c ≢ d.criterion) bs = All-weaker (λ d. b.criterion ≢ d.criterion) (λ d. c ≢ d.criterion) (λ d ne same. ne (is ∙ same)) bs (pairs_head (λ a d. a.criterion ≢ d.criterion) b bs once) in
+    let others : All (λ d. c ≢ d.criterion) bs = All-weaker (λ d. b.criterion ≢ d.criterion) (λ d. c ≢ d.criterion) (λ d ne same. ne (is ∙ same)) bs
+    (pairs_head (λ a d. a.criterion ≢ d.criterion) b bs once) in
     let none = none_of g x grid (with_bound f b) bs c others in
     let here : with_bound f b c ≡ b.cap = ap (λ t. cond t b.cap (f c)) e in
-    ap length (blocks_first g x grid b bs c ∙ ap (λ (ys : List Var). bound_vars c (lines_of_bound g x grid b) ++ ys) none.0 ∙ append-nil (bound_vars c (lines_of_bound g x grid b)))
+    ap length (blocks_first g x grid b bs c ∙ ap (λ (ys : List Var). bound_vars c (lines_of_bound g x grid b) ++ ys) none.0
+    ∙ append-nil (bound_vars c (lines_of_bound g x grid b)))
     ∙ block_same g x grid b c is ∙ sym here ∙ sym none.1
 count_step g x grid f b bs c false e once rest zero =
     let ne = not_same b.criterion c e in
     ap length (blocks_first g x grid b bs c ∙ ap (λ (ys : List Var). ys ++ bound_vars c (flat_map (lines_of_bound g x grid) bs)) (block_other g x grid b c ne))
     ∙ rest (with_other f b c ne ∙ zero)
 
-count_of : (g : Graph) (x : DrawingVars) (grid : GridSize) (f : Criterion → ℕ) (told : List Bound) (c : Criterion) → AllPairs (λ a b. a.criterion ≢ b.criterion) told → f c ≡ 0 →
+count_of : (g : Graph) (x : DrawingVars) (grid : GridSize) (f : Criterion → ℕ) (told : List Bound) (c : Criterion) →
+    AllPairs (λ a b. a.criterion ≢ b.criterion) told → f c ≡ 0 →
     length (bound_vars c (flat_map (lines_of_bound g x grid) told)) ≡ fold with_bound f told c
 count_of g x grid f [] c once zero = sym zero
 count_of g x grid f (b ∷ bs) c once zero =
-    count_step g x grid f b bs c (same_criterion b.criterion c) refl once (count_of g x grid (with_bound f b) bs c (pairs_tail (λ a d. a.criterion ≢ d.criterion) b bs once)) zero
+    count_step g x grid f b bs c (same_criterion b.criterion c) refl once (count_of g x grid (with_bound f b) bs c
+    (pairs_tail (λ a d. a.criterion ≢ d.criterion) b bs once)) zero
 
-fold_within : (f : Criterion → ℕ) (told : List Bound) (most : Criterion → ℕ) (c : Criterion) → f c ≤ most c → All (λ b. b.cap ≤ most b.criterion) told → fold with_bound f told c ≤ most c
+fold_within : (f : Criterion → ℕ) (told : List Bound) (most : Criterion → ℕ) (c : Criterion) → f c ≤ most c → All (λ b. b.cap ≤ most b.criterion) told →
+    fold with_bound f told c ≤ most c
 fold_within f [] most c le h = le
-fold_within f (b ∷ bs) most c le h = fold_within (with_bound f b) bs most c (by (same_criterion b.criterion c) refl) (All-tail (λ b. b.cap ≤ most b.criterion) b bs h)
+fold_within f (b ∷ bs) most c le h = fold_within (with_bound f b) bs most c (by (same_criterion b.criterion c) refl)
+    (All-tail (λ b. b.cap ≤ most b.criterion) b bs h)
   where
     by : (t : Bool) → same_criterion b.criterion c ≡ t → with_bound f b c ≤ most c
     by true e =
@@ -181,14 +197,16 @@ fold_within f (b ∷ bs) most c le h = fold_within (with_bound f b) bs most c (b
         subst (λ n. n ≤ most c) (sym here) (subst (λ d. b.cap ≤ most d) is top)
     by false e = subst (λ n. n ≤ most c) (sym (ap (λ t. cond t b.cap (f c)) e)) le
 
-pub lines_counted : (y : Layout) (told : List Bound) (lines : Lines) (c : Criterion) → AreTold y told → clause_lines lines ≡ told_lines y told → caps (limit_of y.graph y.grid) lines c ≡ caps_of told c
+pub lines_counted : (y : Layout) (told : List Bound) (lines : Lines) (c : Criterion) → AreTold y told → clause_lines lines ≡ told_lines y told →
+    caps (limit_of y.graph y.grid) lines c ≡ caps_of told c
 lines_counted y told lines c facts is =
     let g = y.graph in
     let x = drawing_vars y.graph y.grid in
     let first = map Formula (formula_clauses g (is_above y.order) (is_overlap y.order) y.grid) in
     let count : length (bound_vars c lines) ≡ caps_of told c =
     ap length (sym (bounds_of_clauses c lines) ∙ ap (bound_vars c) is ∙ flat_map-append (bound_var c) first (flat_map (lines_of_bound g x y.grid) told)
-    ∙ ap (λ (ys : List Var). ys ++ bound_vars c (flat_map (lines_of_bound g x y.grid) told)) (formulas_none c (formula_clauses g (is_above y.order) (is_overlap y.order) y.grid)))
+    ∙ ap (λ (ys : List Var). ys ++ bound_vars c (flat_map (lines_of_bound g x y.grid) told))
+    (formulas_none c (formula_clauses g (is_above y.order) (is_overlap y.order) y.grid)))
     ∙ count_of g x y.grid no_caps told c facts.once refl in
     let within : caps_of told c ≤ limit_of y.graph y.grid c = fold_within no_caps told (limit_of y.graph y.grid) c (omega arith) facts.within in
     least_is (length (bound_vars c lines)) (caps_of told c) (limit_of y.graph y.grid c) count within
@@ -197,7 +215,8 @@ lines_counted y told lines c facts is =
     least_is m n top e le = omega arith
 
 -- so they are known, where they belong to the solver
-pub known_lines : (y : Layout) (told : List Bound) (budget room : ℕ) (k : Kept) (lines : Lines) → AreTold y told → Belongs lines k → clause_lines lines ≡ told_lines y told → k.learnt ≡ length (flat_map learnt lines) → k.learnt ≤ budget → k.words ≤ room → k.vars ≤ VARS →
+pub known_lines : (y : Layout) (told : List Bound) (budget room : ℕ) (k : Kept) (lines : Lines) → AreTold y told → Belongs lines k →
+    clause_lines lines ≡ told_lines y told → k.learnt ≡ length (flat_map learnt lines) → k.learnt ≤ budget → k.words ≤ room → k.vars ≤ VARS →
     KnowsLines y told budget room k lines
 known_lines y told budget room k lines facts belongs are count spent fits few = record {
   facts = facts;
@@ -226,7 +245,8 @@ cap_found f (b ∷ bs) c = elim (cap_found (with_bound f b) bs c) [
   | inr h ↦ inr (record { bound = h.bound; among = Contains-append_right (b ∷ []) bs h.bound h.among; same = h.same; cap = h.cap })
 ]
   where
-    by : (t : Bool) → same_criterion b.criterion c ≡ t → fold with_bound (with_bound f b) bs c ≡ with_bound f b c → (fold with_bound f (b ∷ bs) c ≡ f c) ⊎ HasTold (b ∷ bs) c (fold with_bound f (b ∷ bs) c)
+    by : (t : Bool) → same_criterion b.criterion c ≡ t → fold with_bound (with_bound f b) bs c ≡ with_bound f b c →
+        (fold with_bound f (b ∷ bs) c ≡ f c) ⊎ HasTold (b ∷ bs) c (fold with_bound f (b ∷ bs) c)
     by true s e = inr (record { bound = b; among = (0, omega arith, refl); same = same_tells b.criterion c s; cap = sym (e ∙ ap (λ t. cond t b.cap (f c)) s) })
     by false s e = inl (e ∙ ap (λ t. cond t b.cap (f c)) s)
 

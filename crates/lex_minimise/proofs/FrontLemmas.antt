@@ -25,7 +25,8 @@ use Rattle.lex_minimise.proofs.StartLemmas.{no_room_end}
 -- ---- no room for the formula
 
 front_passes : (y : Layout) (budget room : ℕ) (a b : Criterion) →
-    (VARS < formula_size y.graph (is_above y.order) (is_overlap y.order) y.grid) ⊎ (room < words_of (formula_clauses y.graph (is_above y.order) (is_overlap y.order) y.grid)) →
+    (VARS < formula_size y.graph (is_above y.order) (is_overlap y.order) y.grid) ⊎
+    (room < words_of (formula_clauses y.graph (is_above y.order) (is_overlap y.order) y.grid)) →
     CapsPass (problem_of y) (a ∷ b ∷ []) [] room (greatest_of (task_of y budget room))
 front_passes y budget room a b (inl h) =
     let e = problem_of y in
@@ -40,7 +41,8 @@ front_passes y budget room a b (inr h) =
     inr (omega (arith, h, words, more))
 
 pub no_room_front : (y : Layout) (budget room : ℕ) (a b : Criterion) →
-    (VARS < formula_size y.graph (is_above y.order) (is_overlap y.order) y.grid) ⊎ (room < words_of (formula_clauses y.graph (is_above y.order) (is_overlap y.order) y.grid)) →
+    (VARS < formula_size y.graph (is_above y.order) (is_overlap y.order) y.grid) ⊎
+    (room < words_of (formula_clauses y.graph (is_above y.order) (is_overlap y.order) y.grid)) →
     IsFrontLog (task_of y budget room) a b Room []
 no_room_front y budget room a b full =
     let p = task_of y budget room in

@@ -1,5 +1,6 @@
 -- What a log tells after an error.
-use Rattle.std.proofs.Common.{◌≡◌, ◌≤◌, ◌<◌, ℕ, zero, suc, ◌+◌, ◌-◌, ◌⊎◌, List, [], ◌∷◌, ◌++◌, length, take, drop, map, get_or, refl, sym, ◌∙◌, ap, subst, inl, inr, arith, append-nil, append_assoc}
+use Rattle.std.proofs.Common.{◌≡◌, ◌≤◌, ◌<◌, ℕ, zero, suc, ◌+◌, ◌-◌, ◌⊎◌, List, [], ◌∷◌, ◌++◌, length, take, drop, map, get_or, refl, sym, ◌∙◌, ap, subst, inl}
+use Rattle.std.proofs.Common.{inr, arith, append-nil, append_assoc}
 use Rattle.std.proofs.lemmas.List.{map-append, take-append-drop}
 use Rattle.std.proofs.lemmas.List.Elements.{All-nil}
 use Rattle.plan_core.specs.declared.criterion.Criterion.{Criterion}
@@ -38,7 +39,8 @@ use Rattle.lex_minimise.proofs.StartLemmas.{IsFirst, first_does}
 -- ---- clauses
 
 -- one clause was to be given
-pub clause_left : (known before now : Lines → Type 0) (c d : List Literal) → d ≡ c → StillDerives known before now → GivesAtMost before now d → Leaves (Formula c ∷ []) known before now
+pub clause_left : (known before now : Lines → Type 0) (c d : List Literal) → d ≡ c → StillDerives known before now → GivesAtMost before now d →
+    Leaves (Formula c ∷ []) known before now
 clause_left known before now c d same still most = λ lines k was told is. record {
   derives = still lines k was told is;
   front = (by lines told (most lines was told is)).0;
@@ -46,7 +48,8 @@ clause_left known before now c d same still most = λ lines k was told is. recor
   gives = (by lines told (most lines was told is)).2;
 }
   where
-    by : (lines told : Lines) → (clause_lines told ≡ clause_lines lines) ⊎ (clause_lines told ≡ clause_lines lines ++ Formula d ∷ []) → (front : Lines) × BeginsLines front (Formula c ∷ []) × (clause_lines told ≡ clause_lines lines ++ front)
+    by : (lines told : Lines) → (clause_lines told ≡ clause_lines lines) ⊎ (clause_lines told ≡ clause_lines lines ++ Formula d ∷ []) →
+        (front : Lines) × BeginsLines front (Formula c ∷ []) × (clause_lines told ≡ clause_lines lines ++ front)
     by lines told (inl e) = ([], (Formula c ∷ [], refl), e ∙ sym (append-nil (clause_lines lines)))
     by lines told (inr e) = (Formula c ∷ [], ([], refl), e ∙ ap (λ (x : List Literal). clause_lines lines ++ Formula x ∷ []) same)
 
@@ -61,7 +64,8 @@ search_left known before now still no_more = λ lines k was told is. record {
 
 -- the clauses up to one of them were given
 pub clauses_left : (k0 k1 l0 l1 l2 : Lines → Type 0) (n0 n1 : ℕ) (cs : Clauses) (from at : ℕ) → from ≤ at → at < length cs →
-    GoesOn k0 k1 l0 l1 n0 n1 (λ lines more. more ≡ map Formula (take (at - from) (drop from cs))) → Leaves (Formula (get_or cs at []) ∷ []) k1 l1 l2 → Leaves (map Formula (drop from cs)) k0 l0 l2
+    GoesOn k0 k1 l0 l1 n0 n1 (λ lines more. more ≡ map Formula (take (at - from) (drop from cs))) → Leaves (Formula (get_or cs at []) ∷ []) k1 l1 l2 →
+    Leaves (map Formula (drop from cs)) k0 l0 l2
 clauses_left k0 k1 l0 l1 l2 n0 n1 cs from at low high goes h =
     let ds = drop from cs in
     let before = take (at - from) ds in
@@ -69,7 +73,8 @@ clauses_left k0 k1 l0 l1 l2 n0 n1 cs from at low high goes h =
     let xs = map Formula before in
     let ys = Formula (get_or cs at []) ∷ [] in
     let whole : (xs ++ ys) ++ map Formula (drop m ds) ≡ map Formula ds =
-    ap (λ (ls : Lines). ls ++ map Formula (drop m ds)) (sym (map-append Formula before (get_or cs at [] ∷ [])) ∙ ap (map Formula) (told_next cs from at low high))
+    ap (λ (ls : Lines). ls ++ map Formula (drop m ds)) (sym (map-append Formula before (get_or cs at [] ∷ []))
+    ∙ ap (map Formula) (told_next cs from at low high))
     ∙ sym (map-append Formula (take m ds) (drop m ds)) ∙ ap (map Formula) (take-append-drop m ds) in
     subst (λ (ls : Lines). Leaves ls k0 l0 l2) whole
     (leaves_more (xs ++ ys) (map Formula (drop m ds)) k0 l0 l2
@@ -90,10 +95,16 @@ bounds_derive lines c k [] h = subst Derives (sym (append-nil lines)) h
 bounds_derive lines c k (x ∷ xs) h =
     subst Derives (append_assoc lines (BoundLine c k x ∷ []) (bound_lines c (k + 1) xs))
     (bounds_derive (lines ++ BoundLine c k x ∷ []) c (k + 1) xs
-    (derives_more lines (BoundLine c k x) h (record { named = All-nil (λ (l : Literal). l.var ≤ (facts_of lines).greatest); answers = tt; implied = tt; says_more = tt })))
+    (derives_more lines (BoundLine c k x) h (record {
+      named = All-nil (λ (l : Literal). l.var ≤ (facts_of lines).greatest);
+      answers = tt;
+      implied = tt;
+      says_more = tt;
+    })))
 
 -- the Bound lines up to one of them were told, and no more
-pub bounds_left : (l0 l1 l2 : Lines → Type 0) (c : Criterion) (last i n : ℕ) → i ≤ n → AddsAll l0 l1 (bound_lines c 1 (variables_behind last i)) → TellsNoMore l1 l2 → ((x y : Lines) → l1 x → l1 y → x ≡ y) →
+pub bounds_left : (l0 l1 l2 : Lines → Type 0) (c : Criterion) (last i n : ℕ) → i ≤ n → AddsAll l0 l1 (bound_lines c 1 (variables_behind last i)) →
+    TellsNoMore l1 l2 → ((x y : Lines) → l1 x → l1 y → x ≡ y) →
     Leaves (bound_lines c 1 (variables_behind last n)) Derives l0 l2
 bounds_left l0 l1 l2 c last i n le adds fewer one = λ lines d was told is.
     let xs = bound_lines c 1 (variables_behind last i) in
@@ -102,17 +113,20 @@ bounds_left l0 l1 l2 c last i n le adds fewer one = λ lines d was told is.
       derives = subst Derives (sym same) (bounds_derive lines c 1 (variables_behind last i) d);
       front = xs;
       begins = bounds_begin c 1 last i n le;
-      gives = ap clause_lines same ∙ clause_lines_append lines xs ∙ ap (λ (ls : Lines). clause_lines lines ++ ls) (bounds_are_clauses c 1 (variables_behind last i));
+      gives = ap clause_lines same ∙ clause_lines_append lines xs ∙ ap (λ (ls : Lines). clause_lines lines ++ ls)
+          (bounds_are_clauses c 1 (variables_behind last i));
     }
 
 -- all were told
-pub bounds_all : (l0 l1 : Lines → Type 0) (c : Criterion) (last n : ℕ) → AddsAll l0 l1 (bound_lines c 1 (variables_behind last n)) → ((x y : Lines) → l1 x → l1 y → x ≡ y) →
+pub bounds_all : (l0 l1 : Lines → Type 0) (c : Criterion) (last n : ℕ) → AddsAll l0 l1 (bound_lines c 1 (variables_behind last n)) →
+    ((x y : Lines) → l1 x → l1 y → x ≡ y) →
     Leaves (bound_lines c 1 (variables_behind last n)) Derives l0 l1
 bounds_all l0 l1 c last n adds one = bounds_left l0 l1 l1 c last n n (omega arith) adds (λ lines h. h) one
 
 -- ---- a criterion's lines
 
-pub criterion_left : (e : Encoding) (told : List Bound) (budget room : ℕ) (b : Bound) (n : ℕ) (old new : Kept) (l0 l1 l2 : Lines → Type 0) (n0 n1 : ℕ) → IsGrown e told budget room b n old →
+pub criterion_left : (e : Encoding) (told : List Bound) (budget room : ℕ) (b : Bound) (n : ℕ) (old new : Kept) (l0 l1 l2 : Lines → Type 0) (n0 n1 : ℕ) →
+    IsGrown e told budget room b n old →
     GoesOn (λ ls. Belongs ls old) (λ ls. Belongs ls new) l0 l1 n0 n1 (λ lines more. more ≡ map Formula (drop n e.formula.clauses)) →
     Leaves (bound_lines b.criterion 1 (variables_behind b.last b.cap)) Derives l1 l2 →
     Leaves (lines_of_bound e.graph (encoded_vars e) e.grid b) (KnowsLines (layout_of e) told budget room old) l0 l2
@@ -127,7 +141,8 @@ criterion_left e told budget room b n old new l0 l1 l2 n0 n1 g goes h =
     (leaves_known ys (λ ls. Belongs ls new) Derives l1 l2 (λ lines k. k.derives) h)))
 
 -- in its clauses already
-pub criterion_begun : (e : Encoding) (told : List Bound) (budget room : ℕ) (b : Bound) (n : ℕ) (old : Kept) (l0 l1 : Lines → Type 0) → IsGrown e told budget room b n old →
+pub criterion_begun : (e : Encoding) (told : List Bound) (budget room : ℕ) (b : Bound) (n : ℕ) (old : Kept) (l0 l1 : Lines → Type 0) →
+    IsGrown e told budget room b n old →
     Leaves (map Formula (drop n e.formula.clauses)) (λ ls. Belongs ls old) l0 l1 →
     Leaves (lines_of_bound e.graph (encoded_vars e) e.grid b) (KnowsLines (layout_of e) told budget room old) l0 l1
 criterion_begun e told budget room b n old l0 l1 g h =
@@ -138,14 +153,16 @@ criterion_begun e told budget room b n old l0 l1 g h =
     (leaves_known xs (KnowsLines (layout_of e) told budget room old) (λ ls. Belongs ls old) l0 l1 (λ lines k. k.belongs) h))
 
 -- the same by the formula before
-pub build_left : (old new : Encoding) (told ts : List Bound) (budget spend room size : ℕ) (k : Kept) (c : Criterion) (cap : ℕ) (b : Bound) (l0 l1 : Lines → Type 0) → 1 ≤ cap → IsReady old told budget room k → HasGrown old new (bound c old.formula.vars cap) →
+pub build_left : (old new : Encoding) (told ts : List Bound) (budget spend room size : ℕ) (k : Kept) (c : Criterion) (cap : ℕ) (b : Bound)
+    (l0 l1 : Lines → Type 0) → 1 ≤ cap → IsReady old told budget room k → HasGrown old new (bound c old.formula.vars cap) →
     b ≡ bound c old.formula.vars cap → ts ≡ told → spend ≡ budget → size ≡ room →
     Leaves (lines_of_bound new.graph (encoded_vars new) new.grid b) (KnowsLines (layout_of new) ts spend size k) l0 l1 →
     Leaves (sum_lines (problem_of (layout_of old)) k.vars c cap) (KnowsLines (layout_of old) told budget room k) l0 l1
 build_left old new told ts budget spend room size k c cap b l0 l1 positive ready g is_bound is_told is_budget is_room h =
     let a = bound c old.formula.vars cap in
     let same : lines_of_bound old.graph (drawing_vars old.graph old.grid) old.grid a ≡ sum_lines (problem_of (layout_of old)) k.vars c cap =
-    ap (λ n. lines_of_bound old.graph (drawing_vars old.graph old.grid) old.grid (bound c n cap)) (sym ready.vars) ∙ sym (sum_is_bound old.graph (is_above old.order) (is_overlap old.order) old.grid k.vars c cap positive) in
+    ap (λ n. lines_of_bound old.graph (drawing_vars old.graph old.grid) old.grid (bound c n cap)) (sym ready.vars)
+    ∙ sym (sum_is_bound old.graph (is_above old.order) (is_overlap old.order) old.grid k.vars c cap positive) in
     subst (λ (ls : Lines). Leaves ls (KnowsLines (layout_of old) told budget room k) l0 l1) same
     (subst (λ (y : Layout). Leaves (lines_of_bound y.graph (drawing_vars y.graph y.grid) y.grid a) (KnowsLines y told budget room k) l0 l1) g.layout
     (subst (λ (x : Bound). Leaves (lines_of_bound new.graph (encoded_vars new) new.grid x) (KnowsLines (layout_of new) told budget room k) l0 l1) is_bound
@@ -157,7 +174,8 @@ build_left old new told ts budget spend room size k c cap b l0 l1 positive ready
 
 -- the solver answered, and then an error came that told nothing
 pub answer_left : (y : Layout) (told : List Bound) (budget room : ℕ) (old new : Kept) (l0 l1 : Lines → Type 0) (n0 n1 : ℕ) (R : Lines → Lines → Type 0) →
-    GoesOn (KnowsLines y told budget room old) (KnowsLines y told budget room new) l0 l1 n0 n1 R → Leaves [] (KnowsLines y told budget room new) l1 l1 → Leaves [] (KnowsLines y told budget room old) l0 l1
+    GoesOn (KnowsLines y told budget room old) (KnowsLines y told budget room new) l0 l1 n0 n1 R → Leaves [] (KnowsLines y told budget room new) l1 l1 →
+    Leaves [] (KnowsLines y told budget room old) l0 l1
 answer_left y told budget room old new l0 l1 n0 n1 R goes h =
     leaves_then (KnowsLines y told budget room old) (KnowsLines y told budget room new) l0 l1 l1 n0 n1 R [] [] goes
     (λ lines more ka kb r. kb.told_are ∙ sym ka.told_are ∙ sym (append-nil (clause_lines lines))) h
@@ -165,24 +183,30 @@ answer_left y told budget room old new l0 l1 n0 n1 R goes h =
 -- ---- a search of either kind
 
 -- an error in the formula's clauses, where these are the first of what is expected
-formula_left : (y : Layout) (budget room : ℕ) (expected more : Lines) (e : Encoding) (f : Cnf) (old : Kept) (l0 l1 : Lines → Type 0) → IsFirst y room e → f ≡ e.formula → old ≡ blank room →
+formula_left : (y : Layout) (budget room : ℕ) (expected more : Lines) (e : Encoding) (f : Cnf) (old : Kept) (l0 l1 : Lines → Type 0) → IsFirst y room e →
+    f ≡ e.formula → old ≡ blank room →
     expected ≡ first_lines (task_of y budget room) ++ more →
-    Leaves (map Formula (drop 0 f.clauses)) (λ ls. Belongs ls old) l0 l1 → l0 [] → (lines : Lines) → l1 lines → Derives lines × BeginsLines (clause_lines lines) expected
+    Leaves (map Formula (drop 0 f.clauses)) (λ ls. Belongs ls old) l0 l1 → l0 [] → (lines : Lines) → l1 lines →
+    Derives lines × BeginsLines (clause_lines lines) expected
 formula_left y budget room expected more e f old l0 l1 first is blank_is all h none lines told =
     let p = task_of y budget room in
     let left = h [] (new_belongs old room blank_is) none lines told in
-    let clauses : map Formula (drop 0 f.clauses) ≡ first_lines p = first_does y budget room e f (map Formula (drop 0 f.clauses)) first is refl ∙ ap (λ (z : Layout). first_lines (task_of z budget room)) first.layout in
+    let clauses : map Formula (drop 0 f.clauses) ≡ first_lines p = first_does y budget room e f (map Formula (drop 0 f.clauses)) first is refl
+    ∙ ap (λ (z : Layout). first_lines (task_of z budget room)) first.layout in
     let rest = left.begins.0 in
     let begins : BeginsLines (clause_lines lines) expected = (
       rest ++ more,
-      all ∙ ap (λ (ls : Lines). ls ++ more) (sym clauses ∙ left.begins.1 ∙ ap (λ (ls : Lines). ls ++ rest) (sym left.gives)) ∙ append_assoc (clause_lines lines) rest more,
+      all ∙ ap (λ (ls : Lines). ls ++ more) (sym clauses ∙ left.begins.1 ∙ ap (λ (ls : Lines). ls ++ rest) (sym left.gives))
+          ∙ append_assoc (clause_lines lines) rest more,
     ) in
     (left.derives, begins)
 
 -- an error behind the formula's clauses
-pub behind_formula_left : (P : Task → Lines → Type 0) (y : Layout) (budget room : ℕ) (e : Encoding) (f : Cnf) (old mid : Kept) (l0 l1 l2 : Lines → Type 0) (n0 n1 : ℕ) → IsFirst y room e → f ≡ e.formula → old ≡ blank room →
+pub behind_formula_left : (P : Task → Lines → Type 0) (y : Layout) (budget room : ℕ) (e : Encoding) (f : Cnf) (old mid : Kept) (l0 l1 l2 : Lines → Type 0)
+    (n0 n1 : ℕ) → IsFirst y room e → f ≡ e.formula → old ≡ blank room →
     GoesOn (λ ls. Belongs ls old) (λ ls. Belongs ls mid) l0 l1 n0 n1 (λ lines more. more ≡ map Formula (drop 0 f.clauses)) →
-    (l1 (first_lines (task_of (layout_of e) budget room)) → (lines : Lines) → l2 lines → P (task_of (layout_of e) budget room) lines) → l0 [] → (lines : Lines) → l2 lines → P (task_of y budget room) lines
+    (l1 (first_lines (task_of (layout_of e) budget room)) → (lines : Lines) → l2 lines → P (task_of (layout_of e) budget room) lines) → l0 [] →
+    (lines : Lines) → l2 lines → P (task_of y budget room) lines
 behind_formula_left P y budget room e f old mid l0 l1 l2 n0 n1 first is blank_is goes h none lines told =
     let run : ToldBehind (λ ls. Belongs ls mid) l0 l1 n0 n1 [] (λ more. more ≡ map Formula (drop 0 f.clauses)) = goes [] (new_belongs old room blank_is) in
     let start = subst l1 (first_does y budget room e f run.more first is run.does) (run.told [] none) in
@@ -194,13 +218,15 @@ abbrev front_rest : Task → Criterion → Criterion → Lines
 front_rest p a b = sums p.encoding p.encoding.vars (a ∷ b ∷ []) (greatest_of p)
 
 -- nothing was told
-pub front_unbegun : (y : Layout) (budget room : ℕ) (a b : Criterion) (log : Lines → Type 0) → ((x z : Lines) → log x → log z → x ≡ z) → log [] → (lines : Lines) → log lines → IsFrontLeft (task_of y budget room) a b lines
+pub front_unbegun : (y : Layout) (budget room : ℕ) (a b : Criterion) (log : Lines → Type 0) → ((x z : Lines) → log x → log z → x ≡ z) → log [] →
+    (lines : Lines) → log lines → IsFrontLeft (task_of y budget room) a b lines
 front_unbegun y budget room a b log one none lines is =
     let p = task_of y budget room in
     subst (IsFrontLeft p a b) (one [] lines none is) (record { derives = derives_none; begins = (front_lines p a b, refl) })
 
 -- an error in the formula's clauses
-pub front_begun : (y : Layout) (budget room : ℕ) (a b : Criterion) (e : Encoding) (f : Cnf) (old : Kept) (l0 l1 : Lines → Type 0) → IsFirst y room e → f ≡ e.formula → old ≡ blank room →
+pub front_begun : (y : Layout) (budget room : ℕ) (a b : Criterion) (e : Encoding) (f : Cnf) (old : Kept) (l0 l1 : Lines → Type 0) → IsFirst y room e →
+    f ≡ e.formula → old ≡ blank room →
     Leaves (map Formula (drop 0 f.clauses)) (λ ls. Belongs ls old) l0 l1 → l0 [] → (lines : Lines) → l1 lines → IsFrontLeft (task_of y budget room) a b lines
 front_begun y budget room a b e f old l0 l1 first is blank_is h none lines told =
     let p = task_of y budget room in
@@ -214,15 +240,18 @@ unbounded : (p : Task) (order : List Criterion) → expected_lines p.encoding or
 unbounded p order = zero_told p order (λ c. 0) (λ c. refl)
 
 -- nothing was told
-pub values_unbegun : (y : Layout) (budget room : ℕ) (order : List Criterion) (log : Lines → Type 0) → ((x z : Lines) → log x → log z → x ≡ z) → log [] → (lines : Lines) → log lines → IsLeastLeft (task_of y budget room) order lines
+pub values_unbegun : (y : Layout) (budget room : ℕ) (order : List Criterion) (log : Lines → Type 0) → ((x z : Lines) → log x → log z → x ≡ z) → log [] →
+    (lines : Lines) → log lines → IsLeastLeft (task_of y budget room) order lines
 values_unbegun y budget room order log one none lines is =
     let p = task_of y budget room in
     subst (IsLeastLeft p order) (one [] lines none is) (record { derives = derives_none; cap = λ c. 0; begins = (first_lines p, unbounded p order) })
 
 -- an error in the formula's clauses
-pub values_begun : (y : Layout) (budget room : ℕ) (order : List Criterion) (e : Encoding) (f : Cnf) (old : Kept) (l0 l1 : Lines → Type 0) → IsFirst y room e → f ≡ e.formula → old ≡ blank room →
+pub values_begun : (y : Layout) (budget room : ℕ) (order : List Criterion) (e : Encoding) (f : Cnf) (old : Kept) (l0 l1 : Lines → Type 0) → IsFirst y room e →
+    f ≡ e.formula → old ≡ blank room →
     Leaves (map Formula (drop 0 f.clauses)) (λ ls. Belongs ls old) l0 l1 → l0 [] → (lines : Lines) → l1 lines → IsLeastLeft (task_of y budget room) order lines
 values_begun y budget room order e f old l0 l1 first is blank_is h none lines told =
     let p = task_of y budget room in
-    let left = formula_left y budget room (expected_lines p.encoding order (λ c. 0)) [] e f old l0 l1 first is blank_is (unbounded p order ∙ sym (append-nil (first_lines p))) h none lines told in
+    let left = formula_left y budget room (expected_lines p.encoding order (λ c. 0)) [] e f old l0 l1 first is blank_is
+    (unbounded p order ∙ sym (append-nil (first_lines p))) h none lines told in
     record { derives = left.0; cap = λ c. 0; begins = left.1 }

@@ -1,5 +1,6 @@
 -- The start of a search, and the whole of its lines.
-use Rattle.std.proofs.Common.{◌≡◌, ◌≤◌, ◌<◌, ℕ, ◌+◌, ◌-◌, ◌⊎◌, false, List, [], ◌++◌, length, drop, map, refl, sym, ◌∙◌, ap, subst, inl, inr, arith, append-nil, append_assoc, Result, Ok, Err, IfOk}
+use Rattle.std.proofs.Common.{◌≡◌, ◌≤◌, ◌<◌, ℕ, ◌+◌, ◌-◌, ◌⊎◌, false, List, [], ◌++◌, length, drop, map, refl, sym, ◌∙◌, ap, subst, inl, inr, arith}
+use Rattle.std.proofs.Common.{append-nil, append_assoc, Result, Ok, Err, IfOk}
 use Rattle.std.specs.Prelude.{All, Contains, None, flat_map}
 use Rattle.std.proofs.lemmas.List.Elements.{All-nil}
 use Rattle.outside_io.specs.Counts.{rose_by}
@@ -58,7 +59,8 @@ no_caps_yet : (greatest : Criterion → ℕ) (order : List Criterion) → All (�
 no_caps_yet greatest order = λ i d lt. omega arith
 
 pub no_room_end : (y : Layout) (budget room : ℕ) (order : List Criterion) →
-    (VARS < formula_size y.graph (is_above y.order) (is_overlap y.order) y.grid) ⊎ (room < words_of (formula_clauses y.graph (is_above y.order) (is_overlap y.order) y.grid)) →
+    (VARS < formula_size y.graph (is_above y.order) (is_overlap y.order) y.grid) ⊎
+    (room < words_of (formula_clauses y.graph (is_above y.order) (is_overlap y.order) y.grid)) →
     IsOutcome (task_of y budget room) order (Room None 0) []
 no_room_end y budget room order full =
     let p = task_of y budget room in
@@ -82,13 +84,16 @@ no_room_end y budget room order full =
       cause = inr (refl, passes full);
     }
   where
-    passes : (VARS < formula_size y.graph (is_above y.order) (is_overlap y.order) y.grid) ⊎ (room < words_of (formula_clauses y.graph (is_above y.order) (is_overlap y.order) y.grid)) →
+    passes : (VARS < formula_size y.graph (is_above y.order) (is_overlap y.order) y.grid) ⊎
+        (room < words_of (formula_clauses y.graph (is_above y.order) (is_overlap y.order) y.grid)) →
         CapsPass (problem_of y) order [] room (caps (limit_of y.graph y.grid) [])
-    passes (inl h) = inl (subst (λ n. VARS < n) (sym (expected_vars_none (problem_of y) order (caps (limit_of y.graph y.grid) []) (no_caps_yet (limit_of y.graph y.grid) order))) h)
+    passes (inl h) = inl (subst (λ n. VARS < n) (sym (expected_vars_none (problem_of y) order (caps (limit_of y.graph y.grid) [])
+        (no_caps_yet (limit_of y.graph y.grid) order))) h)
     passes (inr h) =
         let cs = formula_clauses y.graph (is_above y.order) (is_overlap y.order) y.grid in
         let words : words_of (flat_map given (expected_lines (problem_of y) order (caps (limit_of y.graph y.grid) []))) ≡ words_of cs =
-        ap (λ (ls : Lines). words_of (flat_map given ls)) (expected_none (problem_of y) order (caps (limit_of y.graph y.grid) []) (no_caps_yet (limit_of y.graph y.grid) order)) ∙ ap words_of (given_formulas cs) in
+        ap (λ (ls : Lines). words_of (flat_map given ls)) (expected_none (problem_of y) order (caps (limit_of y.graph y.grid) [])
+        (no_caps_yet (limit_of y.graph y.grid) order)) ∙ ap words_of (given_formulas cs) in
         inr (omega (arith, h, words))
 
 -- ---- the formula's clauses were told
@@ -97,7 +102,8 @@ told_none : (y : Layout) → told_clauses y [] ≡ formula_clauses y.graph (is_a
 told_none y = append-nil (formula_clauses y.graph (is_above y.order) (is_overlap y.order) y.grid)
 
 -- with no bound yet
-first_told : (y : Layout) → Covers y.graph (is_above y.order) y.grid (drawing_vars y.graph y.grid) (formula_clauses y.graph (is_above y.order) (is_overlap y.order) y.grid) → AreTold y []
+first_told : (y : Layout) → Covers y.graph (is_above y.order) y.grid (drawing_vars y.graph y.grid)
+    (formula_clauses y.graph (is_above y.order) (is_overlap y.order) y.grid) → AreTold y []
 first_told y covers = record {
   once = λ i j d lt low. absurd (omega arith);
   within = All-nil (λ (b : Bound). b.cap ≤ limit_of y.graph y.grid b.criterion);
@@ -131,21 +137,26 @@ pub layout_is : (e : Encoding) (g : Graph) (o : EdgeOrder) (grid : GridSize) →
 layout_is e g o grid a b c = ap (λ (x : Graph). layout x e.order e.grid) a ∙ ap (λ (x : EdgeOrder). layout g x e.grid) b ∙ ap (λ (x : GridSize). layout g o x) c
 
 -- the clauses of the formula are all from the first on
-first_clauses : (y : Layout) (room : ℕ) (e : Encoding) (f : Cnf) → IsFirst y room e → f ≡ e.formula → drop 0 f.clauses ≡ formula_clauses y.graph (is_above y.order) (is_overlap y.order) y.grid
+first_clauses : (y : Layout) (room : ℕ) (e : Encoding) (f : Cnf) → IsFirst y room e → f ≡ e.formula →
+    drop 0 f.clauses ≡ formula_clauses y.graph (is_above y.order) (is_overlap y.order) y.grid
 first_clauses y room e f first is = ap (λ (x : Cnf). x.clauses) is ∙ first.clauses
 
-pub first_does : (y : Layout) (budget room : ℕ) (e : Encoding) (f : Cnf) (more : Lines) → IsFirst y room e → f ≡ e.formula → more ≡ map Formula (drop 0 f.clauses) → more ≡ first_lines (task_of (layout_of e) budget room)
+pub first_does : (y : Layout) (budget room : ℕ) (e : Encoding) (f : Cnf) (more : Lines) → IsFirst y room e → f ≡ e.formula →
+    more ≡ map Formula (drop 0 f.clauses) → more ≡ first_lines (task_of (layout_of e) budget room)
 first_does y budget room e f more first is does =
-    does ∙ ap (map Formula) (first_clauses y room e f first is) ∙ ap (λ (z : Layout). map Formula (formula_clauses z.graph (is_above z.order) (is_overlap z.order) z.grid)) (sym first.layout)
+    does ∙ ap (map Formula) (first_clauses y room e f first is) ∙ ap (λ (z : Layout). map Formula
+    (formula_clauses z.graph (is_above z.order) (is_overlap z.order) z.grid)) (sym first.layout)
 
-pub first_ready : (y : Layout) (budget room : ℕ) (e : Encoding) (f : Cnf) (old new : Kept) → IsFirst y room e → f ≡ e.formula → old ≡ blank room → HasTaken (with_more_vars old (f.vars - old.vars)) new (drop 0 f.clauses) → IsReady e [] budget room new
+pub first_ready : (y : Layout) (budget room : ℕ) (e : Encoding) (f : Cnf) (old new : Kept) → IsFirst y room e → f ≡ e.formula → old ≡ blank room →
+    HasTaken (with_more_vars old (f.vars - old.vars)) new (drop 0 f.clauses) → IsReady e [] budget room new
 first_ready y budget room e f old new first is blank_is t =
     let given : AreGiven (drop 0 f.clauses) new.clauses = t.given [] (new_given old room blank_is) in
     record {
       whole = first.whole;
       bounds = first.bounds;
       facts = first_told (layout_of e)
-          (subst (λ (z : Layout). Covers z.graph (is_above z.order) z.grid (drawing_vars z.graph z.grid) (formula_clauses z.graph (is_above z.order) (is_overlap z.order) z.grid)) (sym first.layout) first.covers);
+          (subst (λ (z : Layout). Covers z.graph (is_above z.order) z.grid (drawing_vars z.graph z.grid)
+          (formula_clauses z.graph (is_above z.order) (is_overlap z.order) z.grid)) (sym first.layout) first.covers);
       working = t.working;
       vars = (let v = t.vars in let z = ap (λ (k : Kept). k.vars) blank_is in let w = ap (λ (x : Cnf). x.vars) is in omega (arith, v, z, w));
       room_is = t.room ∙ ap (λ (k : Kept). k.room) blank_is;
@@ -154,7 +165,8 @@ first_ready y budget room e f old new first is blank_is t =
       spent = (let l = t.learnt in let z = ap (λ (k : Kept). k.learnt) blank_is in omega (arith, l, z));
     }
 
-pub first_knows : (y : Layout) (budget room : ℕ) (e : Encoding) (f : Cnf) (old new : Kept) (l0 l1 : Lines → Type 0) (n0 n1 : ℕ) → IsFirst y room e → f ≡ e.formula → old ≡ blank room →
+pub first_knows : (y : Layout) (budget room : ℕ) (e : Encoding) (f : Cnf) (old new : Kept) (l0 l1 : Lines → Type 0) (n0 n1 : ℕ) → IsFirst y room e →
+    f ≡ e.formula → old ≡ blank room →
     HasTaken (with_more_vars old (f.vars - old.vars)) new (drop 0 f.clauses) →
     GoesOn (λ ls. Belongs ls old) (λ ls. Belongs ls new) l0 l1 n0 n1 (λ lines more. more ≡ map Formula (drop 0 f.clauses)) →
     KnowsLines (layout_of e) [] budget room new (first_lines (task_of (layout_of e) budget room))
@@ -162,7 +174,8 @@ first_knows y budget room e f old new l0 l1 n0 n1 first is blank_is t goes =
     let ready = first_ready y budget room e f old new first is blank_is t in
     let cs = formula_clauses e.graph (is_above e.order) (is_overlap e.order) e.grid in
     let told : ToldBehind (λ ls. Belongs ls new) l0 l1 n0 n1 [] (λ more. more ≡ map Formula (drop 0 f.clauses)) = goes [] (new_belongs old room blank_is) in
-    let belongs : Belongs (map Formula cs) new = subst (λ (ls : Lines). Belongs ls new) (first_does y budget room e f told.more first is told.does) told.knows in
+    let belongs : Belongs (map Formula cs) new = subst (λ (ls : Lines). Belongs ls new) (first_does y budget room e f told.more first is told.does)
+    told.knows in
     let words = t.words in
     let none = ap (λ (k : Kept). k.words) blank_is in
     let all = ap words_of (first_clauses y room e f first is) in
@@ -180,7 +193,8 @@ first_knows y budget room e f old new l0 l1 n0 n1 first is blank_is t goes =
 
 -- a log was told the lines of a formula, and those of a search behind them
 pub told_whole : (first : Lines) (R : Lines → Type 0) (room : ℕ) (old mid new : Kept) (l0 l1 l2 : Lines → Type 0) (n0 n1 n2 : ℕ) → old ≡ blank room →
-    GoesOn (λ ls. Belongs ls old) (λ ls. Belongs ls mid) l0 l1 n0 n1 (λ lines more. more ≡ first) → ToldBehind (IsLogOfSolver new) l1 l2 n1 n2 first (λ more. R (first ++ more)) →
+    GoesOn (λ ls. Belongs ls old) (λ ls. Belongs ls mid) l0 l1 n0 n1 (λ lines more. more ≡ first) →
+    ToldBehind (IsLogOfSolver new) l1 l2 n1 n2 first (λ more. R (first ++ more)) →
     (lines : Lines) × IsToldTo l0 l2 n0 n2 lines × R lines × IsLogOfSolver new lines
 told_whole first R room old mid new l0 l1 l2 n0 n1 n2 blank_is goes second =
     let told : ToldBehind (λ ls. Belongs ls mid) l0 l1 n0 n1 [] (λ more. more ≡ first) = goes [] (new_belongs old room blank_is) in
@@ -190,23 +204,28 @@ told_whole first R room old mid new l0 l1 l2 n0 n1 n2 blank_is goes second =
       record {
         behind = λ ls t. subst l2 (append_assoc ls told.more second.more) (second.told (ls ++ told.more) (told.told ls t));
         counted = second.counted ∙ ap (rose_by (length (flat_map learnt second.more))) told.counted
-            ∙ rose_both (length (flat_map learnt told.more)) (length (flat_map learnt second.more)) n0 ∙ ap (λ n. rose_by n n0) (sym (count_more told.more second.more));
+            ∙ rose_both (length (flat_map learnt told.more)) (length (flat_map learnt second.more)) n0
+            ∙ ap (λ n. rose_by n n0) (sym (count_more told.more second.more));
       },
       subst R same second.does,
       subst (IsLogOfSolver new) same second.knows,
     )
 
-pub whole_told : (y : Layout) (budget room : ℕ) (e : Encoding) (f : Cnf) (R : Layout → Lines → Type 0) (old mid new : Kept) (l0 l1 l2 : Lines → Type 0) (n0 n1 n2 : ℕ) → IsFirst y room e → f ≡ e.formula → old ≡ blank room →
+pub whole_told : (y : Layout) (budget room : ℕ) (e : Encoding) (f : Cnf) (R : Layout → Lines → Type 0) (old mid new : Kept) (l0 l1 l2 : Lines → Type 0)
+    (n0 n1 n2 : ℕ) → IsFirst y room e → f ≡ e.formula → old ≡ blank room →
     GoesOn (λ ls. Belongs ls old) (λ ls. Belongs ls mid) l0 l1 n0 n1 (λ lines more. more ≡ map Formula (drop 0 f.clauses)) →
-    ToldBehind (IsLogOfSolver new) l1 l2 n1 n2 (first_lines (task_of (layout_of e) budget room)) (λ more. R (layout_of e) (first_lines (task_of (layout_of e) budget room) ++ more)) →
+    ToldBehind (IsLogOfSolver new) l1 l2 n1 n2 (first_lines (task_of (layout_of e) budget room))
+    (λ more. R (layout_of e) (first_lines (task_of (layout_of e) budget room) ++ more)) →
     (lines : Lines) × IsToldTo l0 l2 n0 n2 lines × R y lines × IsLogOfSolver new lines
 whole_told y budget room e f R old mid new l0 l1 l2 n0 n1 n2 first is blank_is goes second =
     let start : Lines = first_lines (task_of (layout_of e) budget room) in
     let told = told_whole start (R (layout_of e)) room old mid new l0 l1 l2 n0 n1 n2 blank_is
-    (goes_weaker (λ ls. Belongs ls old) (λ ls. Belongs ls mid) l0 l1 n0 n1 (λ lines more. more ≡ map Formula (drop 0 f.clauses)) (λ lines more. more ≡ start) goes (λ lines more does. first_does y budget room e f more first is does)) second in
+    (goes_weaker (λ ls. Belongs ls old) (λ ls. Belongs ls mid) l0 l1 n0 n1 (λ lines more. more ≡ map Formula (drop 0 f.clauses)) (λ lines more. more ≡ start)
+    goes (λ lines more does. first_does y budget room e f more first is does)) second in
     (told.0, told.1, subst (λ (z : Layout). R z told.0) first.layout told.2, told.3)
 
-pub nothing_told : (k : Kept) (room n : ℕ) (R : Lines → Type 0) (log : Lines → Type 0) → k ≡ blank room → R [] → (lines : Lines) × IsToldTo log log n n lines × R lines × IsLogOfSolver k lines
+pub nothing_told : (k : Kept) (room n : ℕ) (R : Lines → Type 0) (log : Lines → Type 0) → k ≡ blank room → R [] →
+    (lines : Lines) × IsToldTo log log n n lines × R lines × IsLogOfSolver k lines
 nothing_told k room n R log is end = (
   [],
   record { behind = λ ls t. subst log (sym (append-nil ls)) t; counted = refl },

@@ -50,7 +50,8 @@ over e lines line a passes is = record {
   passes = passes;
 }
 
-pub next_comes : (e : Expectation) (lines : Lines) (line : LogLine) (now more : Awaited) → clause_line line ≡ line ∷ [] → AreAwaited e lines (Some now) → IsAwaited more → awaited_lines now ≡ line ∷ awaited_lines more →
+pub next_comes : (e : Expectation) (lines : Lines) (line : LogLine) (now more : Awaited) → clause_line line ≡ line ∷ [] → AreAwaited e lines (Some now) →
+    IsAwaited more → awaited_lines now ≡ line ∷ awaited_lines more →
     AreAwaited e (lines ++ line ∷ []) (Some more)
 next_comes e lines line now more is h ready comes = (
   h.0,
@@ -60,14 +61,16 @@ next_comes e lines line now more is h ready comes = (
       ∙ ap (λ (ls : Lines). ls ++ awaited_lines more) (sym (clauses_last lines line)),
 )
 
-pub other_comes : (e : Expectation) (lines : Lines) (line : LogLine) (now : Awaited) → clause_line line ≡ line ∷ [] → AreAwaited e lines (Some now) → ((more : Lines) → awaited_lines now ≡ line ∷ more → ⊥) →
+pub other_comes : (e : Expectation) (lines : Lines) (line : LogLine) (now : Awaited) → clause_line line ≡ line ∷ [] → AreAwaited e lines (Some now) →
+    ((more : Lines) → awaited_lines now ≡ line ∷ more → ⊥) →
     (IsOverLimits e lines line → ⊥) × (IsNextExpected e lines line → ⊥)
 other_comes e lines line now is h none = (
   (λ o. h.0 o.passes),
   (
       λ next.
       let split : clause_lines lines ++ awaited_lines now ≡ clause_lines lines ++ (line ∷ next.0) =
-      sym h.2 ∙ next.1 ∙ ap (λ (ls : Lines). ls ++ next.0) (clauses_last lines line ∙ ap (λ (ls : Lines). clause_lines lines ++ ls) is) ∙ append_assoc (clause_lines lines) (line ∷ []) next.0 in
+      sym h.2 ∙ next.1 ∙ ap (λ (ls : Lines). ls ++ next.0) (clauses_last lines line ∙ ap (λ (ls : Lines). clause_lines lines ++ ls) is)
+      ∙ append_assoc (clause_lines lines) (line ∷ []) next.0 in
       none next.0 (same_rest (clause_lines lines) (awaited_lines now) (line ∷ next.0) split)
       ),
 )
@@ -75,7 +78,8 @@ other_comes e lines line now is h none = (
 -- ---- behind the comparison
 
 -- the next expected line
-pub compared_next : (e : Expectation) (lines : Lines) (line : LogLine) (old new : Progress) (more : Awaited) → HasAccepted e lines old → AreAwaited e (lines ++ line ∷ []) (Some more) →
+pub compared_next : (e : Expectation) (lines : Lines) (line : LogLine) (old new : Progress) (more : Awaited) → HasAccepted e lines old →
+    AreAwaited e (lines ++ line ∷ []) (Some more) →
     new.awaited ≡ Some more → new.checker ≡ old.checker → new.bounds.items ≡ old.bounds.items → HasCompared e lines line new
 compared_next e lines line old new more h next awaited checker bounds = record {
   accepted = h.accepted;
@@ -87,7 +91,8 @@ compared_next e lines line old new more h next awaited checker bounds = record {
 }
 
 -- a line that isn't compared
-pub compared_same : (e : Expectation) (lines : Lines) (line : LogLine) (p : Progress) → HasAccepted e lines p → clause_line line ≡ [] → HasCompared e lines line p
+pub compared_same : (e : Expectation) (lines : Lines) (line : LogLine) (p : Progress) → HasAccepted e lines p → clause_line line ≡ [] →
+    HasCompared e lines line p
 compared_same e lines line p h none =
     let same : clause_lines lines ≡ clause_lines (lines ++ line ∷ []) = sym (same_clauses lines line none) in
     record {
@@ -105,7 +110,8 @@ compared_same e lines line p h none =
 
 -- ---- the checker accepts it
 
-words_within : (kept : CheckedFacts) (lines : Lines) (line : LogLine) → kept ≡ kept_of_lines lines → words_of (flat_map added lines) ≤ ROOM → (LacksRoom kept line → ⊥) → words_of (flat_map added (lines ++ line ∷ [])) ≤ ROOM
+words_within : (kept : CheckedFacts) (lines : Lines) (line : LogLine) → kept ≡ kept_of_lines lines → words_of (flat_map added lines) ≤ ROOM →
+    (LacksRoom kept line → ⊥) → words_of (flat_map added (lines ++ line ∷ [])) ≤ ROOM
 words_within kept lines line is room fits =
     subst (λ (cs : Clauses). words_of cs ≤ ROOM) (sym (flat_map_last added lines line)) (by line (subst (λ (k : CheckedFacts). LacksRoom k line → ⊥) is fits))
   where
@@ -120,7 +126,8 @@ words_within kept lines line is room fits =
     by (Refuted c) free = subst (λ (cs : Clauses). words_of cs ≤ ROOM) (sym (append-nil (flat_map added lines))) room
     by Model free = subst (λ (cs : Clauses). words_of cs ≤ ROOM) (sym (append-nil (flat_map added lines))) room
 
-pub accepted_more : (e : Expectation) (lines : Lines) (line : LogLine) (p : Progress) (new : CheckedFacts) → HasCompared e lines line p → Accepts p.checker new line → AreAccepted e (lines ++ line ∷ [])
+pub accepted_more : (e : Expectation) (lines : Lines) (line : LogLine) (p : Progress) (new : CheckedFacts) → HasCompared e lines line p →
+    Accepts p.checker new line → AreAccepted e (lines ++ line ∷ [])
 accepted_more e lines line p new h a = record {
   front = h.compared.expected;
   within = h.within;
@@ -131,11 +138,13 @@ accepted_more e lines line p new h a = record {
 abbrev kept_with : Facts → CheckedFacts
 kept_with facts = record { room = ROOM; facts = facts; lost = false }
 
-kept_more : (old new : CheckedFacts) (lines : Lines) (line : LogLine) → old ≡ kept_of_lines lines → new ≡ kept_after old line → new ≡ kept_of_lines (lines ++ line ∷ [])
+kept_more : (old new : CheckedFacts) (lines : Lines) (line : LogLine) → old ≡ kept_of_lines lines → new ≡ kept_after old line →
+    new ≡ kept_of_lines (lines ++ line ∷ [])
 kept_more old new lines line is more =
     more ∙ ap (λ (k : CheckedFacts). kept_after k line) is ∙ ap kept_with (sym (facts_more lines line))
 
-pub has_accepted : (e : Expectation) (lines : Lines) (line : LogLine) (old new : Progress) → HasCompared e lines line old → Accepts old.checker new.checker line → new.awaited ≡ old.awaited → new.bounds.items ≡ old.bounds.items ++ told_bound line →
+pub has_accepted : (e : Expectation) (lines : Lines) (line : LogLine) (old new : Progress) → HasCompared e lines line old →
+    Accepts old.checker new.checker line → new.awaited ≡ old.awaited → new.bounds.items ≡ old.bounds.items ++ told_bound line →
     HasAccepted e (lines ++ line ∷ []) new
 has_accepted e lines line old new h a awaited bounds = record {
   accepted = accepted_more e lines line old new.checker h a;
@@ -147,10 +156,12 @@ has_accepted e lines line old new h a awaited bounds = record {
 -- ---- the checker refuses it
 
 -- the bounds with those of one line more
-pub bounds_pushed : (line : LogLine) (old new : List ToldBound) (b : ToldBound) → option_to_list (Some b) ≡ told_bound line → new ≡ old ++ b ∷ [] → new ≡ old ++ told_bound line
+pub bounds_pushed : (line : LogLine) (old new : List ToldBound) (b : ToldBound) → option_to_list (Some b) ≡ told_bound line → new ≡ old ++ b ∷ [] →
+    new ≡ old ++ told_bound line
 bounds_pushed line old new b told is = is ∙ ap (λ (bs : List ToldBound). old ++ bs) told
 
-pub bounds_kept : (line : LogLine) (bounds : List ToldBound) (r : Option ToldBound) → option_to_list r ≡ told_bound line → ((b : ToldBound) → r ≡ Some b → ⊥) → bounds ≡ bounds ++ told_bound line
+pub bounds_kept : (line : LogLine) (bounds : List ToldBound) (r : Option ToldBound) → option_to_list r ≡ told_bound line → ((b : ToldBound) → r ≡ Some b → ⊥) →
+    bounds ≡ bounds ++ told_bound line
 bounds_kept line bounds None told other = sym (append-nil bounds) ∙ ap (λ (bs : List ToldBound). bounds ++ bs) told
 bounds_kept line bounds (Some b) told other = absurd (other b refl)
 
@@ -164,8 +175,11 @@ wrong_refused e lines line refusals.WrongQuery h = absurd h
 wrong_refused e lines line refusals.NotImplied h = absurd h
 wrong_refused e lines line refusals.NotNew h = absurd h
 
-pub feed_judged : {X : Type 0} (res : Result (Option Refusal) X) (line : LogLine) (old mid new : Progress) → ((e : Expectation) (before : Lines) → HasAccepted e before old → HasCompared e before line mid) →
-    IfOk res (λ r. (e : Expectation) (before : Lines) → HasCompared e before line mid → MatchOption r (HasAccepted e (before ++ line ∷ []) new) (IsRefusedFor e before line)) →
-    IfOk res (λ r. (e : Expectation) (before : Lines) → HasAccepted e before old → MatchOption r (HasAccepted e (before ++ line ∷ []) new) (IsRefusedFor e before line))
+pub feed_judged : {X : Type 0} (res : Result (Option Refusal) X) (line : LogLine) (old mid new : Progress) →
+    ((e : Expectation) (before : Lines) → HasAccepted e before old → HasCompared e before line mid) →
+    IfOk res (λ r. (e : Expectation) (before : Lines) → HasCompared e before line mid →
+    MatchOption r (HasAccepted e (before ++ line ∷ []) new) (IsRefusedFor e before line)) →
+    IfOk res (λ r. (e : Expectation) (before : Lines) → HasAccepted e before old →
+    MatchOption r (HasAccepted e (before ++ line ∷ []) new) (IsRefusedFor e before line))
 feed_judged (Ok r) line old mid new step h = λ e before known. h e before (step e before known)
 feed_judged (Err x) line old mid new step h = tt

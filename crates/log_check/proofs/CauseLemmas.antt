@@ -39,12 +39,14 @@ accepted_front e lines line a = record {
   derives = derives_front lines line a.derives;
   room =
       let all = a.room in
-      let split : words_of (flat_map added (lines ++ line ∷ [])) ≡ words_of (flat_map added lines ++ added line) = ap words_of (flat_map_last added lines line) in
+      let split : words_of (flat_map added (lines ++ line ∷ [])) ≡ words_of (flat_map added lines ++ added line) = ap words_of
+      (flat_map_last added lines line) in
       omega (arith, words_front (flat_map added lines) (added line));
 }
 
 -- the lines before the last ones, and the first of these
-pub accepted_first : (e : Expectation) (lines : Lines) (line : LogLine) (more : Lines) → AreAccepted e (lines ++ line ∷ more) → AreAccepted e (lines ++ line ∷ [])
+pub accepted_first : (e : Expectation) (lines : Lines) (line : LogLine) (more : Lines) → AreAccepted e (lines ++ line ∷ more) →
+    AreAccepted e (lines ++ line ∷ [])
 accepted_first e lines line [] a = a
 accepted_first e lines line (l ∷ more) a =
     accepted_front e (lines ++ line ∷ []) l
@@ -74,7 +76,8 @@ expected_small e lines c own a over =
     let whole : e.lines ≡ (clause_lines lines ++ Formula c ∷ []) ++ a.front.0 = a.front.1 ∙ ap (λ (ls : Lines). ls ++ a.front.0) is in
     let among : Contains e.lines (Formula c) =
     subst (λ (ls : Lines). Contains ls (Formula c)) (sym whole)
-    (Contains-append_left (clause_lines lines ++ Formula c ∷ []) a.front.0 (Formula c) (Contains-append_right (clause_lines lines) (Formula c ∷ []) (Formula c) (0, omega arith, refl))) in
+    (Contains-append_left (clause_lines lines ++ Formula c ∷ []) a.front.0 (Formula c)
+    (Contains-append_right (clause_lines lines) (Formula c ∷ []) (Formula c) (0, omega arith, refl))) in
     let clause : Contains (flat_map given e.lines) c = Contains-flat_map given e.lines (Formula c) c among (0, omega arith, refl) in
     let low : greatest_in c ≤ e.vars = all_greatest e.vars (flat_map given e.lines) c own clause in
     let some : clause_lines (lines ++ Formula c ∷ []) ≡ [] → ⊥ = λ none. ends_not (clause_lines lines) (Formula c) (sym is ∙ none) in
@@ -85,9 +88,11 @@ expected_small e lines c own a over =
     ends_not (x ∷ ls) l e = cc
 
 has_room : (e : Expectation) (lines : Lines) (line : LogLine) → NamesItsOwn e → AreAccepted e (lines ++ line ∷ []) → LacksRoom (kept_of_lines lines) line → ⊥
-has_room e lines (Formula c) own a (inl more) = let all = a.room in let split : words_of (flat_map added (lines ++ Formula c ∷ [])) ≡ words_of (flat_map added lines ++ c ∷ []) = ap words_of (flat_map_last added lines (Formula c)) in omega arith
+has_room e lines (Formula c) own a (inl more) = let all = a.room in let split : words_of (flat_map added (lines ++ Formula c ∷ [])) ≡ words_of
+    (flat_map added lines ++ c ∷ []) = ap words_of (flat_map_last added lines (Formula c)) in omega arith
 has_room e lines (Formula c) own a (inr over) = expected_small e lines c own a over
-has_room e lines (Learnt c) own a more = let all = a.room in let split : words_of (flat_map added (lines ++ Learnt c ∷ [])) ≡ words_of (flat_map added lines ++ c ∷ []) = ap words_of (flat_map_last added lines (Learnt c)) in omega arith
+has_room e lines (Learnt c) own a more = let all = a.room in let split : words_of (flat_map added (lines ++ Learnt c ∷ [])) ≡ words_of
+    (flat_map added lines ++ c ∷ []) = ap words_of (flat_map_last added lines (Learnt c)) in omega arith
 has_room e lines (Bound c k x) own a h = h
 has_room e lines (Query c) own a h = h
 has_room e lines (Refuted c) own a h = h
@@ -111,13 +116,15 @@ says_more lines (Refuted c) s known = known
 says_more lines Model s known = known
 
 not_over : (e : Expectation) (lines : Lines) (line : LogLine) → AreAccepted e (lines ++ line ∷ []) → IsOverLimits e lines line → ⊥
-not_over e lines line a o = a.within (λ none. o.compared (behind_nothing (clause_lines lines) (clause_line line) (sym (flat_map_last clause_line lines line) ∙ none))) o.passes
+not_over e lines line a o = a.within (λ none. o.compared (behind_nothing (clause_lines lines) (clause_line line)
+    (sym (flat_map_last clause_line lines line) ∙ none))) o.passes
   where
     behind_nothing : (xs ys : Lines) → xs ++ ys ≡ [] → ys ≡ []
     behind_nothing [] ys e = e
     behind_nothing (x ∷ xs) ys e = absurd (cc)
 
-pub accepted_not_refused : (e : Expectation) (lines : Lines) (line : LogLine) (why : Refusal) → NamesItsOwn e → AreAccepted e (lines ++ line ∷ []) → IsRefusedFor e lines line why → ⊥
+pub accepted_not_refused : (e : Expectation) (lines : Lines) (line : LogLine) (why : Refusal) → NamesItsOwn e → AreAccepted e (lines ++ line ∷ []) →
+    IsRefusedFor e lines line why → ⊥
 accepted_not_refused e lines line Room own a (inl over) = not_over e lines line a over
 accepted_not_refused e lines line Room own a (inr h) = has_room e lines line own a h.1.passes
 accepted_not_refused e lines line Differs own a h = h.1 a.front
@@ -135,7 +142,8 @@ room_differs : (e : Expectation) (lines : Lines) (line : LogLine) → HasFirst e
 room_differs e lines line (inl over) k = k.0 over
 room_differs e lines line (inr h) k = k.1 h.0.expected
 
-room_compared : (e : Expectation) (lines : Lines) (line : LogLine) → IsRefusedFor e lines line Room → IsComparedLine e lines line → (PassesRoom (kept_of_lines lines) line → ⊥) → ⊥
+room_compared : (e : Expectation) (lines : Lines) (line : LogLine) → IsRefusedFor e lines line Room → IsComparedLine e lines line →
+    (PassesRoom (kept_of_lines lines) line → ⊥) → ⊥
 room_compared e lines line (inl over) k not = k.within over
 room_compared e lines line (inr h) k not = not h.1
 

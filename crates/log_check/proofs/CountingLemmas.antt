@@ -1,5 +1,6 @@
 -- The Bound lines of a text, and how many they are.
-use Rattle.std.proofs.Common.{◌≡◌, ◌≢◌, ◌≤◌, ◌<◌, ℕ, ◌+◌, Bool, true, false, cond, List, [], ◌∷◌, ◌++◌, length, refl, sym, ◌∙◌, ap, subst, ◌⊎◌, inl, inr, arith, append-nil, append_assoc, length-append}
+use Rattle.std.proofs.Common.{◌≡◌, ◌≢◌, ◌≤◌, ◌<◌, ℕ, ◌+◌, Bool, true, false, cond, List, [], ◌∷◌, ◌++◌, length, refl, sym, ◌∙◌, ap, subst, ◌⊎◌, inl, inr}
+use Rattle.std.proofs.Common.{arith, append-nil, append_assoc, length-append}
 use Rattle.std.specs.Prelude.{All, Option, Some, None, flat_map, min, codes}
 use Rattle.std.proofs.lemmas.Grind.{flat_map-append}
 use Rattle.std.proofs.lemmas.List.Elements.{All-nil, All-cons, All-head, All-tail}
@@ -43,7 +44,8 @@ told_by text (Query c) is = inr (no_other text (Query c) refl is, tt)
 told_by text (Refuted c) is = inr (no_other text (Refuted c) refl is, tt)
 told_by text Model is = inr (no_other text Model refl is, tt)
 
-pub counted_line : (text : List ℕ) (line : LogLine) (found : Option Criterion) → IsTextOf text line → IsCountOf found (told_bound_line line) → AreCounted text found
+pub counted_line : (text : List ℕ) (line : LogLine) (found : Option Criterion) → IsTextOf text line → IsCountOf found (told_bound_line line) →
+    AreCounted text found
 counted_line text line found is count = (told_bound_line line, told_by text line is, count)
 
 pub count_none : IsCountOf None []
@@ -52,12 +54,14 @@ count_none = λ d. refl
 no_line : (text : List ℕ) (what : LogWhat) → HasLineFault text what → AreCounted text None
 no_line text what fault = ([], inr ((λ line is. line_no_fault text line what is.1 fault), tt), count_none)
 
-pub counted_fault : (text : List ℕ) (fault : LineTextFault) (what : LogWhat) (number : ℕ) → fault ≡ Log what number → (fault ≡ Memory) ⊎ IsLineFault text 0 fault → AreCounted text None
+pub counted_fault : (text : List ℕ) (fault : LineTextFault) (what : LogWhat) (number : ℕ) → fault ≡ Log what number →
+    (fault ≡ Memory) ⊎ IsLineFault text 0 fault → AreCounted text None
 counted_fault text fault what number is (inl wanting) = let e : Log what number ≡ Memory = sym is ∙ wanting in cc
 counted_fault text fault what number is (inr has) = no_line text what (subst (λ (f : LineTextFault). IsLineFault text 0 f) is has).1
 
 -- what the numbers are with one line more, or none
-pub counted_more : (greatest numbers new : Criterion → ℕ) (found : Option Criterion) (lines more : Lines) → ((c : Criterion) → numbers c ≡ caps greatest lines c) → IsCountOf found more →
+pub counted_more : (greatest numbers new : Criterion → ℕ) (found : Option Criterion) (lines more : Lines) →
+    ((c : Criterion) → numbers c ≡ caps greatest lines c) → IsCountOf found more →
     ((d : Criterion) → new d ≡ min (numbers d + count_of found d) (greatest d)) → (c : Criterion) → new c ≡ caps greatest (lines ++ more) c
 counted_more greatest numbers new found lines more old count is c =
     let all : length (bound_vars c (lines ++ more)) ≡ length (bound_vars c lines) + length (bound_vars c more) =
@@ -117,7 +121,8 @@ counted_next log rest text after greatest numbers new cut found more bounds coun
       spelled =
           h.spelled ∙ ap (λ (ts : List ℕ). flat_map ended h.texts ++ ts) (cut.spelled ∙ sym (append_assoc text (10 ∷ []) after))
           ∙ sym (append_assoc (flat_map ended h.texts) (ended text) after)
-          ∙ ap (λ (ts : List ℕ). ts ++ after) (ap (λ (ts : List ℕ). flat_map ended h.texts ++ ts) (sym (append-nil (ended text))) ∙ sym (flat_map-append ended h.texts (text ∷ [])));
+          ∙ ap (λ (ts : List ℕ). ts ++ after) (ap (λ (ts : List ℕ). flat_map ended h.texts ++ ts) (sym (append-nil (ended text)))
+          ∙ sym (flat_map-append ended h.texts (text ∷ [])));
       bounds = told_append h.texts (text ∷ []) h.lines more h.bounds bounds;
       counts = counted_more greatest numbers new found h.lines more h.counts count is;
     }

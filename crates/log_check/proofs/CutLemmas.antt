@@ -43,12 +43,14 @@ ended line = line ++ codes "\n"
 one_more : (x : List ℕ) (xs : List (List ℕ)) (r : List ℕ) → flat_map ended (x ∷ xs) ++ r ≡ x ++ 10 ∷ (flat_map ended xs ++ r)
 one_more x xs r = append_assoc (ended x) (flat_map ended xs) r ∙ append_assoc x (10 ∷ []) (flat_map ended xs ++ r)
 
-same_lines : (xs ys : List (List ℕ)) (r s : List ℕ) → All (LacksByte 10) xs → All (LacksByte 10) ys → LacksByte 10 r → LacksByte 10 s → flat_map ended xs ++ r ≡ flat_map ended ys ++ s → xs ≡ ys
+same_lines : (xs ys : List (List ℕ)) (r s : List ℕ) → All (LacksByte 10) xs → All (LacksByte 10) ys → LacksByte 10 r → LacksByte 10 s →
+    flat_map ended xs ++ r ≡ flat_map ended ys ++ s → xs ≡ ys
 same_lines [] [] r s h k a b e = refl
 same_lines [] (y ∷ ys) r s h k a b e = absurd (no_cut r y (flat_map ended ys ++ s) a (e ∙ one_more y ys s))
 same_lines (x ∷ xs) [] r s h k a b e = absurd (no_cut s x (flat_map ended xs ++ r) b (sym e ∙ one_more x xs r))
 same_lines (x ∷ xs) (y ∷ ys) r s h k a b e =
-    let cut = same_cut x y (flat_map ended xs ++ r) (flat_map ended ys ++ s) (All-head (LacksByte 10) x xs h) (All-head (LacksByte 10) y ys k) (sym (one_more x xs r) ∙ e ∙ one_more y ys s) in
+    let cut = same_cut x y (flat_map ended xs ++ r) (flat_map ended ys ++ s) (All-head (LacksByte 10) x xs h) (All-head (LacksByte 10) y ys k)
+    (sym (one_more x xs r) ∙ e ∙ one_more y ys s) in
     let more = same_lines xs ys r s (All-tail (LacksByte 10) x xs h) (All-tail (LacksByte 10) y ys k) a b cut.rest in
     cc (cut.front, more)
 
@@ -86,7 +88,8 @@ pub record SameLine (k l : LogLine) (r s : List ℕ) : Type 0 where
 
 pub same_line : (k l : LogLine) (r s : List ℕ) → MayBeTold k → MayBeTold l → ended_text k ++ r ≡ ended_text l ++ s → SameLine k l r s
 same_line k l r s a b e =
-    let cut = same_cut (log_line_text k) (log_line_text l) r s (line_lacks k a.formed) (line_lacks l b.formed) (sym (one_line_more k r) ∙ e ∙ one_line_more l s) in
+    let cut = same_cut (log_line_text k) (log_line_text l) r s (line_lacks k a.formed) (line_lacks l b.formed)
+    (sym (one_line_more k r) ∙ e ∙ one_line_more l s) in
     record { line = read_once (log_line_text l) k l (subst (λ (t : List ℕ). IsTextOf t k) cut.front (told_is_read k a)) (told_is_read l b); rest = cut.rest }
 
 -- a text doesn't end where a line begins
@@ -121,11 +124,13 @@ pub record Begins (xs ys : Lines) (r s : List ℕ) : Type 0 where
   pub rest : r ≡ flat_map ended_text more ++ s
   pub told : MayAllBeTold more
 
-fronts : (xs ys : Lines) (r s : List ℕ) → MayAllBeTold xs → MayAllBeTold ys → flat_map ended_text xs ++ r ≡ flat_map ended_text ys ++ s → Begins xs ys r s ⊎ Begins ys xs s r
+fronts : (xs ys : Lines) (r s : List ℕ) → MayAllBeTold xs → MayAllBeTold ys → flat_map ended_text xs ++ r ≡ flat_map ended_text ys ++ s →
+    Begins xs ys r s ⊎ Begins ys xs s r
 fronts [] ys r s h k e = inl (record { more = ys; lines = refl; rest = e; told = k })
 fronts (x ∷ xs) [] r s h k e = inr (record { more = x ∷ xs; lines = refl; rest = sym e; told = h })
 fronts (x ∷ xs) (y ∷ ys) r s h k e =
-    let split : (l : LogLine) (ls : Lines) (t : List ℕ) → flat_map ended_text (l ∷ ls) ++ t ≡ ended_text l ++ (flat_map ended_text ls ++ t) = λ l ls t. append_assoc (ended_text l) (flat_map ended_text ls) t in
+    let split : (l : LogLine) (ls : Lines) (t : List ℕ) → flat_map ended_text (l ∷ ls) ++ t ≡ ended_text l ++ (flat_map ended_text ls ++ t) = λ l ls
+    t. append_assoc (ended_text l) (flat_map ended_text ls) t in
     let same = same_line x y (flat_map ended_text xs ++ r) (flat_map ended_text ys ++ s) h.0 k.0 (sym (split x xs r) ∙ e ∙ split y ys s) in
     elim (fronts xs ys r s h.1 k.1 same.rest) [
       | inl b ↦ inl (record { more = b.more; lines = cc (same.line, b.lines); rest = b.rest; told = b.told })
@@ -136,7 +141,9 @@ same_rest : (xs ys zs : List ℕ) → xs ++ ys ≡ xs ++ zs → ys ≡ zs
 same_rest [] ys zs e = e
 same_rest (x ∷ xs) ys zs e = same_rest xs ys zs (let t : xs ++ ys ≡ xs ++ zs = cc in t)
 
-pub log_fronts : (bytes : List ℕ) (xs ys : Lines) (r s : List ℕ) → MayAllBeTold xs → MayAllBeTold ys → bytes ≡ log_text xs ++ r → bytes ≡ log_text ys ++ s → Begins xs ys r s ⊎ Begins ys xs s r
+pub log_fronts : (bytes : List ℕ) (xs ys : Lines) (r s : List ℕ) → MayAllBeTold xs → MayAllBeTold ys → bytes ≡ log_text xs ++ r → bytes ≡ log_text ys ++ s →
+    Begins xs ys r s ⊎ Begins ys xs s r
 log_fronts bytes xs ys r s h k a b =
-    let split : (ls : Lines) (t : List ℕ) → log_text ls ++ t ≡ header ++ (flat_map ended_text ls ++ t) = λ ls t. append_assoc header (flat_map ended_text ls) t in
+    let split : (ls : Lines) (t : List ℕ) → log_text ls ++ t ≡ header ++ (flat_map ended_text ls ++ t) = λ ls t. append_assoc header (flat_map ended_text ls)
+    t in
     fronts xs ys r s h k (same_rest header (flat_map ended_text xs ++ r) (flat_map ended_text ys ++ s) (sym (split xs r) ∙ sym a ∙ b ∙ split ys s))

@@ -1,5 +1,6 @@
 -- What is expected, as a checker and a list of bounds have it.
-use Rattle.std.proofs.Common.{◌≡◌, ◌≤◌, ◌<◌, ℕ, suc, ◌+◌, ◌-◌, List, [], ◌∷◌, ◌++◌, length, map, take, drop, get_or, refl, sym, ◌∙◌, ap, subst, inl, inr, arith, append-nil, append_assoc}
+use Rattle.std.proofs.Common.{◌≡◌, ◌≤◌, ◌<◌, ℕ, suc, ◌+◌, ◌-◌, List, [], ◌∷◌, ◌++◌, length, map, take, drop, get_or, refl, sym, ◌∙◌, ap, subst, inl, inr}
+use Rattle.std.proofs.Common.{arith, append-nil, append_assoc}
 use Rattle.std.specs.Prelude.{Result, Ok, Err, IfOk, flat_map}
 use Rattle.std.proofs.lemmas.Grind.{flat_map-append}
 use Rattle.std.proofs.lemmas.Bool.{cases_lt}
@@ -44,7 +45,8 @@ words_front cs i low =
     omega arith
 
 -- a copy of a formula has room for its next clause
-pub copy_has_room : (f copy : Cnf) (i : ℕ) (lits : List Literal) → IsFormula f → copy.room ≡ ROOM → copy.clauses ≡ take i f.clauses → i < length f.clauses → lits ≡ clause_at f i → Full copy (length lits) → ⊥
+pub copy_has_room : (f copy : Cnf) (i : ℕ) (lits : List Literal) → IsFormula f → copy.room ≡ ROOM → copy.clauses ≡ take i f.clauses → i < length f.clauses →
+    lits ≡ clause_at f i → Full copy (length lits) → ⊥
 copy_has_room f copy i lits formula room clauses low is full =
     let front = words_front f.clauses i low in
     let taken = ap words_of clauses in
@@ -56,7 +58,9 @@ copy_has_room f copy i lits formula room clauses low is full =
 -- ---- bounds one by one
 
 -- the next variable, and those behind it
-pub variables_step : (last cap i : ℕ) → i < cap → variables_behind (last + i) (cap - i) ≡ record { 0 = last + (i + 1) } ∷ variables_behind (last + (i + 1)) (cap - (i + 1))
+pub variables_step : (last cap i : ℕ) → i < cap → variables_behind (last + i) (cap - i) ≡ record {
+  0 = last + (i + 1);
+} ∷ variables_behind (last + (i + 1)) (cap - (i + 1))
 variables_step last cap i low =
     let F : ℕ → Var = λ n. record { 0 = n } in
     let left : cap - i ≡ suc (cap - (i + 1)) = omega arith in
@@ -67,17 +71,23 @@ variables_step last cap i low =
 abbrev pub bounds_from : Criterion → ℕ → ℕ → ℕ → List ToldBound
 bounds_from c last cap i = flat_map told_bound (bound_lines c (i + 1) (variables_behind (last + i) (cap - i)))
 
-pub bounds_step : (c : Criterion) (last cap i : ℕ) → i < cap → bounds_from c last cap i ≡ record { criterion = c; k = i + 1; literal = positive_of (last + (i + 1)) } ∷ bounds_from c last cap (i + 1)
+pub bounds_step : (c : Criterion) (last cap i : ℕ) → i < cap → bounds_from c last cap i ≡ record {
+  criterion = c;
+  k = i + 1;
+  literal = positive_of (last + (i + 1));
+} ∷ bounds_from c last cap (i + 1)
 bounds_step c last cap i low = ap (λ (xs : List Var). flat_map told_bound (bound_lines c (i + 1) xs)) (variables_step last cap i low)
 
 pub bounds_all : (c : Criterion) (last cap : ℕ) → bounds_from c last cap 0 ≡ flat_map told_bound (bound_lines c 1 (variables_behind last cap))
 bounds_all c last cap =
     let first : last + 0 ≡ last = omega arith in
     let all : cap - 0 ≡ cap = omega arith in
-    ap (λ n. flat_map told_bound (bound_lines c 1 (variables_behind n (cap - 0)))) first ∙ ap (λ n. flat_map told_bound (bound_lines c 1 (variables_behind last n))) all
+    ap (λ n. flat_map told_bound (bound_lines c 1 (variables_behind n (cap - 0)))) first
+    ∙ ap (λ n. flat_map told_bound (bound_lines c 1 (variables_behind last n))) all
 
 -- one more of them, and all
-pub bounds_pushed : (c : Criterion) (last cap i : ℕ) (l : Literal) (old new all : List ToldBound) → i < cap → l ≡ positive_of (last + (i + 1)) → new ≡ old ++ record { criterion = c; k = i + 1; literal = l } ∷ [] →
+pub bounds_pushed : (c : Criterion) (last cap i : ℕ) (l : Literal) (old new all : List ToldBound) → i < cap → l ≡ positive_of (last + (i + 1)) →
+    new ≡ old ++ record { criterion = c; k = i + 1; literal = l } ∷ [] →
     old ++ bounds_from c last cap i ≡ all → new ++ bounds_from c last cap (i + 1) ≡ all
 bounds_pushed c last cap i l old new all low is pushed h =
     let B : Literal → ToldBound = λ m. record { criterion = c; k = i + 1; literal = m } in
@@ -114,8 +124,10 @@ both_alone xs ys h k = flat_map-append clause_line xs ys ∙ ap (λ (ls : Lines)
 
 lines_alone : (cs : Clauses) (parts : List Part) (n : ℕ) → AreClauseLines (lines_from cs parts n 0)
 lines_alone cs [] n = refl
-lines_alone cs (ClausesTo end ∷ parts) n = both_alone (map Formula (take (end - n) (drop n cs))) (lines_from cs parts end 0) (formulas_alone (take (end - n) (drop n cs))) (lines_alone cs parts end)
-lines_alone cs (Bounds c last cap ∷ parts) n = both_alone (bound_lines c 1 (variables_behind (last + 0) (cap - 0))) (lines_from cs parts n 0) (bounds_alone c 1 (variables_behind (last + 0) (cap - 0))) (lines_alone cs parts n)
+lines_alone cs (ClausesTo end ∷ parts) n = both_alone (map Formula (take (end - n) (drop n cs))) (lines_from cs parts end 0)
+    (formulas_alone (take (end - n) (drop n cs))) (lines_alone cs parts end)
+lines_alone cs (Bounds c last cap ∷ parts) n = both_alone (bound_lines c 1 (variables_behind (last + 0) (cap - 0))) (lines_from cs parts n 0)
+    (bounds_alone c 1 (variables_behind (last + 0) (cap - 0))) (lines_alone cs parts n)
 
 -- ---- the begin
 
@@ -125,13 +137,15 @@ has_room e fits = elim (cases_lt ROOM (words_of (flat_map given e.lines))) [
   | inr low ↦ (let is = ap words_of (append-nil (flat_map given e.lines)) in omega (arith, is, low))
 ]
 
-pub expected_alone : (y : Layout) (order : List Criterion) (cap : Criterion → ℕ) (e : Encoding) (parts : List Part) → IsExpecting y order cap e parts → AreClauseLines (expectation y order cap).lines
+pub expected_alone : (y : Layout) (order : List Criterion) (cap : Criterion → ℕ) (e : Encoding) (parts : List Part) → IsExpecting y order cap e parts →
+    AreClauseLines (expectation y order cap).lines
 expected_alone y order cap e parts x = subst AreClauseLines x.lines (lines_alone e.formula.clauses parts 0)
 
 abbrev kept_by : ℕ → Clauses → Clauses → HintFacts
 kept_by room clauses refuted = record { room = room; clauses = clauses; refuted = refuted }
 
-pub begun : (y : Layout) (order : List Criterion) (cap : Criterion → ℕ) (e : Encoding) (parts : List Part) (kept : HintFacts) (bounds : List ToldBound) → IsExpecting y order cap e parts → (PassesLimits (expectation y order cap) → ⊥) →
+pub begun : (y : Layout) (order : List Criterion) (cap : Criterion → ℕ) (e : Encoding) (parts : List Part) (kept : HintFacts) (bounds : List ToldBound) →
+    IsExpecting y order cap e parts → (PassesLimits (expectation y order cap) → ⊥) →
     kept.room ≡ ROOM → kept.clauses ≡ e.formula.clauses → kept.refuted ≡ [] → bounds ≡ bounds_of parts → HasBegun (expectation y order cap) kept bounds
 begun y order cap e parts kept bounds x fits room clauses refuted is = record {
   none = record {
@@ -146,9 +160,11 @@ begun y order cap e parts kept bounds x fits room clauses refuted is = record {
 }
 
 -- what stands behind the caps is judged by what is expected
-pub body_within : {X : Type 0} (res : Result HintsVerdict X) (greatest : Criterion → ℕ) (order : List Criterion) (claim : Claim) (body : List ℕ) (e : Encoding) (parts : List Part) (kept : HintFacts) (bounds : List ToldBound) → kept.room ≡ ROOM → kept.clauses ≡ e.formula.clauses →
+pub body_within : {X : Type 0} (res : Result HintsVerdict X) (greatest : Criterion → ℕ) (order : List Criterion) (claim : Claim) (body : List ℕ) (e : Encoding)
+    (parts : List Part) (kept : HintFacts) (bounds : List ToldBound) → kept.room ≡ ROOM → kept.clauses ≡ e.formula.clauses →
     kept.refuted ≡ [] → bounds ≡ bounds_of parts → IfOk res (λ v. (x : Expectation) → HasBegun x kept bounds → IsBodyJudged greatest order claim x body v) →
-    IfOk res (λ v. (y : Layout) (cap : Criterion → ℕ) → IsExpectingWithin y order cap e parts → IsBodyJudged greatest order claim (expectation y order cap) body v)
+    IfOk res (λ v. (y : Layout) (cap : Criterion → ℕ) → IsExpectingWithin y order cap e parts →
+    IsBodyJudged greatest order claim (expectation y order cap) body v)
 body_within (Ok v) greatest order claim body e parts kept bounds room clauses refuted is k = λ y cap w.
     k (expectation y order cap) (begun y order cap e parts kept bounds w.expecting w.fits room clauses refuted is)
 body_within (Err x) greatest order claim body e parts kept bounds room clauses refuted is k = tt

@@ -32,7 +32,8 @@ few_hints line text rest more is e =
     omega arith
 
 -- the text of a line and what follows its line feed
-pub next_line : (rest text more : List ℕ) (line : HintLine) → IsCutAt 10 rest text more → IsHintOf text line → MayBeWritten line × (length (hints_of line) ≤ length rest) × (rest ≡ ended_hint line ++ more)
+pub next_line : (rest text more : List ℕ) (line : HintLine) → IsCutAt 10 rest text more → IsHintOf text line →
+    MayBeWritten line × (length (hints_of line) ≤ length rest) × (rest ≡ ended_hint line ++ more)
 next_line rest text more line cut is = (
   record { formed = is.spells.formed; once = is.once },
   few_hints line text rest (10 ∷ more) is.spells.spelled cut.spelled,
@@ -50,5 +51,6 @@ line_leaves_less rest more line is =
 pub fault_next : (rest : List ℕ) (n : Next) (what : HintsWhat) → n ≡ Fault what → IsNextHint rest n → HasNextHintFault rest what
 fault_next rest n what is h = subst (IsNextHint rest) is h
 
-pub line_next : (rest : List ℕ) (n : Next) (line : HintLine) (after : Bor (List ℕ)) → n ≡ Line line after → IsNextHint rest n → MayBeWritten line × (length (hints_of line) ≤ length rest) × (rest ≡ ended_hint line ++ after.now)
+pub line_next : (rest : List ℕ) (n : Next) (line : HintLine) (after : Bor (List ℕ)) → n ≡ Line line after → IsNextHint rest n →
+    MayBeWritten line × (length (hints_of line) ≤ length rest) × (rest ≡ ended_hint line ++ after.now)
 line_next rest n line after is h = subst (IsNextHint rest) is h

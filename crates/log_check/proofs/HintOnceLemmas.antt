@@ -52,7 +52,10 @@ record SameLine (k l : HintLine) (r s : List ℕ) : Type 0 where
 same_line : (k l : HintLine) (r s : List ℕ) → MayBeWritten k → MayBeWritten l → ended_hint k ++ r ≡ ended_hint l ++ s → SameLine k l r s
 same_line k l r s a b e =
     let cut = same_cut (hint_text k) (hint_text l) r s (hint_lacks k a) (hint_lacks l b) (sym (one_more k r) ∙ e ∙ one_more l s) in
-    record { line = hint_once (hint_text l) k l (record { formed = a.formed; spelled = cut.front }) (record { formed = b.formed; spelled = refl }); rest = cut.rest }
+    record {
+      line = hint_once (hint_text l) k l (record { formed = a.formed; spelled = cut.front }) (record { formed = b.formed; spelled = refl });
+      rest = cut.rest;
+    }
 
 line_goes_on : (l : HintLine) (r : List ℕ) → [] ≡ ended_hint l ++ r → ⊥
 line_goes_on l r e = no_cut [] (hint_text l) r tt (e ∙ one_more l r)
@@ -82,11 +85,13 @@ record Begins (xs ys : HintLines) (r s : List ℕ) : Type 0 where
   rest : r ≡ flat_map ended_hint more ++ s
   told : MayAllBeWritten more
 
-fronts : (xs ys : HintLines) (r s : List ℕ) → MayAllBeWritten xs → MayAllBeWritten ys → flat_map ended_hint xs ++ r ≡ flat_map ended_hint ys ++ s → Begins xs ys r s ⊎ Begins ys xs s r
+fronts : (xs ys : HintLines) (r s : List ℕ) → MayAllBeWritten xs → MayAllBeWritten ys → flat_map ended_hint xs ++ r ≡ flat_map ended_hint ys ++ s →
+    Begins xs ys r s ⊎ Begins ys xs s r
 fronts [] ys r s h k e = inl (record { more = ys; lines = refl; rest = e; told = k })
 fronts (x ∷ xs) [] r s h k e = inr (record { more = x ∷ xs; lines = refl; rest = sym e; told = h })
 fronts (x ∷ xs) (y ∷ ys) r s h k e =
-    let split : (l : HintLine) (ls : HintLines) (t : List ℕ) → flat_map ended_hint (l ∷ ls) ++ t ≡ ended_hint l ++ (flat_map ended_hint ls ++ t) = λ l ls t. append_assoc (ended_hint l) (flat_map ended_hint ls) t in
+    let split : (l : HintLine) (ls : HintLines) (t : List ℕ) → flat_map ended_hint (l ∷ ls) ++ t ≡ ended_hint l ++ (flat_map ended_hint ls ++ t) = λ l ls
+    t. append_assoc (ended_hint l) (flat_map ended_hint ls) t in
     let same = same_line x y (flat_map ended_hint xs ++ r) (flat_map ended_hint ys ++ s) h.0 k.0 (sym (split x xs r) ∙ e ∙ split y ys s) in
     elim (fronts xs ys r s h.1 k.1 same.rest) [
       | inl b ↦ inl (record { more = b.more; lines = cc (same.line, b.lines); rest = b.rest; told = b.told })
@@ -95,11 +100,14 @@ fronts (x ∷ xs) (y ∷ ys) r s h k e =
 
 -- ---- an accepted line has no cause
 
-good_at : (clauses : Clauses) (xs : HintLines) (l : HintLine) (more : HintLines) → AreGood clauses (xs ++ l ∷ more) → IsGood (clauses ++ flat_map clauses_learnt xs) l
+good_at : (clauses : Clauses) (xs : HintLines) (l : HintLine) (more : HintLines) → AreGood clauses (xs ++ l ∷ more) →
+    IsGood (clauses ++ flat_map clauses_learnt xs) l
 good_at clauses [] l more g = subst (λ (cs : Clauses). IsGood cs l) (sym (append-nil clauses)) g.0
-good_at clauses (x ∷ xs) l more g = subst (λ (cs : Clauses). IsGood cs l) (append_assoc clauses (clauses_learnt x) (flat_map clauses_learnt xs)) (good_at (clauses ++ clauses_learnt x) xs l more g.1)
+good_at clauses (x ∷ xs) l more g = subst (λ (cs : Clauses). IsGood cs l) (append_assoc clauses (clauses_learnt x) (flat_map clauses_learnt xs))
+    (good_at (clauses ++ clauses_learnt x) xs l more g.1)
 
-room_at : (e : Expectation) (xs : HintLines) (l : HintLine) (more : HintLines) → words_of (clauses_with e (xs ++ l ∷ more)) ≤ ROOM → words_of (clauses_with e (xs ++ l ∷ [])) ≤ ROOM
+room_at : (e : Expectation) (xs : HintLines) (l : HintLine) (more : HintLines) → words_of (clauses_with e (xs ++ l ∷ more)) ≤ ROOM →
+    words_of (clauses_with e (xs ++ l ∷ [])) ≤ ROOM
 room_at e xs l more low =
     let given_of = flat_map given e.lines in
     let here = flat_map clauses_learnt (xs ++ l ∷ []) in
@@ -111,7 +119,8 @@ room_at e xs l more low =
     let size = words_append (clauses_with e (xs ++ l ∷ [])) later in
     omega arith
 
-not_refused_for : (e : Expectation) (xs : HintLines) (l : HintLine) (more : HintLines) (why : HintRefusal) → AreAcceptedHints e (xs ++ l ∷ more) → IsHintRefusedFor e xs l why → ⊥
+not_refused_for : (e : Expectation) (xs : HintLines) (l : HintLine) (more : HintLines) (why : HintRefusal) → AreAcceptedHints e (xs ++ l ∷ more) →
+    IsHintRefusedFor e xs l why → ⊥
 not_refused_for e xs l more BadHint a h = h (good_at (flat_map given e.lines) xs l more a.good)
 not_refused_for e xs l more Room a h = let low = room_at e xs l more a.room in let high = h.1 in omega arith
 
@@ -149,10 +158,12 @@ record IsOver (e : Expectation) (verdict : HintsVerdict) : Type 0 where
   is : verdict ≡ Refused Room 2
 
 -- lines that certify stop at the end
-certified_stops : (y : Layout) (order : List Criterion) (claim : Claim) (e : Expectation) (body : List ℕ) → BodyCertifies y order claim e body → Stops y order claim e body Certified
+certified_stops : (y : Layout) (order : List Criterion) (claim : Claim) (e : Expectation) (body : List ℕ) → BodyCertifies y order claim e body →
+    Stops y order claim e body Certified
 certified_stops y order claim e body h = record { lines = h.lines; rest = []; accepts = h.whole; at = (refl, h.certified) }
 
-stops : (y : Layout) (order : List Criterion) (claim : Claim) (e : Expectation) (body : List ℕ) (v : HintsVerdict) → IsBodyVerdict y order claim e body v → Stops y order claim e body v ⊎ IsOver e v
+stops : (y : Layout) (order : List Criterion) (claim : Claim) (e : Expectation) (body : List ℕ) (v : HintsVerdict) → IsBodyVerdict y order claim e body v →
+    Stops y order claim e body v ⊎ IsOver e v
 stops y order claim e body Certified h = inl (certified_stops y order claim e body h.certifies)
 stops y order claim e body (Lacks place) h = inl (record { lines = h.lines; rest = []; accepts = h.whole; at = (refl, h.lacks) })
 stops y order claim e body (Refused why number) (inl h) =
@@ -166,7 +177,8 @@ stops y order claim e body (Refused why number) (inr h) = inl (record {
 stops y order claim e body (Faulty what number) h = inl (record { lines = h.before; rest = h.rest; accepts = h.accepts; at = (h.fault, h.numbered) })
 
 -- no verdict stops where a further line is accepted
-goes_on : (y : Layout) (order : List Criterion) (claim : Claim) (e : Expectation) (lines : HintLines) (rest : List ℕ) (v : HintsVerdict) (line : HintLine) (more : HintLines) (after : List ℕ) → MayBeWritten line → rest ≡ ended_hint line ++ after →
+goes_on : (y : Layout) (order : List Criterion) (claim : Claim) (e : Expectation) (lines : HintLines) (rest : List ℕ) (v : HintsVerdict) (line : HintLine)
+    (more : HintLines) (after : List ℕ) → MayBeWritten line → rest ≡ ended_hint line ++ after →
     AreAcceptedHints e (lines ++ line ∷ more) → StopsAt y order claim e lines rest v → ⊥
 goes_on y order claim e lines rest Certified line more after told is accepted s = line_goes_on line after (sym s.0 ∙ is)
 goes_on y order claim e lines rest (Lacks place) line more after told is accepted s = line_goes_on line after (sym s.0 ∙ is)
@@ -178,14 +190,16 @@ goes_on y order claim e lines rest (Faulty what number) line more after told is 
 
 -- ---- two that stop behind the same lines
 
-claim_once : (greatest : Criterion → ℕ) (order : List Criterion) (claim : Claim) (log : Lines) (place : ℕ) → IsClaimOf order claim → CertifiesClaim greatest log order claim → LacksAt greatest log order claim place → ⊥
+claim_once : (greatest : Criterion → ℕ) (order : List Criterion) (claim : Claim) (log : Lines) (place : ℕ) → IsClaimOf order claim →
+    CertifiesClaim greatest log order claim → LacksAt greatest log order claim place → ⊥
 claim_once greatest order (Least v places) log place within h k =
     let none : Some k.0 ≡ None = none_lacking greatest log order v places (Some k.0) within h k.2 in
     cc
 claim_once greatest order NoDrawing log place within h k = k.1 h
 claim_once greatest order Nothing log place within h k = k
 
-lacks_once : (greatest : Criterion → ℕ) (order : List Criterion) (claim : Claim) (log : Lines) (a b : ℕ) → IsClaimOf order claim → LacksAt greatest log order claim a → LacksAt greatest log order claim b → a ≡ b
+lacks_once : (greatest : Criterion → ℕ) (order : List Criterion) (claim : Claim) (log : Lines) (a b : ℕ) → IsClaimOf order claim →
+    LacksAt greatest log order claim a → LacksAt greatest log order claim b → a ≡ b
 lacks_once greatest order (Least v places) log a b within h k =
     let same : Some h.0 ≡ Some k.0 = lacking_once greatest log order v places (Some h.0) (Some k.0) within h.2 k.2 in
     let place : h.0 ≡ k.0 = cc in
@@ -193,7 +207,8 @@ lacks_once greatest order (Least v places) log a b within h k =
 lacks_once greatest order NoDrawing log a b within h k = h.0 ∙ sym k.0
 lacks_once greatest order Nothing log a b within h k = absurd h
 
-refused_same : (e : Expectation) (lines : HintLines) (rest : List ℕ) (a b : HintRefusal) (m n : ℕ) → Refuses e lines rest a × (m ≡ length lines + 3) → Refuses e lines rest b × (n ≡ length lines + 3) → Refused a m ≡ Refused b n
+refused_same : (e : Expectation) (lines : HintLines) (rest : List ℕ) (a b : HintRefusal) (m n : ℕ) → Refuses e lines rest a × (m ≡ length lines + 3) →
+    Refuses e lines rest b × (n ≡ length lines + 3) → Refused a m ≡ Refused b n
 refused_same e lines rest a b m n h k =
     let r = h.0 in
     let s = k.0 in
@@ -202,7 +217,8 @@ refused_same e lines rest a b m n h k =
     let number : m ≡ n = h.1 ∙ sym k.1 in
     ap (λ (w : HintRefusal). Refused w m) why ∙ ap (Refused b) number
 
-faulty_same : (lines : HintLines) (rest : List ℕ) (a b : HintsWhat) (m n : ℕ) → HasNextHintFault rest a × (m ≡ length lines + 3) → HasNextHintFault rest b × (n ≡ length lines + 3) → Faulty a m ≡ Faulty b n
+faulty_same : (lines : HintLines) (rest : List ℕ) (a b : HintsWhat) (m n : ℕ) → HasNextHintFault rest a × (m ≡ length lines + 3) →
+    HasNextHintFault rest b × (n ≡ length lines + 3) → Faulty a m ≡ Faulty b n
 faulty_same lines rest a b m n h k =
     let what : a ≡ b = next_fault_once rest a b h.0 k.0 in
     let number : m ≡ n = h.1 ∙ sym k.1 in
@@ -214,16 +230,21 @@ not_refused e lines rest why none r = line_goes_on r.line r.more (sym none ∙ r
 not_faulty : (rest : List ℕ) (what : HintsWhat) → rest ≡ [] → HasNextHintFault rest what → ⊥
 not_faulty rest what none h = no_next_fault what (subst (λ (t : List ℕ). HasNextHintFault t what) none h)
 
-refused_not_faulty : (e : Expectation) (lines : HintLines) (rest : List ℕ) (why : HintRefusal) (what : HintsWhat) → Refuses e lines rest why → HasNextHintFault rest what → ⊥
+refused_not_faulty : (e : Expectation) (lines : HintLines) (rest : List ℕ) (why : HintRefusal) (what : HintsWhat) → Refuses e lines rest why →
+    HasNextHintFault rest what → ⊥
 refused_not_faulty e lines rest why what r fault = line_has_no_fault r.line rest r.more what r.told r.is fault
 
-stops_once : (y : Layout) (order : List Criterion) (claim : Claim) (e : Expectation) (lines : HintLines) (rest : List ℕ) (v w : HintsVerdict) → IsClaimOf order claim → StopsAt y order claim e lines rest v → StopsAt y order claim e lines rest w → v ≡ w
+stops_once : (y : Layout) (order : List Criterion) (claim : Claim) (e : Expectation) (lines : HintLines) (rest : List ℕ) (v w : HintsVerdict) →
+    IsClaimOf order claim → StopsAt y order claim e lines rest v → StopsAt y order claim e lines rest w → v ≡ w
 stops_once y order claim e lines rest Certified Certified within h k = refl
-stops_once y order claim e lines rest Certified (Lacks b) within h k = absurd (claim_once (limit_of y.graph y.grid) order claim (log_of e.lines lines) b within h.1 k.1)
+stops_once y order claim e lines rest Certified (Lacks b) within h k = absurd (claim_once (limit_of y.graph y.grid) order claim (log_of e.lines lines) b within
+    h.1 k.1)
 stops_once y order claim e lines rest Certified (Refused b n) within h k = absurd (not_refused e lines rest b h.0 k.0)
 stops_once y order claim e lines rest Certified (Faulty b n) within h k = absurd (not_faulty rest b h.0 k.0)
-stops_once y order claim e lines rest (Lacks a) Certified within h k = absurd (claim_once (limit_of y.graph y.grid) order claim (log_of e.lines lines) a within k.1 h.1)
-stops_once y order claim e lines rest (Lacks a) (Lacks b) within h k = ap (λ n. Lacks n) (lacks_once (limit_of y.graph y.grid) order claim (log_of e.lines lines) a b within h.1 k.1)
+stops_once y order claim e lines rest (Lacks a) Certified within h k = absurd (claim_once (limit_of y.graph y.grid) order claim (log_of e.lines lines) a within
+    k.1 h.1)
+stops_once y order claim e lines rest (Lacks a) (Lacks b) within h k = ap (λ n. Lacks n)
+    (lacks_once (limit_of y.graph y.grid) order claim (log_of e.lines lines) a b within h.1 k.1)
 stops_once y order claim e lines rest (Lacks a) (Refused b n) within h k = absurd (not_refused e lines rest b h.0 k.0)
 stops_once y order claim e lines rest (Lacks a) (Faulty b n) within h k = absurd (not_faulty rest b h.0 k.0)
 stops_once y order claim e lines rest (Refused a m) Certified within h k = absurd (not_refused e lines rest a k.0 h.0)
@@ -236,19 +257,23 @@ stops_once y order claim e lines rest (Faulty a m) (Refused b n) within h k = ab
 stops_once y order claim e lines rest (Faulty a m) (Faulty b n) within h k = faulty_same lines rest a b m n h k
 
 -- one begins the other
-one_front : (y : Layout) (order : List Criterion) (claim : Claim) (e : Expectation) (body : List ℕ) (v w : HintsVerdict) → IsClaimOf order claim → (a : Stops y order claim e body v) (b : Stops y order claim e body w) → Begins a.lines b.lines a.rest b.rest → v ≡ w
+one_front : (y : Layout) (order : List Criterion) (claim : Claim) (e : Expectation) (body : List ℕ) (v w : HintsVerdict) → IsClaimOf order claim →
+    (a : Stops y order claim e body v) (b : Stops y order claim e body w) → Begins a.lines b.lines a.rest b.rest → v ≡ w
 one_front y order claim e body v w within a b f = by f.more f.lines f.rest f.told
   where
     by : (more : HintLines) → b.lines ≡ a.lines ++ more → a.rest ≡ flat_map ended_hint more ++ b.rest → MayAllBeWritten more → v ≡ w
     by [] lines rest told =
         let same : a.lines ≡ b.lines = sym (append-nil a.lines) ∙ sym lines in
-        stops_once y order claim e b.lines b.rest v w within (subst (λ (t : List ℕ). StopsAt y order claim e b.lines t v) rest (subst (λ (ls : HintLines). StopsAt y order claim e ls a.rest v) same a.at)) b.at
+        stops_once y order claim e b.lines b.rest v w within (subst (λ (t : List ℕ). StopsAt y order claim e b.lines t v) rest
+        (subst (λ (ls : HintLines). StopsAt y order claim e ls a.rest v) same a.at)) b.at
     by (l ∷ more) lines rest told =
         let accepted : AreAcceptedHints e (a.lines ++ l ∷ more) = subst (AreAcceptedHints e) lines b.accepts.accepted in
-        absurd (goes_on y order claim e a.lines a.rest v l more (flat_map ended_hint more ++ b.rest) told.0 (rest ∙ append_assoc (ended_hint l) (flat_map ended_hint more) b.rest) accepted a.at)
+        absurd (goes_on y order claim e a.lines a.rest v l more (flat_map ended_hint more ++ b.rest) told.0
+        (rest ∙ append_assoc (ended_hint l) (flat_map ended_hint more) b.rest) accepted a.at)
 
 -- two texts behind the caps, or the caps, stop with one verdict
-stopped_once : (y : Layout) (order : List Criterion) (claim : Claim) (e : Expectation) (body : List ℕ) (v w : HintsVerdict) → IsClaimOf order claim → Stops y order claim e body v ⊎ IsOver e v → Stops y order claim e body w ⊎ IsOver e w → v ≡ w
+stopped_once : (y : Layout) (order : List Criterion) (claim : Claim) (e : Expectation) (body : List ℕ) (v w : HintsVerdict) → IsClaimOf order claim →
+    Stops y order claim e body v ⊎ IsOver e v → Stops y order claim e body w ⊎ IsOver e w → v ≡ w
 stopped_once y order claim e body v w within (inl a) (inl b) =
     elim (fronts a.lines b.lines a.rest b.rest a.accepts.formed b.accepts.formed (sym a.accepts.spelled ∙ b.accepts.spelled)) [
       | inl f ↦ one_front y order claim e body v w within a b f
@@ -258,7 +283,8 @@ stopped_once y order claim e body v w within (inl a) (inr b) = absurd (a.accepts
 stopped_once y order claim e body v w within (inr a) (inl b) = absurd (b.accepts.accepted.within a.passes)
 stopped_once y order claim e body v w within (inr a) (inr b) = a.is ∙ sym b.is
 
-body_once : (y : Layout) (order : List Criterion) (claim : Claim) (e : Expectation) (body : List ℕ) (v w : HintsVerdict) → IsClaimOf order claim → IsBodyVerdict y order claim e body v → IsBodyVerdict y order claim e body w → v ≡ w
+body_once : (y : Layout) (order : List Criterion) (claim : Claim) (e : Expectation) (body : List ℕ) (v w : HintsVerdict) → IsClaimOf order claim →
+    IsBodyVerdict y order claim e body v → IsBodyVerdict y order claim e body w → v ≡ w
 body_once y order claim e body v w within h k = stopped_once y order claim e body v w within (stops y order claim e body v h) (stops y order claim e body w k)
 
 -- ---- the first two lines
@@ -273,19 +299,30 @@ record SameCaps (a b : Values) (r s : List ℕ) : Type 0 where
   caps : a ≡ b
   body : r ≡ s
 
-same_caps : (y : Layout) (order : List Criterion) (bytes : List ℕ) (a b : Values) (r s : List ℕ) → BeginsWithCaps y order bytes a r → BeginsWithCaps y order bytes b s → SameCaps a b r s
+same_caps : (y : Layout) (order : List Criterion) (bytes : List ℕ) (a b : Values) (r s : List ℕ) → BeginsWithCaps y order bytes a r →
+    BeginsWithCaps y order bytes b s → SameCaps a b r s
 same_caps y order bytes a b r s h k =
     let behind = append_cancel_left hints_header (ended_caps a ++ r) (ended_caps b ++ s) (sym h.spelled ∙ k.spelled) in
-    let cut = same_cut (caps_text a) (caps_text b) r s (caps_lack a h.caps_for.small) (caps_lack b k.caps_for.small) (sym (caps_more a r) ∙ behind ∙ caps_more b s) in
-    record { caps = caps_once (caps_text b) a b (record { small = h.caps_for.small; spelled = sym cut.front }) (record { small = k.caps_for.small; spelled = refl }); body = cut.rest }
+    let cut = same_cut (caps_text a) (caps_text b) r s (caps_lack a h.caps_for.small) (caps_lack b k.caps_for.small)
+    (sym (caps_more a r) ∙ behind ∙ caps_more b s) in
+    record {
+      caps = caps_once (caps_text b) a b (record {
+        small = h.caps_for.small;
+        spelled = sym cut.front;
+      }) (record { small = k.caps_for.small; spelled = refl });
+      body = cut.rest;
+    }
 
-caps_fault : (y : Layout) (order : List Criterion) (rest : List ℕ) (caps : Values) (body : List ℕ) (what : HintsWhat) → AreCapsFor y order caps → rest ≡ ended_caps caps ++ body → HasNextCapsFault (limit_of y.graph y.grid) order rest what → ⊥
+caps_fault : (y : Layout) (order : List Criterion) (rest : List ℕ) (caps : Values) (body : List ℕ) (what : HintsWhat) → AreCapsFor y order caps →
+    rest ≡ ended_caps caps ++ body → HasNextCapsFault (limit_of y.graph y.grid) order rest what → ⊥
 caps_fault y order rest caps body what h e (inl f) =
     let cut = same_cut (caps_text caps) f.0 body f.1 (caps_lack caps h.small) f.2.first (sym (caps_more caps body) ∙ sym e ∙ f.2.spelled) in
-    caps_no_fault (limit_of y.graph y.grid) order f.0 caps what (subst (λ (t : List ℕ). AreCapsOf (limit_of y.graph y.grid) order t caps) cut.front (caps_of y order caps h)) f.3
+    caps_no_fault (limit_of y.graph y.grid) order f.0 caps what (subst (λ (t : List ℕ). AreCapsOf (limit_of y.graph y.grid) order t caps) cut.front
+    (caps_of y order caps h)) f.3
 caps_fault y order rest caps body what h e (inr f) = no_cut rest (caps_text caps) body f.1 (e ∙ caps_more caps body)
 
-next_caps_once : (greatest : Criterion → ℕ) (order : List Criterion) (rest : List ℕ) (a b : HintsWhat) → HasNextCapsFault greatest order rest a → HasNextCapsFault greatest order rest b → a ≡ b
+next_caps_once : (greatest : Criterion → ℕ) (order : List Criterion) (rest : List ℕ) (a b : HintsWhat) → HasNextCapsFault greatest order rest a →
+    HasNextCapsFault greatest order rest b → a ≡ b
 next_caps_once greatest order rest a b (inl h) (inl k) =
     let cut = same_cut h.0 k.0 h.1 k.1 h.2.first k.2.first (sym h.2.spelled ∙ k.2.spelled) in
     caps_fault_once greatest order k.0 a b (subst (λ (t : List ℕ). HasCapsFault greatest order t a) cut.front h.3) k.3
@@ -301,7 +338,8 @@ data HintsStop (y : Layout) (order : List Criterion) (claim : Claim) (bytes : Li
   AtCaps : (what : HintsWhat) (number : ℕ) → v ≡ Faulty what number → IsCapsRefused y order bytes what number → HintsStop y order claim bytes v
   Behind : IsJudgedBehind y order claim bytes v → HintsStop y order claim bytes v
 
-stop_of : (y : Layout) (order : List Criterion) (claim : Claim) (bytes : List ℕ) (v : HintsVerdict) → IsHintsJudged y order claim bytes v → HintsStop y order claim bytes v
+stop_of : (y : Layout) (order : List Criterion) (claim : Claim) (bytes : List ℕ) (v : HintsVerdict) → IsHintsJudged y order claim bytes v →
+    HintsStop y order claim bytes v
 stop_of y order claim bytes (Faulty what number) (inl (inl h)) = AtHeader what number refl h
 stop_of y order claim bytes (Faulty what number) (inl (inr h)) = AtCaps what number refl h
 stop_of y order claim bytes Certified (inl h) = absurd h
@@ -309,7 +347,8 @@ stop_of y order claim bytes (Lacks place) (inl h) = absurd h
 stop_of y order claim bytes (Refused why number) (inl h) = absurd h
 stop_of y order claim bytes v (inr h) = Behind h
 
-pub judged_once : (y : Layout) (order : List Criterion) (claim : Claim) (bytes : List ℕ) (v w : HintsVerdict) → IsClaimOf order claim → IsHintsJudged y order claim bytes v → IsHintsJudged y order claim bytes w → v ≡ w
+pub judged_once : (y : Layout) (order : List Criterion) (claim : Claim) (bytes : List ℕ) (v w : HintsVerdict) → IsClaimOf order claim →
+    IsHintsJudged y order claim bytes v → IsHintsJudged y order claim bytes w → v ≡ w
 judged_once y order claim bytes v w within h k = by (stop_of y order claim bytes v h) (stop_of y order claim bytes w k)
   where
     faulty : (a b : HintsWhat) (m n : ℕ) → v ≡ Faulty a m → w ≡ Faulty b n → a ≡ b → m ≡ n → v ≡ w
@@ -322,32 +361,41 @@ judged_once y order claim bytes v w within h k = by (stop_of y order claim bytes
     by (AtCaps a m p x) (AtHeader b n q z) = absurd (z.lacks x.rest x.spelled)
     by (AtCaps a m p x) (AtCaps b n q z) =
         let rest = append_cancel_left hints_header x.rest z.rest (sym x.spelled ∙ z.spelled) in
-        faulty a b m n p q (next_caps_once (limit_of y.graph y.grid) order z.rest a b (subst (λ (t : List ℕ). HasNextCapsFault (limit_of y.graph y.grid) order t a) rest x.fault) z.fault) (x.numbered ∙ sym z.numbered)
+        faulty a b m n p q (next_caps_once (limit_of y.graph y.grid) order z.rest a b
+        (subst (λ (t : List ℕ). HasNextCapsFault (limit_of y.graph y.grid) order t a) rest x.fault) z.fault) (x.numbered ∙ sym z.numbered)
     by (AtCaps a m p x) (Behind z) =
-        absurd (caps_fault y order x.rest z.caps z.body a z.begins.caps_for (append_cancel_left hints_header x.rest (ended_caps z.caps ++ z.body) (sym x.spelled ∙ z.begins.spelled)) x.fault)
+        absurd (caps_fault y order x.rest z.caps z.body a z.begins.caps_for (append_cancel_left hints_header x.rest (ended_caps z.caps ++ z.body)
+        (sym x.spelled ∙ z.begins.spelled)) x.fault)
     by (Behind x) (AtHeader b n q z) = absurd (z.lacks (ended_caps x.caps ++ x.body) x.begins.spelled)
     by (Behind x) (AtCaps b n q z) =
-        absurd (caps_fault y order z.rest x.caps x.body b x.begins.caps_for (append_cancel_left hints_header z.rest (ended_caps x.caps ++ x.body) (sym z.spelled ∙ x.begins.spelled)) z.fault)
+        absurd (caps_fault y order z.rest x.caps x.body b x.begins.caps_for (append_cancel_left hints_header z.rest (ended_caps x.caps ++ x.body)
+        (sym z.spelled ∙ x.begins.spelled)) z.fault)
     by (Behind x) (Behind z) =
         let same = same_caps y order bytes x.caps z.caps x.body z.body x.begins z.begins in
         body_once y order claim (expected_for y order z.caps) z.body v w within
-        (subst (λ (t : List ℕ). IsBodyVerdict y order claim (expected_for y order z.caps) t v) same.body (subst (λ (c : Values). IsBodyVerdict y order claim (expected_for y order c) x.body v) same.caps x.is_verdict)) z.is_verdict
+        (subst (λ (t : List ℕ). IsBodyVerdict y order claim (expected_for y order z.caps) t v) same.body
+        (subst (λ (c : Values). IsBodyVerdict y order claim (expected_for y order c) x.body v) same.caps x.is_verdict)) z.is_verdict
 
 -- ---- what certifies has no other verdict
 
-pub certified_due : (y : Layout) (order : List Criterion) (claim : Claim) (bytes : List ℕ) (v : HintsVerdict) → IsClaimOf order claim → HintsCertify y order claim bytes → IsHintsJudged y order claim bytes v → v ≡ Certified
+pub certified_due : (y : Layout) (order : List Criterion) (claim : Claim) (bytes : List ℕ) (v : HintsVerdict) → IsClaimOf order claim →
+    HintsCertify y order claim bytes → IsHintsJudged y order claim bytes v → v ≡ Certified
 certified_due y order claim bytes v within x k = by (stop_of y order claim bytes v k)
   where
     by : HintsStop y order claim bytes v → v ≡ Certified
     by (AtHeader b n q z) = absurd (z.lacks (ended_caps x.caps ++ x.body) x.begins.spelled)
     by (AtCaps b n q z) =
-        absurd (caps_fault y order z.rest x.caps x.body b x.begins.caps_for (append_cancel_left hints_header z.rest (ended_caps x.caps ++ x.body) (sym z.spelled ∙ x.begins.spelled)) z.fault)
+        absurd (caps_fault y order z.rest x.caps x.body b x.begins.caps_for (append_cancel_left hints_header z.rest (ended_caps x.caps ++ x.body)
+        (sym z.spelled ∙ x.begins.spelled)) z.fault)
     by (Behind z) =
         let same = same_caps y order bytes x.caps z.caps x.body z.body x.begins z.begins in
         let e = expected_for y order z.caps in
-        let certifies : BodyCertifies y order claim e z.body = subst (λ (t : List ℕ). BodyCertifies y order claim e t) same.body (subst (λ (c : Values). BodyCertifies y order claim (expected_for y order c) x.body) same.caps x.certifies) in
-        stopped_once y order claim e z.body v Certified within (stops y order claim e z.body v z.is_verdict) (inl (certified_stops y order claim e z.body certifies))
+        let certifies : BodyCertifies y order claim e z.body = subst (λ (t : List ℕ). BodyCertifies y order claim e t) same.body
+        (subst (λ (c : Values). BodyCertifies y order claim (expected_for y order c) x.body) same.caps x.certifies) in
+        stopped_once y order claim e z.body v Certified within (stops y order claim e z.body v z.is_verdict)
+        (inl (certified_stops y order claim e z.body certifies))
 
-pub certified_only : (y : Layout) (order : List Criterion) (claim : Claim) (bytes : List ℕ) → IsHintsJudged y order claim bytes Certified → HintsCertify y order claim bytes
+pub certified_only : (y : Layout) (order : List Criterion) (claim : Claim) (bytes : List ℕ) → IsHintsJudged y order claim bytes Certified →
+    HintsCertify y order claim bytes
 certified_only y order claim bytes (inl h) = absurd h
 certified_only y order claim bytes (inr h) = record { caps = h.caps; body = h.body; begins = h.begins; certifies = h.is_verdict.certifies }

@@ -33,7 +33,8 @@ use Rattle.log_check.specs.Hinted.{log_of, AreClauseLines, MeetsHints, KnowsHint
 
 -- ---- the clauses of good lines are satisfied
 
-good_hold : (a : Assignment) (clauses : Clauses) (hints : HintLines) → AreGood clauses hints → SatisfiesAll a clauses → SatisfiesAll a (flat_map refuted_of hints)
+good_hold : (a : Assignment) (clauses : Clauses) (hints : HintLines) → AreGood clauses hints → SatisfiesAll a clauses →
+    SatisfiesAll a (flat_map refuted_of hints)
 good_hold a clauses [] good h = tt
 good_hold a clauses (Learnt lits ns ∷ hints) good h =
     let holds = rup_sound a clauses lits (good_follows clauses lits ns good.0) h in
@@ -110,17 +111,20 @@ no_bound (hint ∷ hints) c k x h = elim (Contains-append_cases (line_of hint �
     other (Learnt d ns) e = cc
     other (Refuted d ns) e = cc
 
-refuted_hold : (a : Assignment) (told : Lines) (hints : HintLines) → AreClauseLines told → AreGood (flat_map given told) hints → SatisfiesAll a (flat_map given told) → (c : List Literal) → Contains (log_of told hints) (lines.Refuted c) → Satisfies a c
+refuted_hold : (a : Assignment) (told : Lines) (hints : HintLines) → AreClauseLines told → AreGood (flat_map given told) hints →
+    SatisfiesAll a (flat_map given told) → (c : List Literal) → Contains (log_of told hints) (lines.Refuted c) → Satisfies a c
 refuted_hold a told hints alone good h c there = elim (Contains-append_cases told (map line_of hints) (lines.Refuted c) there) [
   | inl early ↦ absurd (no_refuted told c (subst (λ (ls : Lines). Contains ls (lines.Refuted c)) (sym alone) early))
   | inr late ↦
-      All-contains (Satisfies a) (flat_map refuted_of hints) c (each_from_satisfies a (flat_map refuted_of hints) (good_hold a (flat_map given told) hints good h))
+      All-contains (Satisfies a) (flat_map refuted_of hints) c (each_from_satisfies a (flat_map refuted_of hints)
+      (good_hold a (flat_map given told) hints good h))
       (hinted_refuted hints c late)
 ]
 
 -- ---- values that meet the told lines
 
-agrees_with_log : (told : Lines) (hints : HintLines) (w : Values) → AreClauseLines told → MeetsLog told w → AreGood (flat_map given told) hints → Agrees (log_of told hints) w
+agrees_with_log : (told : Lines) (hints : HintLines) (w : Values) → AreClauseLines told → MeetsLog told w → AreGood (flat_map given told) hints →
+    Agrees (log_of told hints) w
 agrees_with_log told hints w alone m good = record {
   assignment = m.assignment;
   refuted = refuted_hold m.assignment told hints alone good m.formula;
@@ -132,7 +136,8 @@ agrees_with_log told hints w alone m good = record {
 
 pub none_better : (greatest : Criterion → ℕ) (told : Lines) (hints : HintLines) (order : List Criterion) (v w : Values) (s : ℕ) → MeetsHints told hints w →
     Certifies greatest (log_of told hints) order v s → Better (take s order) w v → ⊥
-none_better greatest told hints order v w s m certified b = none_better_agrees greatest (log_of told hints) order v w s (agrees_with_log told hints w m.alone m.meets m.good) certified b
+none_better greatest told hints order v w s m certified b = none_better_agrees greatest (log_of told hints) order v w s
+    (agrees_with_log told hints w m.alone m.meets m.good) certified b
 
 pub none_meets : (told : Lines) (hints : HintLines) (w : Values) → MeetsHints told hints w → CertifiesNone (log_of told hints) → ⊥
 none_meets told hints w m none = refuted_hold m.meets.assignment told hints m.alone m.good m.meets.formula [] none
@@ -168,7 +173,8 @@ refuted_in_log told hints alone =
 abbrev pub kept_as : Lines → CheckedFacts
 kept_as log = record { room = 0; facts = facts_of log; lost = false }
 
-pub knows_log : (told : Lines) (hints : HintLines) (kept : HintFacts) (bounds : List ToldBound) → KnowsHints told hints kept bounds → KnowsLog (log_of told hints) (kept_as (log_of told hints)) bounds
+pub knows_log : (told : Lines) (hints : HintLines) (kept : HintFacts) (bounds : List ToldBound) → KnowsHints told hints kept bounds →
+    KnowsLog (log_of told hints) (kept_as (log_of told hints)) bounds
 knows_log told hints kept bounds k = record {
   facts = refl;
   told =
@@ -176,7 +182,8 @@ knows_log told hints kept bounds k = record {
       ∙ ap (λ (bs : List ToldBound). flat_map told_bound told ++ bs) (sym (bounds_of_hints hints)) ∙ sym (flat_map-append told_bound told (map line_of hints));
 }
 
-pub refutes_same : (told : Lines) (hints : HintLines) (kept : HintFacts) (bounds : List ToldBound) (allowed : List Literal) → KnowsHints told hints kept bounds → RefutesByHints kept allowed ↔ RefutesLog (kept_as (log_of told hints)) allowed
+pub refutes_same : (told : Lines) (hints : HintLines) (kept : HintFacts) (bounds : List ToldBound) (allowed : List Literal) →
+    KnowsHints told hints kept bounds → RefutesByHints kept allowed ↔ RefutesLog (kept_as (log_of told hints)) allowed
 refutes_same told hints kept bounds allowed k =
     let same : kept.refuted ≡ flat_map refuted (log_of told hints) = k.refuted ∙ sym (refuted_in_log told hints k.alone) in (
       subst (λ (cs : Clauses). Any (λ c. HasAllOf allowed c) cs) same,

@@ -57,7 +57,8 @@ abbrev AtHeader : List ℕ → Verdict → Type 0
 AtHeader bytes v = (what : LogWhat) × (number : ℕ) × (v ≡ Faulty what number) × IsHeaderRefused bytes what number
 
 -- a verdict stops behind accepted lines, or there
-stops : (y : Layout) (order : List Criterion) (claim : Claim) (e : Expectation) (bytes : List ℕ) (v : Verdict) → IsLogVerdict y order claim e bytes v → Stops y order claim e bytes v ⊎ AtHeader bytes v
+stops : (y : Layout) (order : List Criterion) (claim : Claim) (e : Expectation) (bytes : List ℕ) (v : Verdict) → IsLogVerdict y order claim e bytes v →
+    Stops y order claim e bytes v ⊎ AtHeader bytes v
 stops y order claim e bytes Certified h = inl (record { lines = h.lines; rest = []; accepts = h.whole; at = (refl, h.certified) })
 stops y order claim e bytes (Lacks place) h = inl (record { lines = h.lines; rest = []; accepts = h.whole; at = (refl, h.lacks) })
 stops y order claim e bytes (Refused why number) h = inl (record {
@@ -71,7 +72,8 @@ stops y order claim e bytes (Faulty what number) (inr h) = inr (what, number, re
 
 -- ---- no verdict stops where a further line is accepted
 
-goes_on : (y : Layout) (order : List Criterion) (claim : Claim) (e : Expectation) (lines : Lines) (rest : List ℕ) (v : Verdict) (line : LogLine) (after : List ℕ) → NamesItsOwn e → MayBeTold line → rest ≡ ended_text line ++ after →
+goes_on : (y : Layout) (order : List Criterion) (claim : Claim) (e : Expectation) (lines : Lines) (rest : List ℕ) (v : Verdict) (line : LogLine)
+    (after : List ℕ) → NamesItsOwn e → MayBeTold line → rest ≡ ended_text line ++ after →
     AreAccepted e (lines ++ line ∷ []) → StopsAt y order claim e lines rest v → ⊥
 goes_on y order claim e lines rest Certified line after own told is accepted s = line_goes_on line after (sym s.0 ∙ is)
 goes_on y order claim e lines rest (Lacks place) line after own told is accepted s = line_goes_on line after (sym s.0 ∙ is)
@@ -83,14 +85,16 @@ goes_on y order claim e lines rest (Faulty what number) line after own told is a
 
 -- ---- two that stop behind the same lines
 
-claim_once : (y : Layout) (order : List Criterion) (claim : Claim) (lines : Lines) (place : ℕ) → IsClaimOf order claim → CertifiesClaim (limit_of y.graph y.grid) lines order claim → LacksAt (limit_of y.graph y.grid) lines order claim place → ⊥
+claim_once : (y : Layout) (order : List Criterion) (claim : Claim) (lines : Lines) (place : ℕ) → IsClaimOf order claim →
+    CertifiesClaim (limit_of y.graph y.grid) lines order claim → LacksAt (limit_of y.graph y.grid) lines order claim place → ⊥
 claim_once y order (Least v places) lines place within h k =
     let none : Some k.0 ≡ None = none_lacking (limit_of y.graph y.grid) lines order v places (Some k.0) within h k.2 in
     cc
 claim_once y order NoDrawing lines place within h k = k.1 h
 claim_once y order Nothing lines place within h k = k
 
-lacks_once : (y : Layout) (order : List Criterion) (claim : Claim) (lines : Lines) (a b : ℕ) → IsClaimOf order claim → LacksAt (limit_of y.graph y.grid) lines order claim a → LacksAt (limit_of y.graph y.grid) lines order claim b → a ≡ b
+lacks_once : (y : Layout) (order : List Criterion) (claim : Claim) (lines : Lines) (a b : ℕ) → IsClaimOf order claim →
+    LacksAt (limit_of y.graph y.grid) lines order claim a → LacksAt (limit_of y.graph y.grid) lines order claim b → a ≡ b
 lacks_once y order (Least v places) lines a b within h k =
     let same : Some h.0 ≡ Some k.0 = lacking_once (limit_of y.graph y.grid) lines order v places (Some h.0) (Some k.0) within h.2 k.2 in
     let place : h.0 ≡ k.0 = cc in
@@ -98,7 +102,8 @@ lacks_once y order (Least v places) lines a b within h k =
 lacks_once y order NoDrawing lines a b within h k = h.0 ∙ sym k.0
 lacks_once y order Nothing lines a b within h k = absurd h
 
-refused_same : (e : Expectation) (lines : Lines) (rest : List ℕ) (a b : Refusal) (m n : ℕ) → Refuses e lines rest a × (m ≡ length lines + 2) → Refuses e lines rest b × (n ≡ length lines + 2) → Refused a m ≡ Refused b n
+refused_same : (e : Expectation) (lines : Lines) (rest : List ℕ) (a b : Refusal) (m n : ℕ) → Refuses e lines rest a × (m ≡ length lines + 2) →
+    Refuses e lines rest b × (n ≡ length lines + 2) → Refused a m ≡ Refused b n
 refused_same e lines rest a b m n h k =
     let r = h.0 in
     let s = k.0 in
@@ -107,7 +112,8 @@ refused_same e lines rest a b m n h k =
     let number : m ≡ n = h.1 ∙ sym k.1 in
     ap (λ (w : Refusal). Refused w m) why ∙ ap (Refused b) number
 
-faulty_same : (lines : Lines) (rest : List ℕ) (a b : LogWhat) (m n : ℕ) → HasNextFault rest a × (m ≡ length lines + 2) → HasNextFault rest b × (n ≡ length lines + 2) → Faulty a m ≡ Faulty b n
+faulty_same : (lines : Lines) (rest : List ℕ) (a b : LogWhat) (m n : ℕ) → HasNextFault rest a × (m ≡ length lines + 2) →
+    HasNextFault rest b × (n ≡ length lines + 2) → Faulty a m ≡ Faulty b n
 faulty_same lines rest a b m n h k =
     let what : a ≡ b = next_fault_once rest a b h.0 k.0 in
     let number : m ≡ n = h.1 ∙ sym k.1 in
@@ -123,7 +129,8 @@ not_faulty rest what none h = no_next_fault what (subst (λ (t : List ℕ). HasN
 refused_not_faulty : (e : Expectation) (lines : Lines) (rest : List ℕ) (why : Refusal) (what : LogWhat) → Refuses e lines rest why → HasNextFault rest what → ⊥
 refused_not_faulty e lines rest why what r fault = line_has_no_fault r.line rest r.more what r.told r.is fault
 
-stops_once : (y : Layout) (order : List Criterion) (claim : Claim) (e : Expectation) (lines : Lines) (rest : List ℕ) (v w : Verdict) → IsClaimOf order claim → StopsAt y order claim e lines rest v → StopsAt y order claim e lines rest w → v ≡ w
+stops_once : (y : Layout) (order : List Criterion) (claim : Claim) (e : Expectation) (lines : Lines) (rest : List ℕ) (v w : Verdict) → IsClaimOf order claim →
+    StopsAt y order claim e lines rest v → StopsAt y order claim e lines rest w → v ≡ w
 stops_once y order claim e lines rest Certified Certified within h k = refl
 stops_once y order claim e lines rest Certified (Lacks b) within h k = absurd (claim_once y order claim lines b within h.1 k.1)
 stops_once y order claim e lines rest Certified (Refused b n) within h k = absurd (not_refused e lines rest b h.0 k.0)
@@ -144,18 +151,22 @@ stops_once y order claim e lines rest (Faulty a m) (Faulty b n) within h k = fau
 -- ---- two that stop in one text
 
 -- one begins the other
-one_front : (y : Layout) (order : List Criterion) (claim : Claim) (e : Expectation) (bytes : List ℕ) (v w : Verdict) → NamesItsOwn e → IsClaimOf order claim → (a : Stops y order claim e bytes v) (b : Stops y order claim e bytes w) → Begins a.lines b.lines a.rest b.rest → v ≡ w
+one_front : (y : Layout) (order : List Criterion) (claim : Claim) (e : Expectation) (bytes : List ℕ) (v w : Verdict) → NamesItsOwn e → IsClaimOf order claim →
+    (a : Stops y order claim e bytes v) (b : Stops y order claim e bytes w) → Begins a.lines b.lines a.rest b.rest → v ≡ w
 one_front y order claim e bytes v w own within a b f = by f.more f.lines f.rest f.told
   where
     by : (more : Lines) → b.lines ≡ a.lines ++ more → a.rest ≡ flat_map ended_text more ++ b.rest → MayAllBeTold more → v ≡ w
     by [] lines rest told =
         let same : a.lines ≡ b.lines = sym (append-nil a.lines) ∙ sym lines in
-        stops_once y order claim e b.lines b.rest v w within (subst (λ (t : List ℕ). StopsAt y order claim e b.lines t v) rest (subst (λ (ls : Lines). StopsAt y order claim e ls a.rest v) same a.at)) b.at
+        stops_once y order claim e b.lines b.rest v w within (subst (λ (t : List ℕ). StopsAt y order claim e b.lines t v) rest
+        (subst (λ (ls : Lines). StopsAt y order claim e ls a.rest v) same a.at)) b.at
     by (l ∷ more) lines rest told =
         let accepted : AreAccepted e (a.lines ++ l ∷ []) = accepted_first e a.lines l more (subst (AreAccepted e) lines b.accepts.accepted) in
-        absurd (goes_on y order claim e a.lines a.rest v l (flat_map ended_text more ++ b.rest) own told.0 (rest ∙ append_assoc (ended_text l) (flat_map ended_text more) b.rest) accepted a.at)
+        absurd (goes_on y order claim e a.lines a.rest v l (flat_map ended_text more ++ b.rest) own told.0
+        (rest ∙ append_assoc (ended_text l) (flat_map ended_text more) b.rest) accepted a.at)
 
-both_stop : (y : Layout) (order : List Criterion) (claim : Claim) (e : Expectation) (bytes : List ℕ) (v w : Verdict) → NamesItsOwn e → IsClaimOf order claim → Stops y order claim e bytes v → Stops y order claim e bytes w → v ≡ w
+both_stop : (y : Layout) (order : List Criterion) (claim : Claim) (e : Expectation) (bytes : List ℕ) (v w : Verdict) → NamesItsOwn e → IsClaimOf order claim →
+    Stops y order claim e bytes v → Stops y order claim e bytes w → v ≡ w
 both_stop y order claim e bytes v w own within a b =
     elim (log_fronts bytes a.lines b.lines a.rest b.rest a.accepts.formed b.accepts.formed a.accepts.spelled b.accepts.spelled) [
       | inl f ↦ one_front y order claim e bytes v w own within a b f
@@ -163,11 +174,13 @@ both_stop y order claim e bytes v w own within a b =
     ]
 
 -- the text of accepted lines has the first line of every log
-has_header : (y : Layout) (order : List Criterion) (claim : Claim) (e : Expectation) (bytes : List ℕ) (v : Verdict) (what : LogWhat) (number : ℕ) → Stops y order claim e bytes v → IsHeaderRefused bytes what number → ⊥
+has_header : (y : Layout) (order : List Criterion) (claim : Claim) (e : Expectation) (bytes : List ℕ) (v : Verdict) (what : LogWhat) (number : ℕ) →
+    Stops y order claim e bytes v → IsHeaderRefused bytes what number → ⊥
 has_header y order claim e bytes v what number a h =
     h.lacks (flat_map ended_text a.lines ++ a.rest) (a.accepts.spelled ∙ append_assoc header (flat_map ended_text a.lines) a.rest)
 
-verdict_once : (y : Layout) (order : List Criterion) (claim : Claim) (e : Expectation) (bytes : List ℕ) (v w : Verdict) → NamesItsOwn e → IsClaimOf order claim → IsLogVerdict y order claim e bytes v → IsLogVerdict y order claim e bytes w → v ≡ w
+verdict_once : (y : Layout) (order : List Criterion) (claim : Claim) (e : Expectation) (bytes : List ℕ) (v w : Verdict) → NamesItsOwn e →
+    IsClaimOf order claim → IsLogVerdict y order claim e bytes v → IsLogVerdict y order claim e bytes w → v ≡ w
 verdict_once y order claim e bytes v w own within h k = by (stops y order claim e bytes v h) (stops y order claim e bytes w k)
   where
     by : Stops y order claim e bytes v ⊎ AtHeader bytes v → Stops y order claim e bytes w ⊎ AtHeader bytes w → v ≡ w
@@ -181,23 +194,30 @@ verdict_once y order claim e bytes v w own within h k = by (stops y order claim 
 
 -- ---- the verdict on a log
 
-pub expected_once : (y : Layout) (order : List Criterion) (bytes : List ℕ) (a b : Expectation) → IsExpectedOf y order bytes a → IsExpectedOf y order bytes b → a ≡ b
+pub expected_once : (y : Layout) (order : List Criterion) (bytes : List ℕ) (a b : Expectation) → IsExpectedOf y order bytes a → IsExpectedOf y order bytes b →
+    a ≡ b
 expected_once y order bytes a b h k =
-    h.expected_is ∙ ap (λ (ls : Lines). expectation y order (caps (limit_of y.graph y.grid) ls)) (bounds_once bytes h.lines k.lines h.bounds k.bounds) ∙ sym k.expected_is
+    h.expected_is ∙ ap (λ (ls : Lines). expectation y order (caps (limit_of y.graph y.grid) ls)) (bounds_once bytes h.lines k.lines h.bounds k.bounds)
+    ∙ sym k.expected_is
 
-names_its_own : (y : Layout) (order : List Criterion) (bytes : List ℕ) (e : Expectation) → IsStationGraph y.graph → IsOrderOf y.graph y.order → IsGrid y.grid → IsExpectedOf y order bytes e → NamesItsOwn e
+names_its_own : (y : Layout) (order : List Criterion) (bytes : List ℕ) (e : Expectation) → IsStationGraph y.graph → IsOrderOf y.graph y.order → IsGrid y.grid →
+    IsExpectedOf y order bytes e → NamesItsOwn e
 names_its_own y order bytes e station is size h =
     subst NamesItsOwn (sym h.expected_is) (expected_clauses_there y.graph y.order y.grid order (caps (limit_of y.graph y.grid) h.lines) station is size)
 
-pub judged_once : (y : Layout) (order : List Criterion) (claim : Claim) (log : List ℕ) (v w : Verdict) → IsStationGraph y.graph → IsOrderOf y.graph y.order → IsGrid y.grid → IsClaimOf order claim → IsLogJudged y order claim log v → IsLogJudged y order claim log w → v ≡ w
+pub judged_once : (y : Layout) (order : List Criterion) (claim : Claim) (log : List ℕ) (v w : Verdict) → IsStationGraph y.graph → IsOrderOf y.graph y.order →
+    IsGrid y.grid → IsClaimOf order claim → IsLogJudged y order claim log v → IsLogJudged y order claim log w → v ≡ w
 judged_once y order claim log v w station is size within h k =
     verdict_once y order claim h.expected log v w (names_its_own y order log h.expected station is size h.is_expected) within h.is_verdict
     (subst (λ (e : Expectation). IsLogVerdict y order claim e log w) (expected_once y order log k.expected h.expected k.is_expected h.is_expected) k.is_verdict)
 
 -- where all is accepted and certifies the claim, that is the verdict
-pub certified_due : (y : Layout) (order : List Criterion) (claim : Claim) (log : List ℕ) (e : Expectation) (lines : Lines) (v : Verdict) → IsStationGraph y.graph → IsOrderOf y.graph y.order → IsGrid y.grid → IsClaimOf order claim →
-    IsExpectedOf y order log e → AcceptsFront e log lines [] → CertifiesClaim (limit_of y.graph y.grid) lines order claim → IsLogJudged y order claim log v → v ≡ Certified
+pub certified_due : (y : Layout) (order : List Criterion) (claim : Claim) (log : List ℕ) (e : Expectation) (lines : Lines) (v : Verdict) →
+    IsStationGraph y.graph → IsOrderOf y.graph y.order → IsGrid y.grid → IsClaimOf order claim →
+    IsExpectedOf y order log e → AcceptsFront e log lines [] → CertifiesClaim (limit_of y.graph y.grid) lines order claim → IsLogJudged y order claim log v →
+    v ≡ Certified
 certified_due y order claim log e lines v station is size within expected whole certified h =
-    let so = claim_is_so y order (caps (limit_of y.graph y.grid) expected.lines) (limit_of y.graph y.grid) e lines claim station is size expected.expected_is whole.accepted certified in
+    let so = claim_is_so y order (caps (limit_of y.graph y.grid) expected.lines) (limit_of y.graph y.grid) e lines claim station is size expected.expected_is
+    whole.accepted certified in
     judged_once y order claim log v Certified station is size within h
     (record { expected = e; is_expected = expected; is_verdict = record { lines = lines; whole = whole; certified = certified; is_so = so } })

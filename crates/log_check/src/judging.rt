@@ -31,7 +31,7 @@ use track_order::TrackOrder;
 const HEADER: &[u8] = b"railplan-log 1\n";
 
 /// What follows the first line of every log's text.
-fn behind_header(log: &[u8]) -> Option<&[u8]>
+pub fn behind_header(log: &[u8]) -> Option<&[u8]>
     ensures { MatchOption result ((rest : List ℕ) → log.now ≢ header ++ rest) (λ rest. log.now ≡ header ++ rest.now) }
 {
     log.strip_prefix(HEADER)

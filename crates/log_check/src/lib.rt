@@ -43,7 +43,7 @@ pub use hint_laws::{
     hints_certified_exactly, one_hints_verdict_is_due, what_hinted_logs_certify_is_so,
 };
 pub use hint_verdict::{HintRefusal, HintsVerdict};
-pub use judging::judge_log;
+pub use judging::{behind_header, judge_log};
 pub use laws::{
     certified_exactly, fronts_are_accepted, one_verdict_is_due, what_is_certified_is_so,
 };

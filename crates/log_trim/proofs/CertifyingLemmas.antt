@@ -31,7 +31,8 @@ use Rattle.log_trim.specs.Wanted.{AreWanted}
 use Rattle.log_trim.specs.TrimmedLog.{expected_by, IsTrimmedLog}
 use Rattle.log_trim.proofs.CompletingLemmas.{at_front}
 
-pub left_good : (y : Layout) (order : List Criterion) (claim : Claim) (log : List ℕ) (r : TrimmedLog) → IsTrimmedLog y order claim log r → AreGood (flat_map given (expected_by y order r).lines) r.kept
+pub left_good : (y : Layout) (order : List Criterion) (claim : Claim) (log : List ℕ) (r : TrimmedLog) → IsTrimmedLog y order claim log r →
+    AreGood (flat_map given (expected_by y order r).lines) r.kept
 left_good y order claim log r h =
     let all : flat_map given (h.lines ++ map Formula h.missing) ≡ flat_map given (expected_by y order r).lines =
     flat_map-append given h.lines (map Formula h.missing) ∙ ap (λ (cs : Clauses). flat_map given h.lines ++ cs) (given_formulas h.missing) ∙ sym h.whole in
@@ -44,7 +45,8 @@ record IsKeptAt (lines : Lines) (p : ℕ) (kept : HintLines) : Type 0 where
   among : Contains kept line
   there : slice_get lines p ≡ Some (line_of line)
 
-kept_at : (lines : Lines) (wanted : List ℕ) (low high : ℕ) (places : List ℕ) (kept : HintLines) (p : ℕ) → StandAt lines wanted low high places kept → Contains places p → IsKeptAt lines p kept
+kept_at : (lines : Lines) (wanted : List ℕ) (low high : ℕ) (places : List ℕ) (kept : HintLines) (p : ℕ) → StandAt lines wanted low high places kept →
+    Contains places p → IsKeptAt lines p kept
 kept_at lines wanted low high [] kept p stand among = nothing p (IsKeptAt lines p kept) among
 kept_at lines wanted low high (q ∷ places) [] p stand among = absurd stand
 kept_at lines wanted low high (q ∷ places) (line ∷ kept) p stand among = elim (Contains-append_cases (q ∷ []) places p among) [
@@ -58,7 +60,8 @@ kept_at lines wanted low high (q ∷ places) (line ∷ kept) p stand among = eli
 ]
 
 -- the log of the lines that are left has the Refuted line of a wanted place
-refuted_kept : (lines told : Lines) (missing : Clauses) (wanted : List ℕ) (kept : HintLines) (p : ℕ) (c : List Literal) → IsTrimmed (lines ++ map Formula missing) wanted kept → Contains wanted p → slice_get lines p ≡ Some (Refuted c) →
+refuted_kept : (lines told : Lines) (missing : Clauses) (wanted : List ℕ) (kept : HintLines) (p : ℕ) (c : List Literal) →
+    IsTrimmed (lines ++ map Formula missing) wanted kept → Contains wanted p → slice_get lines p ≡ Some (Refuted c) →
     Contains (log_of told kept) (Refuted c)
 refuted_kept lines told missing wanted kept p c trimmed among at =
     let all = lines ++ map Formula missing in
@@ -68,12 +71,16 @@ refuted_kept lines told missing wanted kept p c trimmed among at =
 
 -- ---- bounds that the log tells are expected
 
-bound_expected : (lines told : Lines) (kept : HintLines) (c : Criterion) (k : ℕ) (x : Var) → BeginsLines (clause_lines lines) told → Contains lines (Bound c k x) → Contains (log_of told kept) (Bound c k x)
+bound_expected : (lines told : Lines) (kept : HintLines) (c : Criterion) (k : ℕ) (x : Var) → BeginsLines (clause_lines lines) told →
+    Contains lines (Bound c k x) → Contains (log_of told kept) (Bound c k x)
 bound_expected lines told kept c k x (rest, is) there =
-    let one : Contains (clause_lines lines) (Bound c k x) = Contains-flat_map clause_line lines (Bound c k x) (Bound c k x) there (Contains-head (Bound c k x) []) in
-    Contains-append_left told (map line_of kept) (Bound c k x) (subst (λ (ls : Lines). Contains ls (Bound c k x)) (sym is) (Contains-append_left (clause_lines lines) rest (Bound c k x) one))
+    let one : Contains (clause_lines lines) (Bound c k x) = Contains-flat_map clause_line lines (Bound c k x) (Bound c k x) there
+    (Contains-head (Bound c k x) []) in
+    Contains-append_left told (map line_of kept) (Bound c k x) (subst (λ (ls : Lines). Contains ls (Bound c k x)) (sym is)
+    (Contains-append_left (clause_lines lines) rest (Bound c k x) one))
 
-says_still : (greatest : Criterion → ℕ) (lines told : Lines) (kept : HintLines) (c : Criterion) (k : ℕ) (l : Literal) → BeginsLines (clause_lines lines) told → SaysAtLeast greatest lines c k l → SaysAtLeast greatest (log_of told kept) c k l
+says_still : (greatest : Criterion → ℕ) (lines told : Lines) (kept : HintLines) (c : Criterion) (k : ℕ) (l : Literal) → BeginsLines (clause_lines lines) told →
+    SaysAtLeast greatest lines c k l → SaysAtLeast greatest (log_of told kept) c k l
 says_still greatest lines told kept c k l begins s = record {
   within = s.within;
   variable = s.variable;
@@ -81,14 +88,23 @@ says_still greatest lines told kept c k l begins s = record {
   is = s.is;
 }
 
-reaches_still : (greatest : Criterion → ℕ) (lines told : Lines) (kept : HintLines) (earlier : List Criterion) (c : Criterion) (v : Values) → BeginsLines (clause_lines lines) told → (l : Literal) →
+reaches_still : (greatest : Criterion → ℕ) (lines told : Lines) (kept : HintLines) (earlier : List Criterion) (c : Criterion) (v : Values) →
+    BeginsLines (clause_lines lines) told → (l : Literal) →
     IsOutOfReach greatest lines earlier c v l → IsOutOfReach greatest (log_of told kept) earlier c v l
-reaches_still greatest lines told kept earlier c v begins l (inl any) = inl (any.0, any.1, any.2, any.3, says_still greatest lines told kept any.1 (value_of v any.1 + 1) l begins any.4)
+reaches_still greatest lines told kept earlier c v begins l (inl any) = inl (
+  any.0,
+  any.1,
+  any.2,
+  any.3,
+  says_still greatest lines told kept any.1
+      (value_of v any.1 + 1) l begins any.4,
+)
 reaches_still greatest lines told kept earlier c v begins l (inr s) = inr (says_still greatest lines told kept c (value_of v c) l begins s)
 
 -- ---- so they certify what the log does
 
-certifies_still : (greatest : Criterion → ℕ) (lines told : Lines) (missing : Clauses) (wanted : List ℕ) (kept : HintLines) (order : List Criterion) (claim : Claim) → BeginsLines (clause_lines lines) told →
+certifies_still : (greatest : Criterion → ℕ) (lines told : Lines) (missing : Clauses) (wanted : List ℕ) (kept : HintLines) (order : List Criterion)
+    (claim : Claim) → BeginsLines (clause_lines lines) told →
     IsTrimmed (lines ++ map Formula missing) wanted kept → AreWanted greatest lines order claim wanted → CertifiesClaim greatest (log_of told kept) order claim
 certifies_still greatest lines told missing wanted kept order (Least v s) begins trimmed are = λ i c low at positive.
     let r = are.each i c (record { below = low; at = at; positive = positive }) in
@@ -96,7 +112,8 @@ certifies_still greatest lines told missing wanted kept order (Least v s) begins
       clause = r.2.clause;
       among = refuted_kept lines told missing wanted kept r.0 r.2.clause trimmed r.1 r.2.there;
       each =
-          All-weaker (IsOutOfReach greatest lines (take i order) c v) (IsOutOfReach greatest (log_of told kept) (take i order) c v) (reaches_still greatest lines told kept (take i order) c v begins) r.2.clause
+          All-weaker (IsOutOfReach greatest lines (take i order) c v) (IsOutOfReach greatest (log_of told kept) (take i order) c v)
+          (reaches_still greatest lines told kept (take i order) c v begins) r.2.clause
           r.2.each;
     }
 certifies_still greatest lines told missing wanted kept order NoDrawing begins trimmed are =

@@ -1,5 +1,6 @@
 -- Formula lines at the end of a log that lacks them, and what is trimmed of it then.
-use Rattle.std.proofs.Common.{◌≡◌, ◌≤◌, ◌<◌, ℕ, zero, suc, ◌+◌, List, [], ◌∷◌, ◌++◌, length, map, take, drop, get_or, Bool, true, false, Some, None, refl, sym, ◌∙◌, ap, subst, inl, inr, arith, append-nil, append_assoc, length-append}
+use Rattle.std.proofs.Common.{◌≡◌, ◌≤◌, ◌<◌, ℕ, zero, suc, ◌+◌, List, [], ◌∷◌, ◌++◌, length, map, take, drop, get_or, Bool, true, false, Some, None, refl, sym}
+use Rattle.std.proofs.Common.{◌∙◌, ap, subst, inl, inr, arith, append-nil, append_assoc, length-append}
 use Rattle.std.specs.Prelude.{All, Contains, Option, MatchBool, MatchOption, flat_map, slice_get, slice_index_or}
 use Rattle.std.proofs.lemmas.Grind.{flat_map-append}
 use Rattle.std.proofs.lemmas.List.{get_or_append_left, take-append-drop, take-append-le}
@@ -36,7 +37,10 @@ use Rattle.log_trim.specs.Shown.{IsCompleted, MayBeTrimmed, IsReadied, IsKeptOf}
 pub clause_told : (f : Cnf) (c d : List Literal) → IsFormula f → d ≡ c → AreDistinct c → AreThere f.vars c → MayBeTold (Formula d)
 clause_told f c d h is distinct there =
     let limit = h.vars_limit in
-    subst (λ (e : List Literal). MayBeTold (Formula e)) (sym is) (record { formed = there_more f.vars LAST_VAR c (omega (arith, limit)) there; once = distinct })
+    subst (λ (e : List Literal). MayBeTold (Formula e)) (sym is) (record {
+      formed = there_more f.vars LAST_VAR c (omega (arith, limit)) there;
+      once = distinct;
+    })
 
 -- ---- the clauses that are missing
 
@@ -53,13 +57,15 @@ begun e lines (rest, is) = record {
       ∙ ap (λ (cs : Clauses). cs ++ flat_map given rest) (given_of_clauses lines);
 }
 
-pub fewer : (e : Expectation) (lines : Lines) (cs : Clauses) → BeginsLines (clause_lines lines) e.lines → cs ≡ flat_map given e.lines → length (flat_map given lines) ≤ length cs
+pub fewer : (e : Expectation) (lines : Lines) (cs : Clauses) → BeginsLines (clause_lines lines) e.lines → cs ≡ flat_map given e.lines →
+    length (flat_map given lines) ≤ length cs
 fewer e lines cs begins are =
     let b = begun e lines begins in
     let is : length cs ≡ length (flat_map given lines) + length b.missing = ap length (are ∙ b.whole) ∙ length-append (flat_map given lines) b.missing in
     omega (arith, is)
 
-pub completed : (e : Expectation) (old new : Lines) (cs : Clauses) → BeginsLines (clause_lines old) e.lines → cs ≡ flat_map given e.lines → new ≡ old ++ map Formula (drop (length (flat_map given old)) cs) → IsCompleted e old new
+pub completed : (e : Expectation) (old new : Lines) (cs : Clauses) → BeginsLines (clause_lines old) e.lines → cs ≡ flat_map given e.lines →
+    new ≡ old ++ map Formula (drop (length (flat_map given old)) cs) → IsCompleted e old new
 completed e old new cs begins are is =
     let b = begun e old begins in
     let rest : drop (length (flat_map given old)) cs ≡ b.missing =
@@ -69,12 +75,14 @@ completed e old new cs begins are is =
 -- ---- what is expected has room where a line is refuted
 
 -- without Formula lines a Refuted line names no variable, and one without literals doesn't follow
-none_refuted : (lines : Lines) (p : ℕ) (c : List Literal) → MayAllBeTold lines → Derives lines → clause_lines lines ≡ [] → slice_get lines p ≡ Some (Refuted c) → ⊥
+none_refuted : (lines : Lines) (p : ℕ) (c : List Literal) → MayAllBeTold lines → Derives lines → clause_lines lines ≡ [] →
+    slice_get lines p ≡ Some (Refuted c) → ⊥
 none_refuted lines p c told derives none at =
     let low = slice_get_within lines p (Refuted c) at in
     let one = told_at lines p (Refuted c) told low (sym (get_or_from_slice_get lines p (Refuted c) (Refuted c) at)) in
     let given_none : flat_map given lines ≡ [] = sym (given_of_clauses lines) ∙ ap (flat_map given) none in
-    let before : flat_map given (take p lines) ≡ [] = first_none (flat_map given (take p lines)) (flat_map given (drop p lines)) (sym (flat_map-append given (take p lines) (drop p lines)) ∙ ap (flat_map given) (take-append-drop p lines) ∙ given_none) in
+    let before : flat_map given (take p lines) ≡ [] = first_none (flat_map given (take p lines)) (flat_map given (drop p lines))
+    (sym (flat_map-append given (take p lines) (drop p lines)) ∙ ap (flat_map given) (take-append-drop p lines) ∙ given_none) in
     by c one.formed (subst (λ (cs : Clauses). All (λ l. l.var ≤ greatest_var cs) c) before (derives p (Refuted c) at).named) at
   where
     first_none : (xs ys : Clauses) → xs ++ ys ≡ [] → xs ≡ []
@@ -87,7 +95,8 @@ none_refuted lines p c told derives none at =
     by : (d : List Literal) → AreThere LAST_VAR d → All (λ l. l.var ≤ 0) d → slice_get lines p ≡ Some (Refuted d) → ⊥
     by [] there named is =
         let among : Contains lines (Refuted []) = (p, slice_get_within lines p (Refuted []) is, get_or_from_slice_get lines p (Refuted []) (Refuted []) is) in
-        refuted_holds all_true lines derives (subst (λ (cs : Clauses). SatisfiesAll all_true cs) (sym (sym (given_of_clauses lines) ∙ ap (flat_map given) none)) tt) [] among
+        refuted_holds all_true lines derives (subst (λ (cs : Clauses). SatisfiesAll all_true cs) (sym (sym (given_of_clauses lines) ∙ ap (flat_map given) none))
+        tt) [] among
     by (l ∷ ls) there named is =
         let from = there.0.0 in
         let to = All-head (λ (k : Literal). k.var ≤ 0) l ls named in
@@ -99,7 +108,8 @@ some_wanted [] some = absurd (omega (arith, some))
 some_wanted (p ∷ wanted) some = (p, Contains-head p wanted)
 
 -- so no line is wanted where there is no room for what is expected
-pub not_wanted : (e : Expectation) (lines : Lines) (wanted : List ℕ) → MayAllBeTold lines → PassesLimits e → AreRefutedLines lines wanted → 1 ≤ length wanted → AreAccepted e lines → ⊥
+pub not_wanted : (e : Expectation) (lines : Lines) (wanted : List ℕ) → MayAllBeTold lines → PassesLimits e → AreRefutedLines lines wanted → 1 ≤ length wanted →
+    AreAccepted e lines → ⊥
 not_wanted e lines wanted told passes refuted some a =
     let one = some_wanted wanted some in
     let r = refuted one.0 one.1 in
@@ -111,8 +121,14 @@ pub no_room : (e : Expectation) (lines : Lines) → ROOM < words_of (flat_map ad
 no_room e lines many a = let few = a.room in omega (arith, many, few)
 
 -- without Formula and Bound lines, and with none that is wanted, only their room counts
-pub readied_by_room : (e : Expectation) (lines : Lines) (wanted : List ℕ) (b : Bool) → wanted ≡ [] → clause_lines lines ≡ [] → MatchBool b (words_of (flat_map added lines) ≤ ROOM) (ROOM < words_of (flat_map added lines)) → IsReadied e lines wanted lines b
-readied_by_room e lines wanted true empty none room = record { front = (e.lines, ap (λ (ls : Lines). ls ++ e.lines) (sym none)); within = λ some. absurd (some none); room = room; completed = inr (empty, refl) }
+pub readied_by_room : (e : Expectation) (lines : Lines) (wanted : List ℕ) (b : Bool) → wanted ≡ [] → clause_lines lines ≡ [] →
+    MatchBool b (words_of (flat_map added lines) ≤ ROOM) (ROOM < words_of (flat_map added lines)) → IsReadied e lines wanted lines b
+readied_by_room e lines wanted true empty none room = record {
+  front = (e.lines, ap (λ (ls : Lines). ls ++ e.lines) (sym none));
+  within = λ some. absurd (some none);
+  room = room;
+  completed = inr (empty, refl);
+}
 readied_by_room e lines wanted false empty none room = no_room e lines room
 
 -- ---- the lines with them
@@ -123,7 +139,8 @@ stands lines c = record { named = All-nil (λ (l : Literal). l.var ≤ greatest_
 derives_formulas : (lines : Lines) (cs : Clauses) → Derives lines → Derives (lines ++ map Formula cs)
 derives_formulas lines [] d = subst Derives (sym (append-nil lines)) d
 derives_formulas lines (c ∷ cs) d =
-    subst Derives (append_assoc lines (Formula c ∷ []) (map Formula cs)) (derives_formulas (lines ++ Formula c ∷ []) cs (derives_more lines (Formula c) d (stands lines c)))
+    subst Derives (append_assoc lines (Formula c ∷ []) (map Formula cs)) (derives_formulas (lines ++ Formula c ∷ []) cs
+    (derives_more lines (Formula c) d (stands lines c)))
 
 pub at_front : (lines more : Lines) (p : ℕ) (line : LogLine) → slice_get lines p ≡ Some line → slice_get (lines ++ more) p ≡ Some line
 at_front lines more p line e =
@@ -149,7 +166,8 @@ derived_before e old new wanted may d = elim may.completed [
   | inr h ↦ subst Derives h.1 d
 ]
 
-pub still_refuted : (e : Expectation) (old new : Lines) (wanted : List ℕ) → MayBeTrimmed e old wanted new → AreRefutedLines old wanted → AreRefutedLines new wanted
+pub still_refuted : (e : Expectation) (old new : Lines) (wanted : List ℕ) → MayBeTrimmed e old wanted new → AreRefutedLines old wanted →
+    AreRefutedLines new wanted
 still_refuted e old new wanted may refuted = elim may.completed [
   | inl h ↦ λ p among.
       let r = refuted p among in
@@ -163,7 +181,8 @@ none_named : (n : ℕ) (kept : HintLines) → kept ≡ [] → IsNamedLater n kep
 none_named n kept none named = let low = named.2 in let size = ap length none in omega (arith, low, size)
 
 -- nothing is kept where nothing is wanted
-nothing_kept : (lines : Lines) (low high count : ℕ) (places : List ℕ) (kept : HintLines) → StandAt lines [] low high places kept → AreUsed count kept → kept ≡ []
+nothing_kept : (lines : Lines) (low high count : ℕ) (places : List ℕ) (kept : HintLines) → StandAt lines [] low high places kept → AreUsed count kept →
+    kept ≡ []
 nothing_kept lines low high count places [] stand used = refl
 nothing_kept lines low high count [] (line ∷ kept) stand used = absurd stand
 nothing_kept lines low high count (p ∷ places) (Learnt lits hints ∷ kept) stand used =
@@ -175,9 +194,17 @@ none_trimmed : (lines : Lines) (missing : Clauses) (kept : HintLines) → IsTrim
 none_trimmed lines missing kept h =
     let all = lines ++ map Formula missing in
     let empty = nothing_kept lines 0 (length lines) (length (flat_map given lines)) h.places kept h.stand h.used in
-    subst (IsTrimmed all []) (sym empty) (record { places = []; stand = (omega arith); all = λ p among. nothing p (Contains [] p) among; used = tt; good = tt; lean = tt })
+    subst (IsTrimmed all []) (sym empty) (record {
+      places = [];
+      stand = (omega arith);
+      all = λ p among. nothing p (Contains [] p) among;
+      used = tt;
+      good = tt;
+      lean = tt;
+    })
 
-kept_so : (e : Expectation) (old new : Lines) (wanted : List ℕ) (kept : HintLines) → MayBeTrimmed e old wanted new → Derives new → IsTrimmed new wanted kept → IsKeptOf e old wanted kept
+kept_so : (e : Expectation) (old new : Lines) (wanted : List ℕ) (kept : HintLines) → MayBeTrimmed e old wanted new → Derives new → IsTrimmed new wanted kept →
+    IsKeptOf e old wanted kept
 kept_so e old new wanted kept may d trimmed = elim may.completed [
   | inl h ↦ record { accepted = accepted; missing = h.missing; whole = h.whole; trimmed = subst (λ (ls : Lines). IsTrimmed ls wanted kept) h.added trimmed }
   | inr h ↦
@@ -194,7 +221,8 @@ kept_so e old new wanted kept may d trimmed = elim may.completed [
     accepted : AreAccepted e old
     accepted = record { front = may.front; within = may.within; derives = derived_before e old new wanted may d; room = may.room }
 
-pub kept_of : (e : Expectation) (old new : Lines) (wanted : List ℕ) (r : Option HintLines) → MayBeTrimmed e old wanted new → MatchOption r (Derives new → ⊥) (λ kept. Derives new × IsTrimmed new wanted kept) →
+pub kept_of : (e : Expectation) (old new : Lines) (wanted : List ℕ) (r : Option HintLines) → MayBeTrimmed e old wanted new →
+    MatchOption r (Derives new → ⊥) (λ kept. Derives new × IsTrimmed new wanted kept) →
     MatchOption r (AreAccepted e old → ⊥) (IsKeptOf e old wanted)
 kept_of e old new wanted None may none = λ a. none (still_derives e old new wanted may a.derives)
 kept_of e old new wanted (Some kept) may h = kept_so e old new wanted kept may h.0 h.1

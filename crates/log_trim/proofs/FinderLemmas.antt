@@ -1,5 +1,6 @@
 -- What a finder keeps.
-use Rattle.std.proofs.Common.{◌≡◌, ℕ, ◌+◌, ◌≤◌, true, false, cond, nat_eq, eqb, zero, suc, List, [], ◌∷◌, ◌++◌, length, refl, sym, ◌∙◌, ap, subst, inl, inr, arith, length-append}
+use Rattle.std.proofs.Common.{◌≡◌, ℕ, ◌+◌, ◌≤◌, true, false, cond, nat_eq, eqb, zero, suc, List, [], ◌∷◌, ◌++◌, length, refl, sym, ◌∙◌, ap, subst, inl, inr}
+use Rattle.std.proofs.Common.{arith, length-append}
 use Rattle.std.specs.Prelude.{Contains}
 use Rattle.std.proofs.lemmas.Bool.Decides.{eqb_tells}
 use Rattle.std.proofs.lemmas.List.{get_or_append_left, get_or_push}
@@ -20,7 +21,8 @@ pub numbered_front : (cs : Clauses) (c : List Literal) (n : ℕ) → NamesClause
 numbered_front cs c zero h = let from = h.from in absurd (omega arith)
 numbered_front cs c (suc n) h = let to = h.to in get_or_append_left cs (c ∷ []) [] n (omega arith)
 
-pub clauses_named : (vars : ℕ) (all taken : Clauses) (a : Attached) (numbers : List ℕ) (c : List Literal) → AreClauses vars all taken a numbers → AreClauses vars (all ++ c ∷ []) taken a numbers
+pub clauses_named : (vars : ℕ) (all taken : Clauses) (a : Attached) (numbers : List ℕ) (c : List Literal) → AreClauses vars all taken a numbers →
+    AreClauses vars (all ++ c ∷ []) taken a numbers
 clauses_named vars all taken a numbers c old = record {
   vars_are = old.vars_are;
   limit = old.limit;
@@ -38,10 +40,18 @@ clauses_named vars all taken a numbers c old = record {
 }
 
 pub finder_more : (all taken : Clauses) (c : List Literal) (f : Finder) → IsFinder all taken f → IsFinder (all ++ c ∷ []) taken f
-finder_more all taken c f h = record { clauses = clauses_named f.vars all taken f.arena f.numbers.items c h.clauses; idle = h.idle; size = h.size; unneeded = h.unneeded }
+finder_more all taken c f h = record {
+  clauses = clauses_named f.vars all taken f.arena f.numbers.items c h.clauses;
+  idle = h.idle;
+  size = h.size;
+  unneeded = h.unneeded;
+}
 
 -- one more clause is taken, which has a number
-module _ (vars : ℕ) (all taken : Clauses) (a b : Attached) (numbers now : List ℕ) (c d : List Literal) (p n : ℕ) (old : AreClauses vars all taken a numbers) (places : b.places ≡ a.places ++ p ∷ []) (clause : attached_at b p ≡ d) (more : IsMoreText a b) (attached : AreAttached b) (padded : IsPadded vars c d) (there : AreThere vars c) (distinct : AreDistinct c) (valid : NamesClause all n) (is : numbered all n ≡ c) (number : (q : ℕ) → number_of_place now q ≡ cond (nat_eq q p) n (number_of_place numbers q)) where
+module _ (vars : ℕ) (all taken : Clauses) (a b : Attached) (numbers now : List ℕ) (c d : List Literal) (p n : ℕ) (old : AreClauses vars all taken a numbers)
+    (places : b.places ≡ a.places ++ p ∷ []) (clause : attached_at b p ≡ d) (more : IsMoreText a b) (attached : AreAttached b) (padded : IsPadded vars c d)
+    (there : AreThere vars c) (distinct : AreDistinct c) (valid : NamesClause all n) (is : numbered all n ≡ c)
+    (number : (q : ℕ) → number_of_place now q ≡ cond (nat_eq q p) n (number_of_place numbers q)) where
   known_here : (q : ℕ) → Contains b.places q → q ≡ p → eqb q p ≡ true → IsNumberedPlace vars all (taken ++ c ∷ []) b now q
   known_here q among same test =
       let at = attached q among in
@@ -62,7 +72,8 @@ module _ (vars : ℕ) (all taken : Clauses) (a b : Attached) (numbers now : List
       record {
         from = k.from;
         valid = subst (NamesClause all) (sym same) k.valid;
-        among = subst (λ m. Contains (taken ++ c ∷ []) (numbered all m)) (sym same) (Contains-append_left taken (c ∷ []) (numbered all (number_of_place numbers q)) k.among);
+        among = subst (λ m. Contains (taken ++ c ∷ []) (numbered all m)) (sym same)
+            (Contains-append_left taken (c ∷ []) (numbered all (number_of_place numbers q)) k.among);
         padded = subst (λ m. IsPadded vars (numbered all m) (attached_at b q)) (sym same)
             (subst (λ (e : List Literal). IsPadded vars (numbered all (number_of_place numbers q)) e) (sym (more.lits q before)) k.padded);
       }
@@ -105,7 +116,8 @@ module _ (vars : ℕ) (all taken : Clauses) (a b : Attached) (numbers now : List
   }
 
 -- clauses in another order of literals
-pub clauses_same : (vars : ℕ) (all taken : Clauses) (a b : Attached) (numbers : List ℕ) → AreClauses vars all taken a numbers → IsSameText a b → AreClauses vars all taken b numbers
+pub clauses_same : (vars : ℕ) (all taken : Clauses) (a b : Attached) (numbers : List ℕ) → AreClauses vars all taken a numbers → IsSameText a b →
+    AreClauses vars all taken b numbers
 clauses_same vars all taken a b numbers old same = record {
   vars_are = let v = old.vars_are in let w = same.vars in omega (arith, v, w);
   limit = old.limit;

@@ -1,5 +1,6 @@
 -- Hints that are found from the last one to the first.
-use Rattle.std.proofs.Common.{◌≡◌, ℕ, ◌+◌, ◌-◌, ◌<◌, ◌≤◌, ◌⊎◌, Bool, true, false, zero, suc, List, [], ◌∷◌, ◌++◌, length, take, drop, get_or, map, reverse, refl, sym, ◌∙◌, ap, subst, inl, inr, arith, length-take-le}
+use Rattle.std.proofs.Common.{◌≡◌, ℕ, ◌+◌, ◌-◌, ◌<◌, ◌≤◌, ◌⊎◌, Bool, true, false, zero, suc, List, [], ◌∷◌, ◌++◌, length, take, drop, get_or, map, reverse}
+use Rattle.std.proofs.Common.{refl, sym, ◌∙◌, ap, subst, inl, inr, arith, length-take-le}
 use Rattle.std.specs.Prelude.{All, Contains}
 use Rattle.std.proofs.lemmas.Bool.{both_ways, cases_lt, false_from_ne_true}
 use Rattle.std.proofs.lemmas.List.{take_all, take_more, get_or-take, get_or_default, get_or-set_other, reverse-append}
@@ -19,13 +20,16 @@ use Rattle.std.proofs.lemmas.Grind.{get_or-set_at}
 use Rattle.watch_arena.specs.Trail.{Marks}
 use Rattle.hint_log.specs.Hint.{numbered, NamesClause, LeavesOne, Shows}
 use Rattle.log_trim.specs.Trimmed.{IsInNamed, AreLean}
-use Rattle.log_trim.specs.Found.{IsPadded, number_of_place, HasReasonAt, HaveReasons, AreClauses, IsDenying, IsUnfalsifiedEnd, is_needed, NoneNeeded, HasNeeded, HasAssumed, HasVar, ShowsFromFront, IsBefore, AreNeededByHints, AreLeanFromFront, IsFoundFromFront, IsLeanHint, NeedsWithin, assumed}
+use Rattle.log_trim.specs.Found.{IsPadded, number_of_place, HasReasonAt, HaveReasons, AreClauses, IsDenying, IsUnfalsifiedEnd, is_needed, NoneNeeded}
+use Rattle.log_trim.specs.Found.{HasNeeded, HasAssumed, HasVar, ShowsFromFront, IsBefore, AreNeededByHints, AreLeanFromFront, IsFoundFromFront, IsLeanHint}
+use Rattle.log_trim.specs.Found.{NeedsWithin, assumed}
 use Rattle.log_trim.proofs.LeanLemmas.{needed_within, lean_more, named_first, named_later, front_within}
 use Rattle.hint_log.proofs.LeftLemmas.{IsFalse, IsOneOrFalse, left_one, left_none}
 use Rattle.hint_log.proofs.NegationLemmas.{has_negated}
 
 -- one more hint in front
-pub shows_more : (clauses : Clauses) (set : List Literal) (n : ℕ) (l : Literal) (hints : List ℕ) → LeavesOne clauses (has set) n l → Shows clauses (set ++ l ∷ []) hints → Shows clauses set (n ∷ hints)
+pub shows_more : (clauses : Clauses) (set : List Literal) (n : ℕ) (l : Literal) (hints : List ℕ) → LeavesOne clauses (has set) n l →
+    Shows clauses (set ++ l ∷ []) hints → Shows clauses set (n ∷ hints)
 shows_more clauses set n l hints one s = record {
   front = n ∷ s.front;
   last = s.last;
@@ -36,7 +40,8 @@ shows_more clauses set n l hints one s = record {
 }
 
 -- a literal of the front of the trail that is needed
-in_set : (trail : List Literal) (i : ℕ) (needed : List Bool) (set : List Literal) (k : Literal) → i ≤ length trail → HasNeeded trail i needed set → IsIn (has (take i trail)) k → is_needed needed k.var ≡ true → IsIn (has set) k
+in_set : (trail : List Literal) (i : ℕ) (needed : List Bool) (set : List Literal) (k : Literal) → i ≤ length trail → HasNeeded trail i needed set →
+    IsIn (has (take i trail)) k → is_needed needed k.var ≡ true → IsIn (has set) k
 in_set trail i needed set k within needs h need =
     let at = contains_from_has (take i trail) k h in
     let size : length (take i trail) ≡ i = length-take-le i trail within in
@@ -56,12 +61,15 @@ not_further vars c d k low padded among = elim (padded.only k among) [
 
 -- the literals of a clause that is padded, false by a set that has what is needed
 module _ (trail : List Literal) (i : ℕ) (needed : List Bool) (set : List Literal) (within : i ≤ length trail) (needs : HasNeeded trail i needed set) where
-  falsified : (vars : ℕ) (c d : List Literal) → IsPadded vars c d → All (λ k. is_needed needed k.var ≡ true) c → All (IsFalse (has (take i trail))) d → All (IsFalse (has set)) c
+  falsified : (vars : ℕ) (c d : List Literal) → IsPadded vars c d → All (λ k. is_needed needed k.var ≡ true) c → All (IsFalse (has (take i trail))) d →
+      All (IsFalse (has set)) c
   falsified vars c d padded each all = λ j e lt.
       let k = get_or c j e in
-      in_set trail i needed set (negate k) within needs (All-contains (IsFalse (has (take i trail))) d k all (padded.whole k (Contains-get_or c j e lt))) (each j e lt)
+      in_set trail i needed set (negate k) within needs (All-contains (IsFalse (has (take i trail))) d k all (padded.whole k (Contains-get_or c j e lt)))
+      (each j e lt)
 
-  others : (vars : ℕ) (c d : List Literal) (l : Literal) → IsPadded vars c d → All (λ k. is_needed needed k.var ≡ true) c → All (IsOneOrFalse (has (take i trail)) l) d → All (IsOneOrFalse (has set) l) c
+  others : (vars : ℕ) (c d : List Literal) (l : Literal) → IsPadded vars c d → All (λ k. is_needed needed k.var ≡ true) c →
+      All (IsOneOrFalse (has (take i trail)) l) d → All (IsOneOrFalse (has set) l) c
   others vars c d l padded each all = λ j e lt.
       let k = get_or c j e in
       elim (All-contains (IsOneOrFalse (has (take i trail)) l) d k all (padded.whole k (Contains-get_or c j e lt))) [
@@ -75,33 +83,45 @@ next_is trail i j l d lt is below ge =
     ap (λ x. get_or trail x d) same ∙ get_or_default trail i d l lt ∙ is
 
 -- a clause's variables are needed, where those of the padded one are
-pub needs_clause : (vars : ℕ) (c d : List Literal) (needed more : List Bool) → IsPadded vars c d → AreThere vars c → length more ≡ vars + 1 → NeedsWithin d needed more → All (λ k. is_needed more k.var ≡ true) c
+pub needs_clause : (vars : ℕ) (c d : List Literal) (needed more : List Bool) → IsPadded vars c d → AreThere vars c → length more ≡ vars + 1 →
+    NeedsWithin d needed more → All (λ k. is_needed more k.var ≡ true) c
 needs_clause vars c d needed more padded there size need = λ j e lt.
     let k = get_or c j e in
     let low = (there_get vars c j e lt there).1 in
-    All-contains (λ (x : Literal). x.var < length more → is_needed more x.var ≡ true) d k need.each (padded.whole k (Contains-get_or c j e lt)) (omega (arith, low, size))
+    All-contains (λ (x : Literal). x.var < length more → is_needed more x.var ≡ true) d k need.each (padded.whole k (Contains-get_or c j e lt))
+    (omega (arith, low, size))
 
 -- the clause whose literals are all false is the last hint
-shows_first : (clauses : Clauses) (vars : ℕ) (m : Marks) (n : ℕ) (d : List Literal) (more : List Bool) → NamesClause clauses n → IsPadded vars (numbered clauses n) d → All (IsFalse (has m.lits)) d → All (λ k. is_needed more k.var ≡ true) (numbered clauses n) → ShowsFromFront clauses vars m (length m.lits) more (n ∷ [])
+shows_first : (clauses : Clauses) (vars : ℕ) (m : Marks) (n : ℕ) (d : List Literal) (more : List Bool) → NamesClause clauses n →
+    IsPadded vars (numbered clauses n) d → All (IsFalse (has m.lits)) d → All (λ k. is_needed more k.var ≡ true) (numbered clauses n) →
+    ShowsFromFront clauses vars m (length m.lits) more (n ∷ [])
 shows_first clauses vars m n d more number padded all need = λ set within given needs.
-    let whole : All (IsFalse (has (take (length m.lits) m.lits))) d = subst (λ (ls : List Literal). All (IsFalse (has ls)) d) (sym (take_all (length m.lits) m.lits (omega arith))) all in
+    let whole : All (IsFalse (has (take (length m.lits) m.lits))) d = subst (λ (ls : List Literal). All (IsFalse (has ls)) d)
+    (sym (take_all (length m.lits) m.lits (omega arith))) all in
     record {
       front = [];
       last = n;
       are = refl;
       to = set;
       leads = refl;
-      none = record { number = number; none = left_none (has set) (numbered clauses n) (falsified m.lits (length m.lits) more set (omega arith) needs vars (numbered clauses n) d padded need whole) };
+      none = record {
+        number = number;
+        none = left_none (has set) (numbered clauses n) (falsified m.lits (length m.lits) more set (omega arith) needs vars
+            (numbered clauses n) d padded need whole);
+      };
     }
 
 -- a literal of a named clause whose variable is that of a literal of the trail is its negation
-named_negation : (trail : List Literal) (vars : ℕ) (c d : List Literal) (t k : Literal) → AreDistinct trail → Contains trail t → Contains d k → k.var ≡ t.var → t.var ≤ vars → IsPadded vars c d → Contains trail (negate k) → Contains c (negate t)
+named_negation : (trail : List Literal) (vars : ℕ) (c d : List Literal) (t k : Literal) → AreDistinct trail → Contains trail t → Contains d k → k.var ≡ t.var →
+    t.var ≤ vars → IsPadded vars c d → Contains trail (negate k) → Contains c (negate t)
 named_negation trail vars c d t k distinct on among var low padded turned =
     let same : negate k ≡ t = same_place trail (negate k) t distinct turned on var in
     let is : k ≡ negate t = sym (negate-negate k) ∙ ap negate same in
     subst (λ (x : Literal). Contains c x) is (not_further vars c d k (subst (λ x. x ≤ vars) (sym var) low) padded among)
 
-pub go_first : (clauses : Clauses) (vars : ℕ) (m : Marks) (n : ℕ) (d : List Literal) (needed more : List Bool) → AreDistinct m.lits → NamesClause clauses n → IsPadded vars (numbered clauses n) d → All (IsFalse (has m.lits)) d → All (λ k. is_needed more k.var ≡ true) (numbered clauses n) → NoneNeeded needed → length more ≡ vars + 1 → NeedsWithin d needed more → IsFoundFromFront clauses vars m (length m.lits) more (n ∷ [])
+pub go_first : (clauses : Clauses) (vars : ℕ) (m : Marks) (n : ℕ) (d : List Literal) (needed more : List Bool) → AreDistinct m.lits → NamesClause clauses n →
+    IsPadded vars (numbered clauses n) d → All (IsFalse (has m.lits)) d → All (λ k. is_needed more k.var ≡ true) (numbered clauses n) → NoneNeeded needed →
+    length more ≡ vars + 1 → NeedsWithin d needed more → IsFoundFromFront clauses vars m (length m.lits) more (n ∷ [])
 go_first clauses vars m n d needed more distinct number padded all need none size within_d = record {
   shows = shows_first clauses vars m n d more number padded all need;
   named = λ j e below mark.
@@ -111,23 +131,32 @@ go_first clauses vars m n d needed more distinct number padded all need none siz
         | inl before ↦ absurd (both_ways (is_needed needed t.var) (none t.var) before)
         | inr var ↦
             let among : Contains d var.1 = (var.0, var.2, var.3) in
-            named_first clauses (negate t) n [] (named_negation m.lits vars (numbered clauses n) d t var.1 distinct (Contains-get_or m.lits j e below) among var.4 low padded (contains_from_has m.lits (negate var.1) (All-contains (IsFalse (has m.lits)) d var.1 all among)))
+            named_first clauses (negate t) n [] (named_negation m.lits vars (numbered clauses n) d t var.1 distinct (Contains-get_or m.lits j e below) among
+            var.4 low padded (contains_from_has m.lits (negate var.1) (All-contains (IsFalse (has m.lits)) d var.1 all among)))
       ];
   lean = λ set within given needs before. tt;
 }
 
 -- the reason of a literal that is needed is the next hint
-module _ (clauses : Clauses) (vars : ℕ) (m : Marks) (i : ℕ) (l : Literal) (n : ℕ) (d : List Literal) (needed more : List Bool) (hints : List ℕ) (lt : i < length m.lits) (is : get_or m.lits i l ≡ l) (distinct : AreDistinct m.lits) (number : NamesClause clauses n) (distinct_c : AreDistinct (numbered clauses n)) (padded : IsPadded vars (numbered clauses n) d) (unit : IsUnit (has (take i m.lits)) d l) (low : l.var ≤ vars) (need : All (λ k. is_needed more k.var ≡ true) (numbered clauses n)) (within_d : NeedsWithin d needed more) (size : length more ≡ vars + 1) (mine : is_needed needed l.var ≡ true) (reason : 1 ≤ get_or m.reasons l.var 0) where
+module _ (clauses : Clauses) (vars : ℕ) (m : Marks) (i : ℕ) (l : Literal) (n : ℕ) (d : List Literal) (needed more : List Bool) (hints : List ℕ)
+    (lt : i < length m.lits) (is : get_or m.lits i l ≡ l) (distinct : AreDistinct m.lits) (number : NamesClause clauses n)
+    (distinct_c : AreDistinct (numbered clauses n)) (padded : IsPadded vars (numbered clauses n) d) (unit : IsUnit (has (take i m.lits)) d l)
+    (low : l.var ≤ vars) (need : All (λ k. is_needed more k.var ≡ true) (numbered clauses n)) (within_d : NeedsWithin d needed more)
+    (size : length more ≡ vars + 1) (mine : is_needed needed l.var ≡ true) (reason : 1 ≤ get_or m.reasons l.var 0) where
   on_trail : IsIn (has m.lits) l
   on_trail = has_from_contains m.lits l (i, lt, is)
 
   leaves_here : (set : List Literal) → Includes (has m.lits) (has set) → HasNeeded m.lits i more set → LeavesOne clauses (has set) n l
   leaves_here set within needs =
       let c = numbered clauses n in
-      let open_ : has set (negate l) ≡ false = false_from_ne_true (has set (negate l)) (λ h. distinct_consistent m.lits distinct l on_trail (within (negate l) h)) in
+      let open_ : has set (negate l) ≡ false = false_from_ne_true (has set (negate l))
+      (λ h. distinct_consistent m.lits distinct l on_trail (within (negate l) h)) in
       record {
         number = number;
-        one = left_one (has set) c l distinct_c (record { among = not_further vars c d l low padded unit.among; others = others m.lits i more set (omega arith) needs vars c d l padded need unit.others }) open_;
+        one = left_one (has set) c l distinct_c (record {
+          among = not_further vars c d l low padded unit.among;
+          others = others m.lits i more set (omega arith) needs vars c d l padded need unit.others;
+        }) open_;
       }
 
   wider_now : (set : List Literal) → Includes (has m.lits) (has set) → Includes (has m.lits) (has (set ++ l ∷ []))
@@ -148,7 +177,8 @@ module _ (clauses : Clauses) (vars : ℕ) (m : Marks) (i : ℕ) (l : Literal) (n
   shows_on : ShowsFromFront clauses vars m (i + 1) needed hints → ShowsFromFront clauses vars m i more (hints ++ n ∷ [])
   shows_on rest = λ set within given needs.
       subst (λ (ns : List ℕ). Shows clauses set ns) (sym (reverse-append hints (n ∷ [])))
-      (shows_more clauses set n l (reverse hints) (leaves_here set within needs) (rest (set ++ l ∷ []) (wider_now set within) (given_now set given) (needed_now set needs)))
+      (shows_more clauses set n l (reverse hints) (leaves_here set within needs) (rest (set ++ l ∷ []) (wider_now set within) (given_now set given)
+      (needed_now set needs)))
 
   -- the literal isn't on the trail before its place
   not_before : IsIn (has (take i m.lits)) l → ⊥
@@ -171,8 +201,10 @@ module _ (clauses : Clauses) (vars : ℕ) (m : Marks) (i : ℕ) (l : Literal) (n
             let k = var.1 in
             let among : Contains d k = (var.0, var.2, var.3) in
             named_first clauses (negate t) n (reverse hints) (elim (All-contains (IsOneOrFalse (has (take i m.lits)) l) d k unit.others among) [
-              | inl same ↦ absurd (pairs_from_distinct m.lits distinct j i e below lt (sym var.4 ∙ ap (λ (x : Literal). x.var) (same ∙ sym is ∙ sym (get_or_default m.lits i e l lt))))
-              | inr f ↦ named_negation m.lits vars (numbered clauses n) d t k distinct (Contains-get_or m.lits j e (omega (arith, below, lt))) among var.4 t_low padded (front_within m.lits i (negate k) (omega (arith, lt)) f)
+              | inl same ↦ absurd (pairs_from_distinct m.lits distinct j i e below lt
+                  (sym var.4 ∙ ap (λ (x : Literal). x.var) (same ∙ sym is ∙ sym (get_or_default m.lits i e l lt))))
+              | inr f ↦ named_negation m.lits vars (numbered clauses n) d t k distinct (Contains-get_or m.lits j e (omega (arith, below, lt))) among var.4 t_low
+                  padded (front_within m.lits i (negate k) (omega (arith, lt)) f)
             ])
       ])
 
@@ -182,7 +214,8 @@ module _ (clauses : Clauses) (vars : ℕ) (m : Marks) (i : ℕ) (l : Literal) (n
 
   before_now : (set : List Literal) → IsBefore m i set → IsBefore m (i + 1) (set ++ l ∷ [])
   before_now set before k h = elim (same_literal_or k l) [
-    | inl e ↦ inl (subst (λ (ls : List Literal). IsIn (has ls) k) (sym up_to_here) (subst (λ (x : Literal). IsIn (has (take i m.lits ++ l ∷ [])) x) (sym e) (has_last (take i m.lits) l)))
+    | inl e ↦ inl (subst (λ (ls : List Literal). IsIn (has ls) k) (sym up_to_here)
+        (subst (λ (x : Literal). IsIn (has (take i m.lits ++ l ∷ [])) x) (sym e) (has_last (take i m.lits) l)))
     | inr ne ↦ elim (before k (sym (has_front set l k ne) ∙ h)) [
       | inl front ↦ inl (subst (λ (ls : List Literal). IsIn (has ls) k) (sym up_to_here) (push_keeps (take i m.lits) l k front))
       | inr none ↦ inr none
@@ -198,21 +231,26 @@ module _ (clauses : Clauses) (vars : ℕ) (m : Marks) (i : ℕ) (l : Literal) (n
   lean_on : IsFoundFromFront clauses vars m (i + 1) needed hints → AreLeanFromFront clauses vars m i more (hints ++ n ∷ [])
   lean_on rest = λ set within given needs before.
       let named : IsInNamed clauses (negate l) (reverse hints) =
-      subst (λ (x : Literal). IsInNamed clauses (negate x) (reverse hints)) is (rest.named i l (omega arith) (subst (λ (x : Literal). is_needed needed x.var ≡ true) (sym is) mine)) in
+      subst (λ (x : Literal). IsInNamed clauses (negate x) (reverse hints)) is (rest.named i l (omega arith)
+      (subst (λ (x : Literal). is_needed needed x.var ≡ true) (sym is) mine)) in
       subst (λ (ns : List ℕ). AreLean clauses set ns) (sym (reverse-append hints (n ∷ [])))
-      (lean_more clauses set n l (reverse hints) (leaves_here set within needs) (is_new set before) named (rest.lean (set ++ l ∷ []) (wider_now set within) (given_now set given) (needed_now set needs) (before_now set before)))
+      (lean_more clauses set n l (reverse hints) (leaves_here set within needs) (is_new set before) named
+      (rest.lean (set ++ l ∷ []) (wider_now set within) (given_now set given) (needed_now set needs) (before_now set before)))
 
   pub go_on : IsFoundFromFront clauses vars m (i + 1) needed hints → IsFoundFromFront clauses vars m i more (hints ++ n ∷ [])
   go_on rest = record { shows = shows_on rest.shows; named = named_on rest.named; lean = lean_on rest }
 
 -- a literal that isn't needed, or has no reason, is passed over
-module _ (clauses : Clauses) (vars : ℕ) (m : Marks) (i : ℕ) (l : Literal) (needed : List Bool) (hints : List ℕ) (lt : i < length m.lits) (is : get_or m.lits i l ≡ l) where
-  go_past : ((set : List Literal) → HasAssumed vars m set → HasNeeded m.lits i needed set → HasNeeded m.lits (i + 1) needed set) → IsFoundFromFront clauses vars m (i + 1) needed hints → IsFoundFromFront clauses vars m i needed hints
+module _ (clauses : Clauses) (vars : ℕ) (m : Marks) (i : ℕ) (l : Literal) (needed : List Bool) (hints : List ℕ) (lt : i < length m.lits)
+    (is : get_or m.lits i l ≡ l) where
+  go_past : ((set : List Literal) → HasAssumed vars m set → HasNeeded m.lits i needed set → HasNeeded m.lits (i + 1) needed set) →
+      IsFoundFromFront clauses vars m (i + 1) needed hints → IsFoundFromFront clauses vars m i needed hints
   go_past further rest = record {
     shows = λ set within given needs. rest.shows set within given (further set given needs);
     named = λ j e below mark. rest.named j e (omega (arith, below)) mark;
     lean = λ set within given needs before. rest.lean set within given (further set given needs) (λ k h. elim (before k h) [
-      | inl front ↦ inl (subst (λ (ls : List Literal). IsIn (has ls) k) (sym (take_more m.lits i l lt)) (push_keeps (take i m.lits) (get_or m.lits i l) k front))
+      | inl front ↦ inl (subst (λ (ls : List Literal). IsIn (has ls) k) (sym (take_more m.lits i l lt))
+          (push_keeps (take i m.lits) (get_or m.lits i l) k front))
       | inr none ↦ inr none
     ]);
   }
@@ -220,10 +258,12 @@ module _ (clauses : Clauses) (vars : ℕ) (m : Marks) (i : ℕ) (l : Literal) (n
   pub past_unneeded : is_needed needed l.var ≡ false → IsFoundFromFront clauses vars m (i + 1) needed hints → IsFoundFromFront clauses vars m i needed hints
   past_unneeded unneeded = go_past (λ set given needs j e below mark. elim (cases_lt j i) [
     | inl less ↦ needs j e less mark
-    | inr ge ↦ absurd (both_ways (is_needed needed l.var) unneeded (subst (λ (x : Literal). is_needed needed x.var ≡ true) (next_is m.lits i j l e lt is below ge) mark))
+    | inr ge ↦ absurd (both_ways (is_needed needed l.var) unneeded (subst (λ (x : Literal). is_needed needed x.var ≡ true)
+        (next_is m.lits i j l e lt is below ge) mark))
   ])
 
-  pub past_bare : get_or m.reasons l.var 0 ≡ 0 → length needed ≡ vars + 1 → IsFoundFromFront clauses vars m (i + 1) needed hints → IsFoundFromFront clauses vars m i needed hints
+  pub past_bare : get_or m.reasons l.var 0 ≡ 0 → length needed ≡ vars + 1 → IsFoundFromFront clauses vars m (i + 1) needed hints →
+      IsFoundFromFront clauses vars m i needed hints
   past_bare bare size = go_past (λ set given needs j e below mark. elim (cases_lt j i) [
     | inl less ↦ needs j e less mark
     | inr ge ↦
@@ -234,7 +274,8 @@ module _ (clauses : Clauses) (vars : ℕ) (m : Marks) (i : ℕ) (l : Literal) (n
   ])
 
 -- one of what is assumed is of a further variable or the negation of a literal of the clause
-assumed_at : (vars : ℕ) (ls : List Literal) (k : Literal) (j : ℕ) → j < length ls + 2 → get_or (positive_of (vars + 1) ∷ positive_of (vars + 2) ∷ ls) j k ≡ k → k.var ≤ vars → Contains ls k
+assumed_at : (vars : ℕ) (ls : List Literal) (k : Literal) (j : ℕ) → j < length ls + 2 → get_or (positive_of (vars + 1) ∷ positive_of (vars + 2) ∷ ls) j k ≡ k →
+    k.var ≤ vars → Contains ls k
 assumed_at vars ls k zero lt is low = absurd (let v = ap (λ (x : Literal). x.var) is in omega (arith, v, low))
 assumed_at vars ls k (suc zero) lt is low = absurd (let v = ap (λ (x : Literal). x.var) is in omega (arith, v, low))
 assumed_at vars ls k (suc (suc j)) lt is low = (j, omega arith, is)
@@ -245,17 +286,20 @@ assumed_low vars lits k h low =
     has_from_contains (map negate lits) k (assumed_at vars (map negate lits) k among.0 (let lt = among.1 in omega (arith, lt)) among.2 low)
 
 pub assumed_later : (vars : ℕ) (lits : List Literal) → Includes (has (assumed vars lits)) (has (map negate lits))
-assumed_later vars lits k h = has_from_contains (assumed vars lits) k (contains_later (positive_of (vars + 1)) k (positive_of (vars + 2) ∷ map negate lits) (contains_later (positive_of (vars + 2)) k (map negate lits) (contains_from_has (map negate lits) k h)))
+assumed_later vars lits k h = has_from_contains (assumed vars lits) k (contains_later (positive_of (vars + 1)) k (positive_of (vars + 2) ∷ map negate lits)
+    (contains_later (positive_of (vars + 2)) k (map negate lits) (contains_from_has (map negate lits) k h)))
 
 -- no clause stands at place 0
-pub no_reason : (vars : ℕ) (all taken : Clauses) (a : Attached) (numbers : List ℕ) (before : List Literal) (l : Literal) (p : ℕ) → AreClauses vars all taken a numbers → IsReasonFor a.words a.places before l p → p ≡ 0 → ⊥
+pub no_reason : (vars : ℕ) (all taken : Clauses) (a : Attached) (numbers : List ℕ) (before : List Literal) (l : Literal) (p : ℕ) →
+    AreClauses vars all taken a numbers → IsReasonFor a.words a.places before l p → p ≡ 0 → ⊥
 no_reason vars all taken a numbers before l p clauses r e =
     let known = clauses.known p r.place in
     let from = known.from in
     omega (arith, from, e)
 
 -- from the negations of the clause's literals the hints show what they have to, and are lean
-pub go_done : (vars : ℕ) (all taken : Clauses) (a : Attached) (numbers : List ℕ) (m : Marks) (lits : List Literal) (needed : List Bool) (hints : List ℕ) → AreClauses vars all taken a numbers → IsDenying a vars lits m → IsFoundFromFront all vars m 0 needed hints → IsLeanHint all lits (reverse hints)
+pub go_done : (vars : ℕ) (all taken : Clauses) (a : Attached) (numbers : List ℕ) (m : Marks) (lits : List Literal) (needed : List Bool) (hints : List ℕ) →
+    AreClauses vars all taken a numbers → IsDenying a vars lits m → IsFoundFromFront all vars m 0 needed hints → IsLeanHint all lits (reverse hints)
 go_done vars all taken a numbers m lits needed hints clauses assuming h = record {
   good = h.shows (map negate lits) whole given needs;
   lean = h.lean (map negate lits) whole given needs (λ k i. inr (assuming.bare k i));
@@ -274,7 +318,8 @@ go_done vars all taken a numbers m lits needed hints clauses assuming h = record
     needs j d lt mark = absurd (omega arith)
 
 -- what is propagated to its end falsifies none of the clauses that were taken
-module _ (vars : ℕ) (all taken : Clauses) (a : Attached) (numbers : List ℕ) (lits from to : List Literal) (clauses : AreClauses vars all taken a numbers) (start : Includes (has from) (has (assumed vars lits))) (closure : IsClosure (attached_clauses a) (has from) (has to)) where
+module _ (vars : ℕ) (all taken : Clauses) (a : Attached) (numbers : List ℕ) (lits from to : List Literal) (clauses : AreClauses vars all taken a numbers)
+    (start : Includes (has from) (has (assumed vars lits))) (closure : IsClosure (attached_clauses a) (has from) (has to)) where
   is_assumed : (k : Literal) → Contains (assumed vars lits) k → IsIn (has to) k
   is_assumed k among = closure.includes k (start k (has_from_contains (assumed vars lits) k among))
 
@@ -332,7 +377,8 @@ never_follows clauses lits set still rup = still.unfalsified (record {
 })
 
 -- where the negation of one more literal is in the set
-pub ends_with_first : (clauses : Clauses) (first : Literal) (others : List Literal) (set : Literal → Bool) → IsIn set (negate first) → IsUnfalsifiedEnd clauses others set → IsUnfalsifiedEnd clauses (first ∷ others) set
+pub ends_with_first : (clauses : Clauses) (first : Literal) (others : List Literal) (set : Literal → Bool) → IsIn set (negate first) →
+    IsUnfalsifiedEnd clauses others set → IsUnfalsifiedEnd clauses (first ∷ others) set
 ends_with_first clauses first others set here still = record {
   closed = still.closed;
   includes = λ k h. let among = contains_from_has (first ∷ others) (negate k) h in by k among.0 among.1 among.2;
@@ -344,7 +390,8 @@ ends_with_first clauses first others set here still = record {
     by k (suc j) lt is = still.includes k (has_from_contains others (negate k) (j, omega (arith, lt), is))
 
 -- each literal of the trail follows, but for those of further variables
-module _ (vars : ℕ) (all taken : Clauses) (a : Attached) (numbers : List ℕ) (lits : List Literal) (m : Marks) (clauses : AreClauses vars all taken a numbers) (reasons : HaveReasons a m (assumed vars lits)) where
+module _ (vars : ℕ) (all taken : Clauses) (a : Attached) (numbers : List ℕ) (lits : List Literal) (m : Marks) (clauses : AreClauses vars all taken a numbers)
+    (reasons : HaveReasons a m (assumed vars lits)) where
   follows_below : (n i : ℕ) (d : Literal) → i < n → i < length m.lits → (get_or m.lits i d).var ≤ vars → Closure taken (negations lits) (get_or m.lits i d)
   follows_below zero i d below lt low = absurd (omega (arith, below))
   follows_below (suc n) i d below lt low = elim (reasons i d lt) [
@@ -368,7 +415,8 @@ module _ (vars : ℕ) (all taken : Clauses) (a : Attached) (numbers : List ℕ) 
                     let same : get_or m.lits at.0 (negate k) ≡ negate k = sym (get_or-take i m.lits at.0 (negate k) before) ∙ at.2 in
                     let k_low = (there_get vars c j e less held.there).1 in
                     let at_low : (get_or m.lits at.0 (negate k)).var ≤ vars = subst (λ (x : Literal). x.var ≤ vars) (sym same) k_low in
-                    inr (subst (IsIn set) same (follows_below n at.0 (negate k) (omega (arith, before, below)) (omega (arith, before, lt)) at_low set closed includes))
+                    inr (subst (IsIn set) same (follows_below n at.0 (negate k) (omega (arith, before, below)) (omega (arith, before, lt)) at_low set
+                    closed includes))
               ];
         })
     | inr g ↦ λ set closed includes.
@@ -393,10 +441,14 @@ module _ (vars : ℕ) (all taken : Clauses) (a : Attached) (numbers : List ℕ) 
         among = known.among;
         each = λ j e lt.
             let k = get_or c j e in
-            trail_follows (negate k) (All-contains (IsFalse (has m.lits)) (attached_at a p) k clash.all_false (padded.whole k (Contains-get_or c j e lt))) (there_get vars c j e lt held.there).1;
+            trail_follows (negate k) (All-contains (IsFalse (has m.lits)) (attached_at a p) k clash.all_false (padded.whole k (Contains-get_or c j e lt)))
+            (there_get vars c j e lt held.there).1;
       }
 
-pub needs_more : (lits : List Literal) (i : ℕ) (l : Literal) (old mid new : List Bool) → i < length lits → get_or lits i l ≡ l → length new ≡ length mid → ((x : ℕ) → is_needed mid x ≡ true → is_needed new x ≡ true) → (l.var < length new → is_needed new l.var ≡ true) → ((x : ℕ) → is_needed new x ≡ true → (is_needed mid x ≡ true) ⊎ (l.var ≡ x)) → NeedsWithin (take i lits) old mid → NeedsWithin (take (i + 1) lits) old new
+pub needs_more : (lits : List Literal) (i : ℕ) (l : Literal) (old mid new : List Bool) → i < length lits → get_or lits i l ≡ l → length new ≡ length mid →
+    ((x : ℕ) → is_needed mid x ≡ true → is_needed new x ≡ true) → (l.var < length new → is_needed new l.var ≡ true) →
+    ((x : ℕ) → is_needed new x ≡ true → (is_needed mid x ≡ true) ⊎ (l.var ≡ x)) → NeedsWithin (take i lits) old mid →
+    NeedsWithin (take (i + 1) lits) old new
 needs_more lits i l old mid new within at size keeps mine only h = record {
   size = size ∙ h.size;
   keeps = λ x m. keeps x (h.keeps x m);
@@ -405,10 +457,18 @@ needs_more lits i l old mid new within at size keeps mine only h = record {
       | inl first ↦ inl first
       | inr var ↦ inr (var_later var)
     ]
-    | inr here ↦ inr (i, l, (let count = length-take-le (i + 1) lits (omega (arith, within)) in omega (arith, count)), get_or-take (i + 1) lits i l (omega arith) ∙ at, here)
+    | inr here ↦ inr (
+      i,
+      l,
+      (let count = length-take-le (i + 1) lits (omega (arith, within)) in omega (arith, count)),
+      get_or-take (i + 1) lits i l
+          (omega arith) ∙ at,
+      here,
+    )
   ];
   each = All-more (λ k. k.var < length new → is_needed new k.var ≡ true) lits i l within
-      (All-weaker (λ k. k.var < length mid → is_needed mid k.var ≡ true) (λ k. k.var < length new → is_needed new k.var ≡ true) (λ k m lt. keeps k.var (m (omega (arith, lt, size)))) (take i lits) h.each)
+      (All-weaker (λ k. k.var < length mid → is_needed mid k.var ≡ true) (λ k. k.var < length new → is_needed new k.var ≡ true)
+      (λ k m lt. keeps k.var (m (omega (arith, lt, size)))) (take i lits) h.each)
       (subst (λ (k : Literal). k.var < length new → is_needed new k.var ≡ true) (sym at) mine);
 }
   where
@@ -421,7 +481,8 @@ needs_more lits i l old mid new within at size keeps mine only h = record {
         (v.0, v.1, omega (arith, below, more), get_or-take (i + 1) lits v.0 v.1 (omega (arith, below)) ∙ sym (get_or-take i lits v.0 v.1 below) ∙ v.3, v.4)
 
 -- the reason of a literal of the trail
-pub reason_at : (a : Attached) (m : Marks) (given : List Literal) (i : ℕ) (l : Literal) (v p : ℕ) → HaveReasons a m given → i < length m.lits → get_or m.lits i l ≡ l → v ≡ l.var → get_or m.reasons v 0 ≡ p → 1 ≤ get_or m.reasons v 0 → IsReasonFor a.words a.places (take i m.lits) l p
+pub reason_at : (a : Attached) (m : Marks) (given : List Literal) (i : ℕ) (l : Literal) (v p : ℕ) → HaveReasons a m given → i < length m.lits →
+    get_or m.lits i l ≡ l → v ≡ l.var → get_or m.reasons v 0 ≡ p → 1 ≤ get_or m.reasons v 0 → IsReasonFor a.words a.places (take i m.lits) l p
 reason_at a m given i l v p h within is var place some =
     let q : get_or m.reasons l.var 0 ≡ p = ap (λ x. get_or m.reasons x 0) (sym var) ∙ place in
     let mine : HasReasonAt a m given i l = subst (HasReasonAt a m given i) is (h i l within) in

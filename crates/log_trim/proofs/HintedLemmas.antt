@@ -1,5 +1,6 @@
 -- Hinted lines of a log, one after another.
-use Rattle.std.proofs.Common.{◌≡◌, ℕ, ◌+◌, ◌≤◌, max, Bool, true, false, List, [], ◌∷◌, ◌++◌, length, take, Some, refl, sym, ◌∙◌, ap, subst, inl, inr, arith, append-nil, length-append, map}
+use Rattle.std.proofs.Common.{◌≡◌, ℕ, ◌+◌, ◌≤◌, max, Bool, true, false, List, [], ◌∷◌, ◌++◌, length, take, Some, refl, sym, ◌∙◌, ap, subst, inl, inr, arith}
+use Rattle.std.proofs.Common.{append-nil, length-append, map}
 use Rattle.std.specs.Prelude.{All, Contains, slice_get, flat_map}
 use Rattle.std.proofs.lemmas.Bool.{cases_lt, both_ways}
 use Rattle.std.proofs.lemmas.List.{take_more, take_all}
@@ -9,7 +10,8 @@ use Rattle.cnf_core.specs.Lit.{Literal, negate}
 use Rattle.cnf_core.specs.Clause.{Clauses}
 use Rattle.cnf_core.proofs.ClauseLemmas.{there_more}
 use Rattle.refute_log.specs.declared.line.LogLine.{LogLine}
-use Rattle.refute_log.specs.declared.line.LogLine.TheVariants.{Formula as FormulaLine, Learnt as LearntLine, Bound as BoundLine, Query as QueryLine, Refuted as RefutedLine, Model as ModelLine}
+use Rattle.refute_log.specs.declared.line.LogLine.TheVariants.{Formula as FormulaLine, Learnt as LearntLine, Bound as BoundLine, Query as QueryLine}
+use Rattle.refute_log.specs.declared.line.LogLine.TheVariants.{Refuted as RefutedLine, Model as ModelLine}
 use Rattle.refute_log.specs.Told.{Lines}
 use Rattle.refute_log.specs.Log.{given, learnt}
 use Rattle.hint_log.specs.declared.hint_line.HintLine.{HintLine}
@@ -25,13 +27,21 @@ use Rattle.log_trim.specs.Hinting.{IsHinted, IsLineWithin, nameable}
 use Rattle.refute_log.proofs.LogLemmas.{flat_map_last}
 
 -- one more line at a later place
-pub stand_more : (lines : Lines) (wanted : List ℕ) (low mid high p : ℕ) (places : List ℕ) (hinted : HintLines) (line : HintLine) → StandAt lines wanted low mid places hinted → mid ≤ p → IsLineAt lines wanted p line → p + 1 ≤ high → StandAt lines wanted low high (places ++ p ∷ []) (hinted ++ line ∷ [])
+pub stand_more : (lines : Lines) (wanted : List ℕ) (low mid high p : ℕ) (places : List ℕ) (hinted : HintLines) (line : HintLine) →
+    StandAt lines wanted low mid places hinted → mid ≤ p → IsLineAt lines wanted p line → p + 1 ≤ high →
+    StandAt lines wanted low high (places ++ p ∷ []) (hinted ++ line ∷ [])
 stand_more lines wanted low mid high p [] [] line h le at lt = (omega (arith, h), at, lt)
-stand_more lines wanted low mid high p (q ∷ places) (k ∷ hinted) line h le at lt = (h.0, h.1, stand_more lines wanted (q + 1) mid high p places hinted line h.2 le at lt)
+stand_more lines wanted low mid high p (q ∷ places) (k ∷ hinted) line h le at lt = (
+  h.0,
+  h.1,
+  stand_more lines wanted (q + 1) mid high p places hinted line h.2
+      le at lt,
+)
 stand_more lines wanted low mid high p [] (k ∷ hinted) line h le at lt = absurd h
 stand_more lines wanted low mid high p (q ∷ places) [] line h le at lt = absurd h
 
-pub stand_wider : (lines : Lines) (wanted : List ℕ) (low mid high : ℕ) (places : List ℕ) (hinted : HintLines) → StandAt lines wanted low mid places hinted → mid ≤ high → StandAt lines wanted low high places hinted
+pub stand_wider : (lines : Lines) (wanted : List ℕ) (low mid high : ℕ) (places : List ℕ) (hinted : HintLines) → StandAt lines wanted low mid places hinted →
+    mid ≤ high → StandAt lines wanted low high places hinted
 stand_wider lines wanted low mid high [] [] h le = omega (arith, h)
 stand_wider lines wanted low mid high (q ∷ places) (k ∷ hinted) h le = (h.0, h.1, stand_wider lines wanted (q + 1) mid high places hinted h.2 le)
 stand_wider lines wanted low mid high [] (k ∷ hinted) h le = absurd h
@@ -44,10 +54,12 @@ next_line lines i line e =
     take_more lines i line within ∙ ap (λ (k : LogLine). take i lines ++ k ∷ []) (get_or_from_slice_get lines i line line e)
 
 -- what each line gives, gathered
-pub gathered_next : {Y : Type 0} (f : LogLine → List Y) (lines : Lines) (i : ℕ) (line : LogLine) → slice_get lines i ≡ Some line → flat_map f (take (i + 1) lines) ≡ flat_map f (take i lines) ++ f line
+pub gathered_next : {Y : Type 0} (f : LogLine → List Y) (lines : Lines) (i : ℕ) (line : LogLine) → slice_get lines i ≡ Some line →
+    flat_map f (take (i + 1) lines) ≡ flat_map f (take i lines) ++ f line
 gathered_next f lines i line e = ap (flat_map f) (next_line lines i line e) ∙ flat_map_last f (take i lines) line
 
-pub counted_next : {Y : Type 0} (f : LogLine → List Y) (lines : Lines) (i n : ℕ) (line : LogLine) → slice_get lines i ≡ Some line → n ≡ length (flat_map f (take i lines)) → length (flat_map f (take (i + 1) lines)) ≡ n + length (f line)
+pub counted_next : {Y : Type 0} (f : LogLine → List Y) (lines : Lines) (i n : ℕ) (line : LogLine) → slice_get lines i ≡ Some line →
+    n ≡ length (flat_map f (take i lines)) → length (flat_map f (take (i + 1) lines)) ≡ n + length (f line)
 counted_next f lines i n line e is =
     ap length (gathered_next f lines i line e) ∙ length-append (flat_map f (take i lines)) (f line) ∙ ap (λ m. m + length (f line)) (sym is)
 
@@ -73,16 +85,23 @@ hinted_none lines wanted answer f = record {
   lean = subst (λ (hs : HintLines). HaveLeanHints (flat_map given lines) hs) (sym f) tt;
 }
 
-good_here : (lines : Lines) (wanted : List ℕ) (i : ℕ) (answer : HintLines) (line : HintLine) → IsHinted lines wanted i answer → IsGood (nameable lines i) line → AreGood (flat_map given lines) (answer ++ line ∷ [])
-good_here lines wanted i answer line h g = good_more (flat_map given lines) answer line h.good (subst (λ (cs : Clauses). IsGood (flat_map given lines ++ cs) line) (sym h.learnt_are) g)
+good_here : (lines : Lines) (wanted : List ℕ) (i : ℕ) (answer : HintLines) (line : HintLine) → IsHinted lines wanted i answer → IsGood (nameable lines i) line →
+    AreGood (flat_map given lines) (answer ++ line ∷ [])
+good_here lines wanted i answer line h g = good_more (flat_map given lines) answer line h.good
+    (subst (λ (cs : Clauses). IsGood (flat_map given lines ++ cs) line) (sym h.learnt_are) g)
 
-lean_here : (lines : Lines) (wanted : List ℕ) (i : ℕ) (answer : HintLines) (line : HintLine) → IsHinted lines wanted i answer → AreLean (nameable lines i) (map negate (shown_lits line)) (hints_of line) → HaveLeanHints (flat_map given lines) (answer ++ line ∷ [])
-lean_here lines wanted i answer line h v = lean_line_more (flat_map given lines) answer line h.lean (subst (λ (cs : Clauses). AreLean (flat_map given lines ++ cs) (map negate (shown_lits line)) (hints_of line)) (sym h.learnt_are) v)
+lean_here : (lines : Lines) (wanted : List ℕ) (i : ℕ) (answer : HintLines) (line : HintLine) → IsHinted lines wanted i answer →
+    AreLean (nameable lines i) (map negate (shown_lits line)) (hints_of line) → HaveLeanHints (flat_map given lines) (answer ++ line ∷ [])
+lean_here lines wanted i answer line h v = lean_line_more (flat_map given lines) answer line h.lean
+    (subst (λ (cs : Clauses). AreLean (flat_map given lines ++ cs) (map negate (shown_lits line)) (hints_of line)) (sym h.learnt_are) v)
 
 -- one more hinted line, of the line at a place
-hinted_here : (lines : Lines) (wanted : List ℕ) (i : ℕ) (answer : HintLines) (line : HintLine) → clauses_learnt line ≡ learnt (line_of line) → IsLineAt lines wanted i line → IsHinted lines wanted i answer → IsLeanHint (nameable lines i) (shown_lits line) (hints_of line) → IsHinted lines wanted (i + 1) (answer ++ line ∷ [])
+hinted_here : (lines : Lines) (wanted : List ℕ) (i : ℕ) (answer : HintLines) (line : HintLine) → clauses_learnt line ≡ learnt (line_of line) →
+    IsLineAt lines wanted i line → IsHinted lines wanted i answer → IsLeanHint (nameable lines i) (shown_lits line) (hints_of line) →
+    IsHinted lines wanted (i + 1) (answer ++ line ∷ [])
 hinted_here lines wanted i answer line same at h g = record {
-  learnt_are = flat_map_last clauses_learnt answer line ∙ ap (λ (cs : Clauses). cs ++ clauses_learnt line) h.learnt_are ∙ ap (λ (cs : Clauses). flat_map learnt (take i lines) ++ cs) same ∙ sym (gathered_next learnt lines i (line_of line) at.there);
+  learnt_are = flat_map_last clauses_learnt answer line ∙ ap (λ (cs : Clauses). cs ++ clauses_learnt line) h.learnt_are
+      ∙ ap (λ (cs : Clauses). flat_map learnt (take i lines) ++ cs) same ∙ sym (gathered_next learnt lines i (line_of line) at.there);
   places = h.places ++ i ∷ [];
   stand = stand_more lines wanted 0 i (i + 1) i h.places answer line h.stand (omega arith) at (omega arith);
   all = λ p among lt. elim (cases_lt p i) [
@@ -95,16 +114,24 @@ hinted_here lines wanted i answer line same at h g = record {
   lean = lean_here lines wanted i answer line h g.lean;
 }
 
-pub hinted_learnt : (lines : Lines) (wanted : List ℕ) (i : ℕ) (answer now : HintLines) (c : List Literal) (hints : List ℕ) → slice_get lines i ≡ Some (LearntLine c) → IsHinted lines wanted i answer → IsLeanHint (nameable lines i) c hints → now ≡ answer ++ Learnt c hints ∷ [] → IsHinted lines wanted (i + 1) now
-hinted_learnt lines wanted i answer now c hints e h good is = subst (λ (hs : HintLines). IsHinted lines wanted (i + 1) hs) (sym is) (hinted_here lines wanted i answer (Learnt c hints) refl (record { there = e; asked = tt }) h good)
+pub hinted_learnt : (lines : Lines) (wanted : List ℕ) (i : ℕ) (answer now : HintLines) (c : List Literal) (hints : List ℕ) →
+    slice_get lines i ≡ Some (LearntLine c) → IsHinted lines wanted i answer → IsLeanHint (nameable lines i) c hints → now ≡ answer ++ Learnt c hints ∷ [] →
+    IsHinted lines wanted (i + 1) now
+hinted_learnt lines wanted i answer now c hints e h good is = subst (λ (hs : HintLines). IsHinted lines wanted (i + 1) hs) (sym is)
+    (hinted_here lines wanted i answer (Learnt c hints) refl (record { there = e; asked = tt }) h good)
 
-pub hinted_refuted : (lines : Lines) (wanted : List ℕ) (i : ℕ) (answer now : HintLines) (c : List Literal) (hints : List ℕ) → Contains wanted i → slice_get lines i ≡ Some (RefutedLine c) → IsHinted lines wanted i answer → IsLeanHint (nameable lines i) c hints → now ≡ answer ++ Refuted c hints ∷ [] → IsHinted lines wanted (i + 1) now
-hinted_refuted lines wanted i answer now c hints asked e h good is = subst (λ (hs : HintLines). IsHinted lines wanted (i + 1) hs) (sym is) (hinted_here lines wanted i answer (Refuted c hints) refl (record { there = e; asked = asked }) h good)
+pub hinted_refuted : (lines : Lines) (wanted : List ℕ) (i : ℕ) (answer now : HintLines) (c : List Literal) (hints : List ℕ) → Contains wanted i →
+    slice_get lines i ≡ Some (RefutedLine c) → IsHinted lines wanted i answer → IsLeanHint (nameable lines i) c hints → now ≡ answer ++ Refuted c hints ∷ [] →
+    IsHinted lines wanted (i + 1) now
+hinted_refuted lines wanted i answer now c hints asked e h good is = subst (λ (hs : HintLines). IsHinted lines wanted (i + 1) hs) (sym is)
+    (hinted_here lines wanted i answer (Refuted c hints) refl (record { there = e; asked = asked }) h good)
 
 -- a line that is neither a Learnt line nor wanted
-pub hinted_past : (lines : Lines) (wanted : List ℕ) (i : ℕ) (answer : HintLines) (line : LogLine) → slice_get lines i ≡ Some line → learnt line ≡ [] → (Contains wanted i → ⊥) → IsHinted lines wanted i answer → IsHinted lines wanted (i + 1) answer
+pub hinted_past : (lines : Lines) (wanted : List ℕ) (i : ℕ) (answer : HintLines) (line : LogLine) → slice_get lines i ≡ Some line → learnt line ≡ [] →
+    (Contains wanted i → ⊥) → IsHinted lines wanted i answer → IsHinted lines wanted (i + 1) answer
 hinted_past lines wanted i answer line e none not_wanted h = record {
-  learnt_are = h.learnt_are ∙ sym (gathered_next learnt lines i line e ∙ ap (λ (cs : Clauses). flat_map learnt (take i lines) ++ cs) none ∙ append-nil (flat_map learnt (take i lines)));
+  learnt_are = h.learnt_are ∙ sym (gathered_next learnt lines i line e ∙ ap (λ (cs : Clauses). flat_map learnt (take i lines) ++ cs) none
+      ∙ append-nil (flat_map learnt (take i lines)));
   places = h.places;
   stand = stand_wider lines wanted 0 i (i + 1) h.places answer h.stand (omega arith);
   all = λ p among lt. elim (cases_lt p i) [
@@ -137,7 +164,8 @@ learnt_plain ModelLine h = refl
 pub same_line : (lines : Lines) (i : ℕ) (a b : LogLine) → slice_get lines i ≡ Some a → slice_get lines i ≡ Some b → a ≡ b
 same_line lines i a b e f = sym (get_or_from_slice_get lines i a a e) ∙ get_or_from_slice_get lines i b a f
 
-pub hinted_plain : (lines : Lines) (wanted : List ℕ) (i : ℕ) (answer : HintLines) (line : LogLine) → AreRefutedLines lines wanted → slice_get lines i ≡ Some line → is_plain line ≡ true → IsHinted lines wanted i answer → IsHinted lines wanted (i + 1) answer
+pub hinted_plain : (lines : Lines) (wanted : List ℕ) (i : ℕ) (answer : HintLines) (line : LogLine) → AreRefutedLines lines wanted →
+    slice_get lines i ≡ Some line → is_plain line ≡ true → IsHinted lines wanted i answer → IsHinted lines wanted (i + 1) answer
 hinted_plain lines wanted i answer line refuted e plain h = hinted_past lines wanted i answer line e (learnt_plain line plain) (λ among.
     let r = refuted i among in
     let same : line ≡ RefutedLine r.0 = same_line lines i line (RefutedLine r.0) e r.1 in
@@ -156,7 +184,8 @@ within_more m n ModelLine le h = tt
 pub within_at : (vars : ℕ) (lines : Lines) (i : ℕ) (line : LogLine) → All (IsLineWithin vars) lines → slice_get lines i ≡ Some line → IsLineWithin vars line
 within_at vars lines i line all e = subst (IsLineWithin vars) (get_or_from_slice_get lines i line line e) (all i line (slice_get_within lines i line e))
 
-pub within_next : (m n most : ℕ) (lines : Lines) (i : ℕ) (line : LogLine) → slice_get lines i ≡ Some line → most ≡ max n m → All (IsLineWithin m) (take i lines) → IsLineWithin n line → All (IsLineWithin most) (take (i + 1) lines)
+pub within_next : (m n most : ℕ) (lines : Lines) (i : ℕ) (line : LogLine) → slice_get lines i ≡ Some line → most ≡ max n m →
+    All (IsLineWithin m) (take i lines) → IsLineWithin n line → All (IsLineWithin most) (take (i + 1) lines)
 within_next m n most lines i line e is all here =
     let lt = slice_get_within lines i line e in
     All-more (IsLineWithin most) lines i line lt

@@ -1,5 +1,6 @@
 -- Hints that later ones need, and what is needed while they are named.
-use Rattle.std.proofs.Common.{◌≡◌, ◌≢◌, ℕ, ◌+◌, ◌<◌, ◌≤◌, ◌⊎◌, Bool, true, false, suc, zero, List, [], ◌∷◌, ◌++◌, length, take, drop, get_or, refl, sym, ◌∙◌, ap, subst, inl, inr, arith, drop-cons, length-drop, length-take-le, append-nil, append_assoc, map, set}
+use Rattle.std.proofs.Common.{◌≡◌, ◌≢◌, ℕ, ◌+◌, ◌<◌, ◌≤◌, ◌⊎◌, Bool, true, false, suc, zero, List, [], ◌∷◌, ◌++◌, length, take, drop, get_or, refl, sym, ◌∙◌}
+use Rattle.std.proofs.Common.{ap, subst, inl, inr, arith, drop-cons, length-drop, length-take-le, append-nil, append_assoc, map, set}
 use Rattle.std.specs.Prelude.{All, Contains, flat_map}
 use Rattle.std.proofs.lemmas.Bool.{both_ways, false_from_ne_true}
 use Rattle.std.proofs.lemmas.Bool.Decides.{eqb_tells}
@@ -25,7 +26,8 @@ needed_within (b ∷ needed) zero h = omega arith
 needed_within (b ∷ needed) (suc x) h = let lt = needed_within needed x h in omega (arith, lt)
 
 -- one more hint in front
-pub lean_more : (clauses : Clauses) (set : List Literal) (n : ℕ) (l : Literal) (hints : List ℕ) → LeavesOne clauses (has set) n l → has set l ≡ false → IsInNamed clauses (negate l) hints → AreLean clauses (set ++ l ∷ []) hints → AreLean clauses set (n ∷ hints)
+pub lean_more : (clauses : Clauses) (set : List Literal) (n : ℕ) (l : Literal) (hints : List ℕ) → LeavesOne clauses (has set) n l → has set l ≡ false →
+    IsInNamed clauses (negate l) hints → AreLean clauses (set ++ l ∷ []) hints → AreLean clauses set (n ∷ hints)
 lean_more clauses set n l [] one new named rest = tt
 lean_more clauses set n l (m ∷ ns) one new named rest = (l, one, new, named, rest)
 
@@ -48,13 +50,15 @@ pub var_of : (trail : List Literal) (k : Literal) (x : ℕ) → Contains trail (
 var_of trail k x among e = (among.0, negate k, among.1, among.2, e)
 
 -- the variables of a clause are on the trail, so that those that are needed stay there
-pub on_trail_more : (lits trail : List Literal) (old new : List Bool) → ((k : Literal) → Contains lits k → HasVar trail k.var) → NeedsWithin lits old new → AreOnTrail old trail → AreOnTrail new trail
+pub on_trail_more : (lits trail : List Literal) (old new : List Bool) → ((k : Literal) → Contains lits k → HasVar trail k.var) → NeedsWithin lits old new →
+    AreOnTrail old trail → AreOnTrail new trail
 on_trail_more lits trail old new there need h x mark = elim (need.only x mark) [
   | inl before ↦ h x before
   | inr var ↦ subst (HasVar trail) var.4 (there var.1 (var.0, var.2, var.3))
 ]
 
-pub reason_on_trail : (trail : List Literal) (i : ℕ) (l : Literal) (d : List Literal) → i < length trail → get_or trail i l ≡ l → All (IsOneOrFalse (has (take i trail)) l) d → (k : Literal) → Contains d k → HasVar trail k.var
+pub reason_on_trail : (trail : List Literal) (i : ℕ) (l : Literal) (d : List Literal) → i < length trail → get_or trail i l ≡ l →
+    All (IsOneOrFalse (has (take i trail)) l) d → (k : Literal) → Contains d k → HasVar trail k.var
 reason_on_trail trail i l d lt is others k among = elim (All-contains (IsOneOrFalse (has (take i trail)) l) d k others among) [
   | inl same ↦ (i, l, lt, is, ap (λ (x : Literal). x.var) (sym same))
   | inr f ↦ var_of trail k k.var (front_within trail i (negate k) (omega (arith, lt)) f) refl
@@ -64,10 +68,12 @@ pub clash_on_trail : (trail d : List Literal) → All (IsFalse (has trail)) d �
 clash_on_trail trail d all k among = var_of trail k k.var (contains_from_has trail (negate k) (All-contains (IsFalse (has trail)) d k all among)) refl
 
 -- a variable of the rest of the trail that isn't that of its first literal
-pub var_behind : (trail : List Literal) (i : ℕ) (l : Literal) (x : ℕ) → i < length trail → get_or trail i l ≡ l → (l.var ≡ x → ⊥) → HasVar (drop i trail) x → HasVar (drop (i + 1) trail) x
+pub var_behind : (trail : List Literal) (i : ℕ) (l : Literal) (x : ℕ) → i < length trail → get_or trail i l ≡ l → (l.var ≡ x → ⊥) → HasVar (drop i trail) x →
+    HasVar (drop (i + 1) trail) x
 var_behind trail i l x within is other h =
     let next : suc i ≡ i + 1 = omega arith in
-    let split : drop i trail ≡ l ∷ drop (i + 1) trail = drop-cons trail i l within ∙ ap (λ (k : Literal). k ∷ drop (suc i) trail) is ∙ ap (λ n. l ∷ drop n trail) next in
+    let split : drop i trail ≡ l ∷ drop (i + 1) trail = drop-cons trail i l within ∙ ap (λ (k : Literal). k ∷ drop (suc i) trail) is
+    ∙ ap (λ n. l ∷ drop n trail) next in
     by (subst (λ (ls : List Literal). HasVar ls x) split h)
   where
     by : HasVar (l ∷ drop (i + 1) trail) x → HasVar (drop (i + 1) trail) x
@@ -87,15 +93,18 @@ cleared needed v x lt mark = elim (eqb_tells x v) [
 pub uncleared : (needed : List Bool) (v x : ℕ) → length needed ≤ v → is_needed needed x ≡ true → WasNeededBeside needed v x
 uncleared needed v x ge mark = (λ e. let lt = needed_within needed x mark in omega (arith, lt, ge, e), mark)
 
-pub behind_cleared : (trail : List Literal) (i : ℕ) (l : Literal) (v x : ℕ) (needed : List Bool) → i < length trail → get_or trail i l ≡ l → v ≡ l.var → ((y : ℕ) → is_needed needed y ≡ true → HasVar (drop i trail) y) → WasNeededBeside needed v x → HasVar (drop (i + 1) trail) x
+pub behind_cleared : (trail : List Literal) (i : ℕ) (l : Literal) (v x : ℕ) (needed : List Bool) → i < length trail → get_or trail i l ≡ l → v ≡ l.var →
+    ((y : ℕ) → is_needed needed y ≡ true → HasVar (drop i trail) y) → WasNeededBeside needed v x → HasVar (drop (i + 1) trail) x
 behind_cleared trail i l v x needed lt is var h was = var_behind trail i l x lt is (λ e. was.0 (var ∙ e)) (h x was.1)
 
 -- one more line
-pub lean_line_more : (clauses : Clauses) (lines : HintLines) (line : HintLine) → HaveLeanHints clauses lines → AreLean (clauses ++ flat_map clauses_learnt lines) (map negate (shown_lits line)) (hints_of line) → HaveLeanHints clauses (lines ++ line ∷ [])
+pub lean_line_more : (clauses : Clauses) (lines : HintLines) (line : HintLine) → HaveLeanHints clauses lines →
+    AreLean (clauses ++ flat_map clauses_learnt lines) (map negate (shown_lits line)) (hints_of line) → HaveLeanHints clauses (lines ++ line ∷ [])
 lean_line_more clauses [] line h v = (subst (λ (cs : Clauses). AreLean cs (map negate (shown_lits line)) (hints_of line)) (append-nil clauses) v, tt)
 lean_line_more clauses (k ∷ lines) line h v = (
   h.0,
   lean_line_more (clauses ++ clauses_learnt k) lines line h.1
       (subst (λ (cs : Clauses). AreLean cs (map negate (shown_lits line)) (hints_of line))
-      (ap (λ (cs : Clauses). clauses ++ cs) (flat_map-cons clauses_learnt k lines) ∙ sym (append_assoc clauses (clauses_learnt k) (flat_map clauses_learnt lines))) v),
+      (ap (λ (cs : Clauses). clauses ++ cs) (flat_map-cons clauses_learnt k lines)
+      ∙ sym (append_assoc clauses (clauses_learnt k) (flat_map clauses_learnt lines))) v),
 )

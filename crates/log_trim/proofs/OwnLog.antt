@@ -48,7 +48,8 @@ title_none line is =
 
 each_lacks : (lines : Lines) → MayAllBeTold lines → All (LacksByte 10) (map log_line_text lines)
 each_lacks [] told = All-nil (LacksByte 10)
-each_lacks (line ∷ lines) told = All-cons (LacksByte 10) (log_line_text line) (map log_line_text lines) (line_lacks line told.0.formed) (each_lacks lines told.1)
+each_lacks (line ∷ lines) told = All-cons (LacksByte 10) (log_line_text line) (map log_line_text lines) (line_lacks line told.0.formed)
+    (each_lacks lines told.1)
 
 spelled : (lines : Lines) → flat_map ended_text lines ≡ flat_map (λ (line : List ℕ). line ++ codes "\n") (map log_line_text lines)
 spelled [] = refl
@@ -70,7 +71,8 @@ own_bounds lines told = record {
     rest = [];
     each = All-cons (LacksByte 10) title (map log_line_text lines) (lacks title refl) (each_lacks lines told);
     unended = tt;
-    spelled = ap (λ (text : List ℕ). codes "railplan-log 1\n" ++ text) (spelled lines) ∙ sym (append-nil (codes "railplan-log 1\n" ++ flat_map (λ (line : List ℕ). line ++ codes "\n") (map log_line_text lines)));
+    spelled = ap (λ (text : List ℕ). codes "railplan-log 1\n" ++ text) (spelled lines)
+        ∙ sym (append-nil (codes "railplan-log 1\n" ++ flat_map (λ (line : List ℕ). line ++ codes "\n") (map log_line_text lines)));
   };
   bounds = inr (title_none, bounds lines told);
 }

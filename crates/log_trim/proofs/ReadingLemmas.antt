@@ -1,5 +1,6 @@
 -- The lines of a log's text, one after another.
-use Rattle.std.proofs.Common.{◌≡◌, ◌≤◌, ℕ, ◌+◌, List, [], ◌∷◌, ◌++◌, length, take, Some, None, inl, inr, refl, sym, ◌∙◌, ap, subst, arith, append-nil, append_assoc, length-append}
+use Rattle.std.proofs.Common.{◌≡◌, ◌≤◌, ℕ, ◌+◌, List, [], ◌∷◌, ◌++◌, length, take, Some, None, inl, inr, refl, sym, ◌∙◌, ap, subst, arith, append-nil}
+use Rattle.std.proofs.Common.{append_assoc, length-append}
 use Rattle.std.specs.Prelude.{Contains, Option, MatchOption, flat_map, slice_get}
 use Rattle.std.proofs.lemmas.Option.{slice_get_within, get_or_from_slice_get}
 use Rattle.plan_core.proofs.Listing.{Contains-head, Contains-flat_map}
@@ -38,7 +39,8 @@ read_none log rest lines none is =
     let nothing_more : header ≡ header ++ [] = sym (append-nil header) in
     subst (λ (ls : Lines). HasReadTo log ls rest) (sym none) (record { formed = tt; spelled = is ∙ ap (λ (t : List ℕ). t ++ rest) nothing_more })
 
-pub read_next : (log rest after : List ℕ) (lines new : Lines) (line : LogLine) → MayBeTold line → rest ≡ ended_text line ++ after → new ≡ lines ++ line ∷ [] → HasReadTo log lines rest → HasReadTo log new after
+pub read_next : (log rest after : List ℕ) (lines new : Lines) (line : LogLine) → MayBeTold line → rest ≡ ended_text line ++ after → new ≡ lines ++ line ∷ [] →
+    HasReadTo log lines rest → HasReadTo log new after
 read_next log rest after lines new line told is pushed h = subst (λ (ls : Lines). HasReadTo log ls after) (sym pushed) (record {
   formed = each_pushed MayBeTold lines line h.formed told;
   spelled =
@@ -47,7 +49,10 @@ read_next log rest after lines new line told is pushed h = subst (λ (ls : Lines
 })
 
 pub read_whole : (log rest : List ℕ) (lines : Lines) → rest ≡ [] → HasReadTo log lines rest → IsSpelledLog log lines
-read_whole log rest lines empty h = record { formed = h.formed; spelled = h.spelled ∙ ap (λ (t : List ℕ). log_text lines ++ t) empty ∙ append-nil (log_text lines) }
+read_whole log rest lines empty h = record {
+  formed = h.formed;
+  spelled = h.spelled ∙ ap (λ (t : List ℕ). log_text lines ++ t) empty ∙ append-nil (log_text lines);
+}
 
 -- where a line has a fault no lines are so spelled
 pub read_faulty : (log rest : List ℕ) (lines : Lines) (what : LogWhat) → HasReadTo log lines rest → HasNextFault rest what → IsSomeLog log → ⊥
@@ -62,7 +67,8 @@ read_faulty log rest lines what h fault (all, is) =
 
     behind : (more : Lines) → MayAllBeTold more → rest ≡ flat_map ended_text more ++ [] → ⊥
     behind [] told e = none_left e
-    behind (l ∷ more) told e = line_has_no_fault l rest (flat_map ended_text more ++ []) what told.0 (e ∙ append_assoc (ended_text l) (flat_map ended_text more) []) fault
+    behind (l ∷ more) told e = line_has_no_fault l rest (flat_map ended_text more ++ []) what told.0
+        (e ∙ append_assoc (ended_text l) (flat_map ended_text more) []) fault
 
     before : (more : Lines) → [] ≡ flat_map ended_text more ++ rest → ⊥
     before [] e = none_left (sym e)
@@ -85,7 +91,8 @@ no_learnt (Query c) other = refl
 no_learnt (Refuted c) other = refl
 no_learnt Model other = refl
 
-pub bounds_next : (lines : Lines) (i : ℕ) (line : LogLine) (old new : List ToldBound) → slice_get lines i ≡ Some line → old ≡ flat_map told_bound (take i lines) → new ≡ old ++ told_bound line → new ≡ flat_map told_bound (take (i + 1) lines)
+pub bounds_next : (lines : Lines) (i : ℕ) (line : LogLine) (old new : List ToldBound) → slice_get lines i ≡ Some line →
+    old ≡ flat_map told_bound (take i lines) → new ≡ old ++ told_bound line → new ≡ flat_map told_bound (take (i + 1) lines)
 bounds_next lines i line old new at is pushed = pushed ∙ ap (λ (bs : List ToldBound). bs ++ told_bound line) is ∙ sym (gathered_next told_bound lines i line at)
 
 -- each line has a byte at least

@@ -1,5 +1,6 @@
 -- Lines with new numbers for their hints.
-use Rattle.std.proofs.Common.{◌≡◌, ℕ, ◌+◌, ◌<◌, ◌≤◌, Bool, true, false, zero, suc, List, [], ◌∷◌, ◌++◌, length, get_or, map, refl, sym, ◌∙◌, ap, subst, inl, inr, arith, length-append}
+use Rattle.std.proofs.Common.{◌≡◌, ℕ, ◌+◌, ◌<◌, ◌≤◌, Bool, true, false, zero, suc, List, [], ◌∷◌, ◌++◌, length, get_or, map, refl, sym, ◌∙◌, ap, subst, inl}
+use Rattle.std.proofs.Common.{inr, arith, length-append}
 use Rattle.std.specs.Prelude.{All, Contains}
 use Rattle.std.proofs.lemmas.Bool.{both_ways, cases_lt}
 use Rattle.std.proofs.lemmas.List.{map-append, get_or_append_left, get_or_past, get_or_push}
@@ -50,7 +51,8 @@ module _ (used : List Bool) (old new : Clauses) (number : ℕ → ℕ) (same : I
       (h.0, record { number = r.0; one = ap (left_of (has set)) r.1 ∙ one.one }, leads_renumbered (set ++ h.0 ∷ []) ns to (All-tail (IsUsed used) n ns all) h.2)
 
   all_front : (front : List ℕ) (last : ℕ) → AllUsed used (front ++ last ∷ []) → AllUsed used front
-  all_front front last all = λ k d lt. subst (IsUsed used) (get_or_append_left front (last ∷ []) d k lt) (all k d (omega (arith, lt, length-append front (last ∷ []))))
+  all_front front last all = λ k d lt. subst (IsUsed used) (get_or_append_left front (last ∷ []) d k lt)
+      (all k d (omega (arith, lt, length-append front (last ∷ []))))
 
   pub good_renumbered : (lits : List Literal) (hints : List ℕ) → AllUsed used hints → IsGoodHint old lits hints → IsGoodHint new lits (map number hints)
   good_renumbered lits hints all s =
@@ -80,10 +82,19 @@ module _ (used : List Bool) (old new : Clauses) (number : ℕ → ℕ) (same : I
   lean_renumbered set (n ∷ m ∷ ns) all h =
       let one = h.1 in
       let r = same n one.number (All-head (IsUsed used) n (m ∷ ns) all) in
-      let rest = All-tail (IsUsed used) n (m ∷ ns) all in
-      (h.0, record { number = r.0; one = ap (left_of (has set)) r.1 ∙ one.one }, h.2, named_renumbered (negate h.0) (m ∷ ns) rest h.3, lean_renumbered (set ++ h.0 ∷ []) (m ∷ ns) rest h.4)
+      let rest = All-tail (IsUsed used) n (m ∷ ns) all in (
+        h.0,
+        record {
+          number = r.0;
+          one = ap (left_of (has set)) r.1 ∙ one.one;
+        },
+        h.2,
+        named_renumbered (negate h.0) (m ∷ ns) rest h.3,
+        lean_renumbered (set ++ h.0 ∷ []) (m ∷ ns) rest h.4,
+      )
 
-pub renumbering_kept : (used : List Bool) (old new : Clauses) (numbers : List ℕ) (c : List Literal) → length numbers ≡ length old + 1 → IsRenumbering used old new (new_number_in numbers) → IsRenumbering used (old ++ c ∷ []) (new ++ c ∷ []) (new_number_in (numbers ++ (length new + 1) ∷ []))
+pub renumbering_kept : (used : List Bool) (old new : Clauses) (numbers : List ℕ) (c : List Literal) → length numbers ≡ length old + 1 →
+    IsRenumbering used old new (new_number_in numbers) → IsRenumbering used (old ++ c ∷ []) (new ++ c ∷ []) (new_number_in (numbers ++ (length new + 1) ∷ []))
 renumbering_kept used old new numbers c size same = λ m valid mark. elim (cases_lt m (length numbers)) [
   | inl low ↦
       let from = valid.from in
@@ -91,17 +102,29 @@ renumbering_kept used old new numbers c size same = λ m valid mark. elim (cases
       let r = same m before mark in
       let at : new_number_in (numbers ++ (length new + 1) ∷ []) m ≡ new_number_in numbers m = get_or_append_left numbers ((length new + 1) ∷ []) 0 m low in
       let there = r.0 in
-      subst (λ n. NamesClause (new ++ c ∷ []) n × (numbered (new ++ c ∷ []) n ≡ numbered (old ++ c ∷ []) m)) (sym at)
-      (record { from = there.from; to = let to = there.to in omega (arith, to, length-append new (c ∷ [])) }, numbered_front new c (new_number_in numbers m) there ∙ r.1 ∙ sym (numbered_front old c m before))
+      subst (λ n. NamesClause (new ++ c ∷ []) n × (numbered (new ++ c ∷ []) n ≡ numbered (old ++ c ∷ []) m)) (sym at) (
+        record {
+          from = there.from;
+          to = let to = there.to in omega (arith, to, length-append new (c ∷ []));
+        },
+        numbered_front new c (new_number_in numbers m) there ∙ r.1 ∙ sym (numbered_front old c m before),
+      )
   | inr high ↦
       let to = valid.to in
       let is : m ≡ length old + 1 = omega (arith, high, size, to, length-append old (c ∷ [])) in
       let at : new_number_in (numbers ++ (length new + 1) ∷ []) m ≡ length new + 1 = get_or_push numbers (length new + 1) 0 m (omega (arith, is, size)) in
-      subst (λ n. NamesClause (new ++ c ∷ []) n × (numbered (new ++ c ∷ []) n ≡ numbered (old ++ c ∷ []) m)) (sym at)
-      (record { from = omega arith; to = omega (arith, length-append new (c ∷ [])) }, numbered_last new c (length new + 1) refl ∙ sym (numbered_last old c m is))
+      subst (λ n. NamesClause (new ++ c ∷ []) n × (numbered (new ++ c ∷ []) n ≡ numbered (old ++ c ∷ []) m)) (sym at) (
+        record {
+          from = omega arith;
+          to = omega (arith, length-append new (c ∷ []));
+        },
+        numbered_last new c (length new + 1) refl ∙ sym (numbered_last old c m is),
+      )
 ]
 
-pub renumbering_left_out : (used : List Bool) (old new : Clauses) (numbers : List ℕ) (c : List Literal) → length numbers ≡ length old + 1 → is_used used (length old + 1) ≡ false → IsRenumbering used old new (new_number_in numbers) → IsRenumbering used (old ++ c ∷ []) new (new_number_in (numbers ++ 0 ∷ []))
+pub renumbering_left_out : (used : List Bool) (old new : Clauses) (numbers : List ℕ) (c : List Literal) → length numbers ≡ length old + 1 →
+    is_used used (length old + 1) ≡ false → IsRenumbering used old new (new_number_in numbers) →
+    IsRenumbering used (old ++ c ∷ []) new (new_number_in (numbers ++ 0 ∷ []))
 renumbering_left_out used old new numbers c size out same = λ m valid mark. elim (cases_lt m (length numbers)) [
   | inl low ↦
       let from = valid.from in
@@ -115,8 +138,10 @@ renumbering_left_out used old new numbers c size out same = λ m valid mark. eli
       absurd (both_ways (is_used used (length old + 1)) out (subst (λ k. is_used used k ≡ true) is mark))
 ]
 
-pub renumbering_none : (used : List Bool) (clauses : Clauses) (numbers : List ℕ) → ((m : ℕ) → m ≤ length clauses → new_number_in numbers m ≡ m) → IsRenumbering used clauses clauses (new_number_in numbers)
-renumbering_none used clauses numbers same = λ m valid mark. let to = valid.to in subst (λ n. NamesClause clauses n × (numbered clauses n ≡ numbered clauses m)) (sym (same m to)) (valid, refl)
+pub renumbering_none : (used : List Bool) (clauses : Clauses) (numbers : List ℕ) → ((m : ℕ) → m ≤ length clauses → new_number_in numbers m ≡ m) →
+    IsRenumbering used clauses clauses (new_number_in numbers)
+renumbering_none used clauses numbers same = λ m valid mark. let to = valid.to in subst (λ n. NamesClause clauses n × (numbered clauses n ≡ numbered clauses m))
+    (sym (same m to)) (valid, refl)
 
 -- marks that are set at numbers up to n alone change nothing of lines behind n clauses
 module _ (used more : List Bool) (keeps : (x : ℕ) → is_used used x ≡ true → is_used more x ≡ true) where
@@ -130,7 +155,8 @@ module _ (used more : List Bool) (keeps : (x : ℕ) → is_used used x ≡ true 
   names_more m n (Refuted lits hints ∷ rest) (inl h) = inl h
   names_more m n (Refuted lits hints ∷ rest) (inr h) = inr (names_more m n rest h)
 
-  pub marked_more : (low n : ℕ) (lines : HintLines) → low ≤ n → ((x : ℕ) → low < x → is_used more x ≡ true → is_used used x ≡ true) → MarksUsed used n lines → MarksUsed more n lines
+  pub marked_more : (low n : ℕ) (lines : HintLines) → low ≤ n → ((x : ℕ) → low < x → is_used more x ≡ true → is_used used x ≡ true) → MarksUsed used n lines →
+      MarksUsed more n lines
   marked_more low n [] le back h = tt
   marked_more low n (Learnt lits hints ∷ rest) le back h = (
     (λ mark. let was = h.0 (back (n + 1) (omega (arith, le)) mark) in (all_more hints was.0, names_more (n + 1) (n + 1) rest was.1)),
@@ -150,4 +176,5 @@ pub good_below : (clauses : Clauses) (lits : List Literal) (hints : List ℕ) �
 good_below clauses lits hints s =
     let none = s.none in
     let number = none.number in
-    subst (λ (ns : List ℕ). All (λ n. n ≤ length clauses) ns) (sym s.are) (All-push (λ n. n ≤ length clauses) s.front s.last (leads_below clauses (map negate lits) s.front s.to s.leads) number.to)
+    subst (λ (ns : List ℕ). All (λ n. n ≤ length clauses) ns) (sym s.are) (All-push (λ n. n ≤ length clauses) s.front s.last
+    (leads_below clauses (map negate lits) s.front s.to s.leads) number.to)

@@ -48,29 +48,34 @@ bounds_of log lines h = subst (λ (text : List ℕ). HasToldBounds text (flat_ma
 abbrev pub AreCounted : (Criterion → ℕ) → List ℕ → (Criterion → ℕ) → Type 0
 AreCounted greatest log counted_of = (lines : Lines) × HasToldBounds log lines × ((c : Criterion) → counted_of c ≡ caps greatest lines c)
 
-pub caps_of : (greatest limit counted_of : Criterion → ℕ) (log : List ℕ) (lines : Lines) → IsSpelledLog log lines → ((c : Criterion) → greatest c ≡ limit c) → AreCounted greatest log counted_of → (c : Criterion) → counted_of c ≡ caps limit lines c
+pub caps_of : (greatest limit counted_of : Criterion → ℕ) (log : List ℕ) (lines : Lines) → IsSpelledLog log lines → ((c : Criterion) → greatest c ≡ limit c) →
+    AreCounted greatest log counted_of → (c : Criterion) → counted_of c ≡ caps limit lines c
 caps_of greatest limit counted_of log lines is same (others, bounds, are) c =
     let one : others ≡ flat_map told_bound_line lines = bounds_once log others (flat_map told_bound_line lines) bounds (bounds_of log lines is) in
     are c ∙ ap (λ (ls : Lines). caps greatest ls c) one ∙ caps_alone greatest lines c ∙ ap (λ n. min (length (bound_vars c lines)) n) (same c)
 
 -- ---- what is expected
 
-pub accepted_by : (y : Layout) (order : List Criterion) (claim : Claim) (log : List ℕ) (greatest counted_of : Criterion → ℕ) (lines : Lines) → CertifiesWhole y order claim log → IsSpelledLog log lines →
+pub accepted_by : (y : Layout) (order : List Criterion) (claim : Claim) (log : List ℕ) (greatest counted_of : Criterion → ℕ) (lines : Lines) →
+    CertifiesWhole y order claim log → IsSpelledLog log lines →
     ((c : Criterion) → greatest c ≡ limit_of y.graph y.grid c) → AreCounted greatest log counted_of → AreAccepted (expectation y order counted_of) lines
 unfolding some_log
 accepted_by y order claim log greatest counted_of lines h is same counted =
     let limit = limit_of y.graph y.grid in
     let one : h.lines ≡ lines = one_log log h.lines lines (some_log y order claim log h).1 is in
     let others = h.is_expected.lines in
-    let these : others ≡ flat_map told_bound_line lines = bounds_once log others (flat_map told_bound_line lines) h.is_expected.bounds (bounds_of log lines is) in
+    let these : others ≡ flat_map told_bound_line lines = bounds_once log others (flat_map told_bound_line lines) h.is_expected.bounds
+    (bounds_of log lines is) in
     let e : h.expected ≡ expectation y order counted_of =
     h.is_expected.expected_is ∙ ap (λ (ls : Lines). expectation y order (caps limit ls)) these
-    ∙ same_expectation y order (caps limit (flat_map told_bound_line lines)) counted_of (λ c. caps_alone limit lines c ∙ sym (caps_of greatest limit counted_of log lines is same counted c)) in
+    ∙ same_expectation y order (caps limit (flat_map told_bound_line lines)) counted_of
+    (λ c. caps_alone limit lines c ∙ sym (caps_of greatest limit counted_of log lines is same counted c)) in
     subst (λ (x : Expectation). AreAccepted x lines) e (subst (λ (ls : Lines). AreAccepted h.expected ls) one h.whole.accepted)
 
 -- ---- the claim
 
-pub certified_by : (y : Layout) (order : List Criterion) (claim : Claim) (log : List ℕ) (greatest : Criterion → ℕ) (lines : Lines) → CertifiesWhole y order claim log → IsSpelledLog log lines →
+pub certified_by : (y : Layout) (order : List Criterion) (claim : Claim) (log : List ℕ) (greatest : Criterion → ℕ) (lines : Lines) →
+    CertifiesWhole y order claim log → IsSpelledLog log lines →
     ((c : Criterion) → greatest c ≡ limit_of y.graph y.grid c) → CertifiesClaim greatest lines order claim
 unfolding some_log
 certified_by y order claim log greatest lines h is same =
@@ -80,8 +85,10 @@ certified_by y order claim log greatest lines h is same =
 
 -- ---- both
 
-pub whole_by : (y : Layout) (order : List Criterion) (claim : Claim) (log : List ℕ) (greatest counted_of : Criterion → ℕ) (lines : Lines) → IsSpelledLog log lines → ((c : Criterion) → greatest c ≡ limit_of y.graph y.grid c) →
-    AreCounted greatest log counted_of → AreAccepted (expectation y order counted_of) lines → CertifiesClaim greatest lines order claim → CertifiesWhole y order claim log
+pub whole_by : (y : Layout) (order : List Criterion) (claim : Claim) (log : List ℕ) (greatest counted_of : Criterion → ℕ) (lines : Lines) →
+    IsSpelledLog log lines → ((c : Criterion) → greatest c ≡ limit_of y.graph y.grid c) →
+    AreCounted greatest log counted_of → AreAccepted (expectation y order counted_of) lines → CertifiesClaim greatest lines order claim →
+    CertifiesWhole y order claim log
 whole_by y order claim log greatest counted_of lines is same counted accepted certified =
     let limit = limit_of y.graph y.grid in
     let bounds = flat_map told_bound_line lines in
@@ -91,7 +98,8 @@ whole_by y order claim log greatest counted_of lines is same counted accepted ce
       is_expected = record {
         lines = bounds;
         bounds = bounds_of log lines is;
-        expected_is = same_expectation y order counted_of (caps limit bounds) (λ c. caps_of greatest limit counted_of log lines is same counted c ∙ sym (caps_alone limit lines c));
+        expected_is = same_expectation y order counted_of (caps limit bounds) (λ c. caps_of greatest limit counted_of log lines is same counted c
+            ∙ sym (caps_alone limit lines c));
       };
       whole = record { formed = is.formed; spelled = is.spelled ∙ sym (append-nil (log_text lines)); accepted = accepted };
       certified = certifies_as greatest limit lines order claim same certified;
@@ -99,7 +107,8 @@ whole_by y order claim log greatest counted_of lines is same counted accepted ce
 
 -- ---- the wanted lines
 
-pub are_refuted : (greatest : Criterion → ℕ) (lines : Lines) (order : List Criterion) (claim : Claim) (wanted : List ℕ) → AreWanted greatest lines order claim wanted → AreRefutedLines lines wanted
+pub are_refuted : (greatest : Criterion → ℕ) (lines : Lines) (order : List Criterion) (claim : Claim) (wanted : List ℕ) →
+    AreWanted greatest lines order claim wanted → AreRefutedLines lines wanted
 are_refuted greatest lines order (Least v s) wanted h = λ p among. let r = h.only p among in (r.3.clause, r.3.there)
 are_refuted greatest lines order NoDrawing wanted h = λ p among. ([], only p (subst (λ (ns : List ℕ). Contains ns p) h.2 among))
   where
@@ -108,19 +117,24 @@ are_refuted greatest lines order NoDrawing wanted h = λ p among. ([], only p (s
       | inl before ↦ nothing p (slice_get lines p ≡ Some (Refuted [])) before
       | inr same ↦ subst (λ n. slice_get lines n ≡ Some (Refuted [])) same h.1.there
     ]
-are_refuted greatest lines order Nothing wanted h = λ p among. nothing p ((c : List Literal) × (slice_get lines p ≡ Some (Refuted c))) (subst (λ (ns : List ℕ). Contains ns p) h among)
+are_refuted greatest lines order Nothing wanted h = λ p among. nothing p ((c : List Literal) × (slice_get lines p ≡ Some (Refuted c)))
+    (subst (λ (ns : List ℕ). Contains ns p) h among)
 
 -- by greatest values that are the same
-shows_so : (greatest other : Criterion → ℕ) (lines : Lines) (earlier : List Criterion) (c : Criterion) (v : Values) (p : ℕ) → ((b : Criterion) → greatest b ≡ other b) → ShowsLeast greatest lines earlier c v p → ShowsLeast other lines earlier c v p
+shows_so : (greatest other : Criterion → ℕ) (lines : Lines) (earlier : List Criterion) (c : Criterion) (v : Values) (p : ℕ) →
+    ((b : Criterion) → greatest b ≡ other b) → ShowsLeast greatest lines earlier c v p → ShowsLeast other lines earlier c v p
 shows_so greatest other lines earlier c v p same s = record {
   clause = s.clause;
   there = s.there;
-  each = All-weaker (IsOutOfReach greatest lines earlier c v) (IsOutOfReach other lines earlier c v) (λ l. out_of_reach_under greatest other lines earlier c v l same) s.clause s.each;
+  each = All-weaker (IsOutOfReach greatest lines earlier c v) (IsOutOfReach other lines earlier c v)
+      (λ l. out_of_reach_under greatest other lines earlier c v l same) s.clause s.each;
   first = λ q d below at out. s.first q d below at
-      (All-weaker (IsOutOfReach other lines earlier c v) (IsOutOfReach greatest lines earlier c v) (λ l. out_of_reach_under other greatest lines earlier c v l (λ b. sym (same b))) d out);
+      (All-weaker (IsOutOfReach other lines earlier c v) (IsOutOfReach greatest lines earlier c v)
+      (λ l. out_of_reach_under other greatest lines earlier c v l (λ b. sym (same b))) d out);
 }
 
-wanted_under : (greatest other : Criterion → ℕ) (lines : Lines) (order : List Criterion) (claim : Claim) (wanted : List ℕ) → ((c : Criterion) → greatest c ≡ other c) → AreWanted greatest lines order claim wanted → AreWanted other lines order claim wanted
+wanted_under : (greatest other : Criterion → ℕ) (lines : Lines) (order : List Criterion) (claim : Claim) (wanted : List ℕ) →
+    ((c : Criterion) → greatest c ≡ other c) → AreWanted greatest lines order claim wanted → AreWanted other lines order claim wanted
 wanted_under greatest other lines order (Least v s) wanted same h = record {
   only = λ p among. let r = h.only p among in (r.0, r.1, r.2, shows_so greatest other lines (take r.0 order) r.1 v p same r.3);
   each = λ i c claimed. let r = h.each i c claimed in (r.0, r.1, shows_so greatest other lines (take i order) c v r.0 same r.2);
@@ -130,7 +144,8 @@ wanted_under greatest other lines order Nothing wanted same h = h
 
 -- ---- all of it
 
-pub trimmed_log : (y : Layout) (order : List Criterion) (claim : Claim) (log : List ℕ) (greatest : Criterion → ℕ) (r : TrimmedLog) (lines : Lines) (wanted : List ℕ) → IsSpelledLog log lines →
+pub trimmed_log : (y : Layout) (order : List Criterion) (claim : Claim) (log : List ℕ) (greatest : Criterion → ℕ) (r : TrimmedLog) (lines : Lines)
+    (wanted : List ℕ) → IsSpelledLog log lines →
     ((c : Criterion) → greatest c ≡ limit_of y.graph y.grid c) → AreCounted greatest log (value_of r.caps) → AreWanted greatest lines order claim wanted →
     IsKeptOf (expectation y order (value_of r.caps)) lines wanted r.kept → r.learnt ≡ length (flat_map learnt lines) → IsTrimmedLog y order claim log r
 trimmed_log y order claim log greatest r lines wanted is same counted are kept count = record {

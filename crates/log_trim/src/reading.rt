@@ -5,21 +5,17 @@ ghost use Rattle.refute_check.specs.Lacking.{told_bound};
 ghost use Rattle.log_trim.specs.TrimmedLog.{IsSpelledLog};
 ghost use Rattle.log_trim.specs.Shown.{IsSomeLog};
 
-use log_check::{Next, next_line};
-use outside_io::behind;
+use log_check::{Next, behind_header, next_line};
 use plan_core::OutOfMemory;
 use refute_check::ToldBound;
 use refute_log::{LineList, LogLine};
 use std::alloc::Global;
 
-/// The first line of every log's text.
-const HEADER: &[u8] = b"railplan-log 1\n";
-
 /// The lines of a log's text, if it is one.
 pub(crate) fn lines_in(alloc: Global, log: &[u8]) -> Result<Option<LineList>, OutOfMemory>
     ensures { IfOk result (λ r. MatchOption r (IsSomeLog log.now → ⊥) (IsSpelledLog log.now)) }
 {
-    let Some(body) = behind(log, HEADER) else {
+    let Some(body) = behind_header(log) else {
         return Ok(None);
     };
     let mut list = LineList::new(alloc);

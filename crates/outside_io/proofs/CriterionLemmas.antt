@@ -17,7 +17,8 @@ word_in_front Height Height r s e = (refl, cc)
 word_in_front Bends Bends r s e = (refl, cc)
 word_in_front Diagonal Diagonal r s e = (refl, cc)
 word_in_front Width Width r s e = (refl, cc)
-word_in_front c d r s e = let z : get_or (criterion_word c ++ r) 0 0 ≡ get_or (criterion_word d ++ s) 0 0 = ap (λ (xs : List ℕ). get_or xs 0 0) e in absurd (omega arith)
+word_in_front c d r s e = let z : get_or (criterion_word c ++ r) 0 0 ≡ get_or (criterion_word d ++ s) 0 0 = ap (λ (xs : List ℕ). get_or xs 0 0) e in absurd
+    (omega arith)
 
 pub word_once : (c d : Criterion) → criterion_word c ≡ criterion_word d → c ≡ d
 word_once c d e = (word_in_front c d [] [] (ap (λ (xs : List ℕ). xs ++ []) e)).0

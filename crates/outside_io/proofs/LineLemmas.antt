@@ -11,7 +11,8 @@ lines_more line a (suc n) k e =
     ap (λ (t : List ℕ). line a ++ t) (lines_more line (a + 1) n k f) ∙ sym (append_assoc (line a) (flat_map line (range_with_len (a + 1) n)) (line k))
 
 -- a line for each number below n, and one more
-pub line_more : (line : ℕ → List ℕ) (old into new : List ℕ) (n : ℕ) → into ≡ old ++ flat_map line (range_with_len 0 n) → new ≡ into ++ line n → new ≡ old ++ flat_map line (range_with_len 0 (n + 1))
+pub line_more : (line : ℕ → List ℕ) (old into new : List ℕ) (n : ℕ) → into ≡ old ++ flat_map line (range_with_len 0 n) → new ≡ into ++ line n →
+    new ≡ old ++ flat_map line (range_with_len 0 (n + 1))
 line_more line old into new n so_far now =
     let e : 0 + n ≡ n = omega arith in
     now

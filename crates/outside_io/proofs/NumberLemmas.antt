@@ -1,5 +1,6 @@
 -- Numbers and their canonical decimals.
-use Rattle.std.proofs.Common.{◌≡◌, ◌≢◌, ◌⊎◌, inl, inr, ℕ, zero, suc, ◌<◌, ◌≤◌, ◌^◌, List, [], ◌∷◌, length, get_or, Result, Ok, Err, Option, MatchOption, refl, sym, ◌∙◌, ap, subst, arith, lit<}
+use Rattle.std.proofs.Common.{◌≡◌, ◌≢◌, ◌⊎◌, inl, inr, ℕ, zero, suc, ◌<◌, ◌≤◌, ◌^◌, List, [], ◌∷◌, length, get_or, Result, Ok, Err, Option, MatchOption, refl}
+use Rattle.std.proofs.Common.{sym, ◌∙◌, ap, subst, arith, lit<}
 use Rattle.std.specs.Fmt.{decimal}
 use Rattle.std.specs.Result.{result_ok}
 use Rattle.std.specs.Str.{IsUtf8}
@@ -58,7 +59,8 @@ value_not : {E : Type 0} (field : List ℕ) (r : Result ℕ E) (x : E) → Parse
 value_not {E} field r x p e n small is =
     let read : r ≡ Ok n = parse-decimal {E = E} 64 n field r small small is p in cc
 
-pub read_as_value : {E : Type 0} (field text : List ℕ) (r : Result ℕ E) (o : Option ℕ) → BeginsCanonical field → text ≡ field → ParsesUnsigned 64 10 text r → o ≡ result_ok r → MatchOption o ((n : ℕ) → n < 2 ^ 64 → field ≡ decimal n → ⊥) (IsDecimal field)
+pub read_as_value : {E : Type 0} (field text : List ℕ) (r : Result ℕ E) (o : Option ℕ) → BeginsCanonical field → text ≡ field → ParsesUnsigned 64 10 text r →
+    o ≡ result_ok r → MatchOption o ((n : ℕ) → n < 2 ^ 64 → field ≡ decimal n → ⊥) (IsDecimal field)
 read_as_value {E} field text r o h same p e =
     let P : List ℕ → Type 0 = λ f. ParsesUnsigned 64 10 f r in
     let k = subst P same p in

@@ -1,5 +1,6 @@
 -- Bytes that come or go in pieces.
-use Rattle.std.proofs.Common.{◌≡◌, ℕ, ◌+◌, ◌-◌, ◌≤◌, List, ◌++◌, length, take, drop, ap, sym, ◌∙◌, append_assoc, length-drop, arith, Option, None, Some, Result, Ok, Err, subst}
+use Rattle.std.proofs.Common.{◌≡◌, ℕ, ◌+◌, ◌-◌, ◌≤◌, List, ◌++◌, length, take, drop, ap, sym, ◌∙◌, append_assoc, length-drop, arith, Option, None, Some}
+use Rattle.std.proofs.Common.{Result, Ok, Err, subst}
 use Rattle.std.specs.Io.KnownBytes.{Appends, Keeps, ReadConsumes, WriteAppends}
 use Rattle.std.proofs.lemmas.List.{take-take, take-append-le, take_all, drop-drop}
 use Rattle.std.proofs.Math.Seq.{take-append-add, take-append_seam, take-add}

@@ -21,7 +21,8 @@ not_created (Some x) (Some y) name bytes h = record {
 }
 
 -- the bytes couldn't be appended, or not all
-pub not_whole : (a b c : Option Told) (name bytes : List ℕ) → WhereTold a b (Creates name) → WhereTold b c (MayAppendTo name bytes) → WhereTold a c (MaySet name bytes)
+pub not_whole : (a b c : Option Told) (name bytes : List ℕ) → WhereTold a b (Creates name) → WhereTold b c (MayAppendTo name bytes) →
+    WhereTold a c (MaySet name bytes)
 not_whole None b c name bytes h k = tt
 not_whole (Some x) None c name bytes h k = absurd h
 not_whole (Some x) (Some y) None name bytes h k = absurd k

@@ -54,12 +54,13 @@ pub trait Sink {
     /// How many faults of putting there were.
     ghost faults: { Self → ℕ };
 
-    /// Adds the bytes. After an error some of them may have been added, from the first on.
+    /// Adds the bytes. After an error some of them may be there, from the first on. Only `Failed` adds to the count.
     fn put(&mut self, bytes: &[u8]) -> Result<(), SinkFault>
         ensures ok { OnOk result (Appends (given self.old) (given self.new) bytes.now) }
         ensures err { OnErr result (AppendsPrefix (given self.old) (given self.new) bytes.now) }
         ensures later { faults self.old ≤ faults self.new }
-        ensures cause { IsErrOf result SinkFault.Failed → Rose (faults self.old) (faults self.new) };
+        ensures cause { IsErrOf result SinkFault.Failed → Rose (faults self.old) (faults self.new) }
+        ensures still { (IsErrOf result SinkFault.Failed → ⊥) → faults self.new ≡ faults self.old };
 
     /// The count doesn't pass its end.
     ghost count_ends: { (s : Self) → IsCount (faults s) };

@@ -21,7 +21,8 @@ use Rattle.run_draw_front.specs.Drawn.{Job, search_of, sheet_of, found_by, HasSe
 -- ---- an order, criterion by criterion
 
 -- the drawing has a point for each node and a line for each edge
-ended_draws : (g : Graph) (o : EdgeOrder) (asked : Job) (outcome : Outcome) (lines : Lines) → IsOutcome (search_of g o asked) asked.order outcome lines → DrawsAll g (sheet_of asked outcome)
+ended_draws : (g : Graph) (o : EdgeOrder) (asked : Job) (outcome : Outcome) (lines : Lines) → IsOutcome (search_of g o asked) asked.order outcome lines →
+    DrawsAll g (sheet_of asked outcome)
 ended_draws g o asked (outcomes.Best d) lines ended = ended.lawful.fits.size
 ended_draws g o asked outcomes.NoDrawing lines ended = tt
 ended_draws g o asked (outcomes.Spent None settled) lines ended = tt
@@ -30,7 +31,8 @@ ended_draws g o asked (outcomes.Room None settled) lines ended = tt
 ended_draws g o asked (outcomes.Room (Some d) settled) lines ended = ended.lawful.fits.size
 
 -- and its points lie on the grid
-ended_on_grid : (g : Graph) (o : EdgeOrder) (asked : Job) (outcome : Outcome) (lines : Lines) → IsOutcome (search_of g o asked) asked.order outcome lines → DrawsOnGrid (sheet_of asked outcome)
+ended_on_grid : (g : Graph) (o : EdgeOrder) (asked : Job) (outcome : Outcome) (lines : Lines) → IsOutcome (search_of g o asked) asked.order outcome lines →
+    DrawsOnGrid (sheet_of asked outcome)
 ended_on_grid g o asked (outcomes.Best d) lines ended = points_on_grid g (is_above o) asked.grid d ended.lawful
 ended_on_grid g o asked outcomes.NoDrawing lines ended = tt
 ended_on_grid g o asked (outcomes.Spent None settled) lines ended = tt
@@ -45,7 +47,8 @@ some_settled : (order : List Criterion) (settled : ℕ) → settled < length ord
 some_settled order settled below = record { some_left = below; none_undrawn = λ undrawn. absurd (cc) }
 
 -- as many criteria are settled as a sheet may say
-ended_settles : (g : Graph) (o : EdgeOrder) (asked : Job) (outcome : Outcome) (lines : Lines) → IsOrder asked.order → IsOutcome (search_of g o asked) asked.order outcome lines →
+ended_settles : (g : Graph) (o : EdgeOrder) (asked : Job) (outcome : Outcome) (lines : Lines) → IsOrder asked.order →
+    IsOutcome (search_of g o asked) asked.order outcome lines →
     StatesSettled (sheet_of asked outcome).order (is_some (sheet_of asked outcome).found) (sheet_of asked outcome).ending
 ended_settles g o asked (outcomes.Best d) lines is ended = tt
 ended_settles g o asked outcomes.NoDrawing lines is ended = tt
@@ -55,7 +58,8 @@ ended_settles g o asked (outcomes.Room None settled) lines is ended = none_settl
 ended_settles g o asked (outcomes.Room (Some d) settled) lines is ended = some_settled asked.order settled ended.is_settled.below
 
 -- so a sheet that is that of the outcome may be written
-pub ended_sheet : (g : Graph) (o : EdgeOrder) (asked : Job) (outcome : Outcome) (sheet : Sheet) → sheet ≡ sheet_of asked outcome → IsOrder asked.order → HasSearched g o asked (λ lines. ⊤) outcome →
+pub ended_sheet : (g : Graph) (o : EdgeOrder) (asked : Job) (outcome : Outcome) (sheet : Sheet) → sheet ≡ sheet_of asked outcome → IsOrder asked.order →
+    HasSearched g o asked (λ lines. ⊤) outcome →
     DrawsAll g sheet × DrawsOnGrid sheet × StatesSettled sheet.order (is_some sheet.found) sheet.ending
 ended_sheet g o asked outcome sheet same is searched = (
   subst (λ (s : Sheet). DrawsAll g s) (sym same) (ended_draws g o asked outcome searched.lines searched.ended),
@@ -66,13 +70,16 @@ ended_sheet g o asked outcome sheet same is searched = (
 -- ---- where the lines stand
 
 -- lines told to a log of this name, where the words name it, are told where the words say
-pub searched_named : {E : Type 0} (g : Graph) (o : EdgeOrder) (asked : Job) (met : Met) (traced : Lines → Type 0) (named : Option (List ℕ)) (r : Result Outcome E) → asked.log ≡ named →
+pub searched_named : {E : Type 0} (g : Graph) (o : EdgeOrder) (asked : Job) (met : Met) (traced : Lines → Type 0) (named : Option (List ℕ))
+    (r : Result Outcome E) → asked.log ≡ named →
     IfOk r (HasSearched g o asked (IsRunLog named met traced)) → IfOk r (HasSearched g o asked (IsRunLog asked.log met traced))
-searched_named g o asked met traced named (Ok outcome) is searched = subst (λ (log : Option (List ℕ)). HasSearched g o asked (IsRunLog log met traced) outcome) (sym is) searched
+searched_named g o asked met traced named (Ok outcome) is searched = subst (λ (log : Option (List ℕ)). HasSearched g o asked (IsRunLog log met traced) outcome)
+    (sym is) searched
 searched_named g o asked met traced named (Err e) is searched = tt
 
 -- the drawing that was found has a point for each node and a line for each edge
-pub found_draws : (g : Graph) (o : EdgeOrder) (asked : Job) (outcome : Outcome) (lines : Lines) → IsOutcome (search_of g o asked) asked.order outcome lines → IfSome (found_by outcome) (HasSizeOf g)
+pub found_draws : (g : Graph) (o : EdgeOrder) (asked : Job) (outcome : Outcome) (lines : Lines) → IsOutcome (search_of g o asked) asked.order outcome lines →
+    IfSome (found_by outcome) (HasSizeOf g)
 found_draws g o asked (outcomes.Best d) lines ended = ended_draws g o asked (outcomes.Best d) lines ended
 found_draws g o asked outcomes.NoDrawing lines ended = tt
 found_draws g o asked (outcomes.Spent found settled) lines ended = ended_draws g o asked (outcomes.Spent found settled) lines ended

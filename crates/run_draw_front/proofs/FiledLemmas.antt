@@ -36,8 +36,10 @@ at_end P a b holds same = subst P same holds
 
 -- the file holds the text of the lines that were told, once the rest is appended
 pub filed_holds : (old mid after new : Option Told) (name : List ℕ) (kept now : Gathered) (lines : Lines) →
-    WhereTold old mid (Sets name header) → (IsTold old → TellsLines kept mid []) → name_of kept ≡ name → name_of now ≡ name_of kept → WhereTold mid after (SameElsewhere (name_of kept)) →
-    AddsAll (TellsLines kept mid) (TellsLines now after) lines → WhereTold after new (SameElsewhere (name_of now)) → ((told : Lines) → TellsLines now after told → HasText new (name_of now) told) → HoldsLog old new name lines
+    WhereTold old mid (Sets name header) → (IsTold old → TellsLines kept mid []) → name_of kept ≡ name → name_of now ≡ name_of kept →
+    WhereTold mid after (SameElsewhere (name_of kept)) →
+    AddsAll (TellsLines kept mid) (TellsLines now after) lines → WhereTold after new (SameElsewhere (name_of now)) →
+    ((told : Lines) → TellsLines now after told → HasText new (name_of now) told) → HoldsLog old new name lines
 filed_holds None mid after new name kept now lines created tells named still others adds rest text = tt
 filed_holds (Some a) None after new name kept now lines created tells named still others adds rest text = absurd created
 filed_holds (Some a) (Some b) None new name kept now lines created tells named still others adds rest text = absurd others
@@ -47,7 +49,8 @@ filed_holds (Some a) (Some b) (Some c) (Some d) name kept now lines created tell
     record { text = subst (λ (n : List ℕ). HasText (Some d) n lines) (still ∙ named) (text lines told); formed = told.0.2 }
 
 -- no other file changed
-pub filed_others : (old mid after new : Option Told) (name : List ℕ) (kept now : Gathered) → WhereTold old mid (Sets name header) → name_of kept ≡ name → name_of now ≡ name_of kept →
+pub filed_others : (old mid after new : Option Told) (name : List ℕ) (kept now : Gathered) → WhereTold old mid (Sets name header) → name_of kept ≡ name →
+    name_of now ≡ name_of kept →
     WhereTold mid after (SameElsewhere (name_of kept)) → WhereTold after new (SameElsewhere (name_of now)) → WhereTold old new (SameElsewhere name)
 filed_others None mid after new name kept now created named still others rest = tt
 filed_others (Some a) None after new name kept now created named still others rest = absurd created
@@ -57,16 +60,20 @@ filed_others (Some a) (Some b) (Some c) (Some d) name kept now created named sti
     λ other ne. rest other (λ same. ne (same ∙ still ∙ named)) ∙ others other (λ same. ne (same ∙ named)) ∙ created.others other ne
 
 -- the file begins a log's text, whether or not the rest was appended whole
-pub filed_begun : (old mid after new : Option Told) (name : List ℕ) (kept now : Gathered) → WhereTold old mid (λ _ told. KeepsLog kept told) → name_of kept ≡ name → name_of now ≡ name_of kept →
-    WhereTold mid after (StillKeeps kept now) → WhereTold after new (λ x y. KeepsLog now x → FileBeginsLog y (name_of now)) → WhereTold old new (λ x y. (y name ≡ x name) ⊎ FileBeginsLog y name)
+pub filed_begun : (old mid after new : Option Told) (name : List ℕ) (kept now : Gathered) → WhereTold old mid (λ _ told. KeepsLog kept told) →
+    name_of kept ≡ name → name_of now ≡ name_of kept →
+    WhereTold mid after (StillKeeps kept now) → WhereTold after new (λ x y. KeepsLog now x → FileBeginsLog y (name_of now)) →
+    WhereTold old new (λ x y. (y name ≡ x name) ⊎ FileBeginsLog y name)
 filed_begun None mid after new name kept now keeps named still later begins = tt
 filed_begun (Some a) None after new name kept now keeps named still later begins = absurd keeps
 filed_begun (Some a) (Some b) None new name kept now keeps named still later begins = absurd later
 filed_begun (Some a) (Some b) (Some c) None name kept now keeps named still later begins = absurd begins
-filed_begun (Some a) (Some b) (Some c) (Some d) name kept now keeps named still later begins = inr (subst (FileBeginsLog d) (still ∙ named) (begins (later keeps)))
+filed_begun (Some a) (Some b) (Some c) (Some d) name kept now keeps named still later begins = inr
+    (subst (FileBeginsLog d) (still ∙ named) (begins (later keeps)))
 
 -- also where it wasn't appended
-pub left_begun : (old mid new : Option Told) (name : List ℕ) (kept now : Gathered) → WhereTold old mid (λ _ told. KeepsLog kept told) → name_of kept ≡ name → name_of now ≡ name_of kept →
+pub left_begun : (old mid new : Option Told) (name : List ℕ) (kept now : Gathered) → WhereTold old mid (λ _ told. KeepsLog kept told) → name_of kept ≡ name →
+    name_of now ≡ name_of kept →
     WhereTold mid new (StillKeeps kept now) → WhereTold old new (λ x y. (y name ≡ x name) ⊎ FileBeginsLog y name)
 left_begun None mid new name kept now keeps named still later = tt
 left_begun (Some a) None new name kept now keeps named still later = absurd keeps
@@ -80,7 +87,8 @@ others_unstarted None new name start = tt
 others_unstarted (Some a) None name start = absurd start
 others_unstarted (Some a) (Some b) name start = start.others
 
-pub begun_unstarted : (old new : Option Told) (name : List ℕ) → WhereTold old new (MaySet name header) → WhereTold old new (λ before after. (after name ≡ before name) ⊎ FileBeginsLog after name)
+pub begun_unstarted : (old new : Option Told) (name : List ℕ) → WhereTold old new (MaySet name header) →
+    WhereTold old new (λ before after. (after name ≡ before name) ⊎ FileBeginsLog after name)
 begun_unstarted None new name start = tt
 begun_unstarted (Some a) None name start = absurd start
 begun_unstarted (Some a) (Some b) name start = elim start.either as (λ _. (b name ≡ a name) ⊎ FileBeginsLog b name) [
@@ -91,23 +99,27 @@ begun_unstarted (Some a) (Some b) name start = elim start.either as (λ _. (b na
 -- ---- after a read
 
 -- a log's file is the same after a read that changed none
-holds_later : (old mid new : Option Told) (name : List ℕ) (lines : Lines) → WhereTold old mid SameFiles → HoldsLog mid new name lines → HoldsLog old new name lines
+holds_later : (old mid new : Option Told) (name : List ℕ) (lines : Lines) → WhereTold old mid SameFiles → HoldsLog mid new name lines →
+    HoldsLog old new name lines
 holds_later None mid new name lines same holds = tt
 holds_later (Some a) None new name lines same holds = absurd same
 holds_later (Some a) (Some b) None name lines same holds = absurd holds
 holds_later (Some a) (Some b) (Some c) name lines same holds = holds
 
-pub log_later : (named : Option (List ℕ)) (old mid new : FilesAt) (traced : Lines → Type 0) (lines : Lines) → WhereTold old.contents mid.contents SameFiles → IsRunLog named (between mid new) traced lines → IsRunLog named (between old new) traced lines
+pub log_later : (named : Option (List ℕ)) (old mid new : FilesAt) (traced : Lines → Type 0) (lines : Lines) → WhereTold old.contents mid.contents SameFiles →
+    IsRunLog named (between mid new) traced lines → IsRunLog named (between old new) traced lines
 log_later None old mid new traced lines same told = told
 log_later (Some name) old mid new traced lines same told = holds_later old.contents mid.contents new.contents name lines same told
 
-pub searched_later : (asked : Job) (old mid new : FilesAt) (traced : Lines → Type 0) (g : Graph) (o : EdgeOrder) (outcome : Outcome) → WhereTold old.contents mid.contents SameFiles →
+pub searched_later : (asked : Job) (old mid new : FilesAt) (traced : Lines → Type 0) (g : Graph) (o : EdgeOrder) (outcome : Outcome) →
+    WhereTold old.contents mid.contents SameFiles →
     HasSearched g o asked (IsRunLog asked.log (between mid new) traced) outcome → HasSearched g o asked (IsRunLog asked.log (between old new) traced) outcome
 searched_later asked old mid new traced g o outcome same searched =
     record { lines = searched.lines; told = log_later asked.log old mid new traced searched.lines same searched.told; ended = searched.ended }
 
 -- so is what draw answers
-pub draw_later : (asked : Job) (old mid new : FilesAt) (traced : Lines → Type 0) (g : Graph) (o : EdgeOrder) (status : Status) (text : List ℕ) → WhereTold old.contents mid.contents SameFiles →
+pub draw_later : (asked : Job) (old mid new : FilesAt) (traced : Lines → Type 0) (g : Graph) (o : EdgeOrder) (status : Status) (text : List ℕ) →
+    WhereTold old.contents mid.contents SameFiles →
     IsDrawAnswer asked (between mid new) traced g o status text → IsDrawAnswer asked (between old new) traced g o status text
 draw_later asked old mid new traced g o status text same answer =
     let drawn = answer.drawn in
@@ -126,13 +138,16 @@ draw_later asked old mid new traced g o status text same answer =
 
 -- the file was read, had this station, and that was answered so
 pub drawn_on : (asked : Job) (name : List ℕ) (old mid new : FilesAt) (traced : Lines → Type 0) (g : Graph) (o : EdgeOrder) (status : Status) (text : List ℕ) →
-    IsStationOf name old.contents g o → WhereTold old.contents mid.contents SameFiles → HasRead (between old new) 1 → IsDrawAnswer asked (between mid new) traced g o status text →
-    IsAnswerOn (text_input 1 name) 0 (between old new) (IsAnswerAfter 1 (between old new) (IsFileJudged (IsDrawAnswer asked (between old new) traced))) status text
+    IsStationOf name old.contents g o → WhereTold old.contents mid.contents SameFiles → HasRead (between old new) 1 →
+    IsDrawAnswer asked (between mid new) traced g o status text →
+    IsAnswerOn (text_input 1 name) 0 (between old new) (IsAnswerAfter 1 (between old new) (IsFileJudged (IsDrawAnswer asked (between old new) traced))) status
+    text
 drawn_on asked name old mid new traced g o status text (bytes, is, has) same read answer =
     inl (bytes, is, inr (has.has_graph.has_topology.has_rows.few, (read, inl (g, o, has, draw_later asked old mid new traced g o status text same answer))))
 
 -- so is what it leaves
-pub leaves_on : (asked : Job) (name : List ℕ) (old mid new : FilesAt) (traced : Lines → Type 0) (g : Graph) (o : EdgeOrder) (Refused : Type 0) → IsStationOf name old.contents g o → HasRead (between old new) 1 →
+pub leaves_on : (asked : Job) (name : List ℕ) (old mid new : FilesAt) (traced : Lines → Type 0) (g : Graph) (o : EdgeOrder) (Refused : Type 0) →
+    IsStationOf name old.contents g o → HasRead (between old new) 1 →
     WhereTold old.contents mid.contents SameFiles → (Refused → ⊥) →
     WhereTold mid.contents new.contents (LeftSo (DrawMayLeave asked (HasBegunPicture g o asked (IsRunLog asked.log (between mid new) traced)))) →
     WhereTold old.contents new.contents (LeftSo (λ file bytes. (Refused → ⊥) × IsLeftByDraw name asked (between old new) traced file bytes))
@@ -150,7 +165,14 @@ leaves_on asked name old mid new traced g o Refused has read same answered leave
         (read, has),
         elim may as (λ _. DrawMayLeave asked Later file bytes) [
           | inl log ↦ inl log
-          | inr (svg, begun) ↦ inr (svg, record { outcome = begun.outcome; searched = searched_later asked old mid new traced g o begun.outcome same begun.searched; begins = begun.begins })
+          | inr (svg, begun) ↦ inr (
+            svg,
+            record {
+              outcome = begun.outcome;
+              searched = searched_later asked old mid new traced g o begun.outcome same begun.searched;
+              begins = begun.begins;
+            },
+          )
         ],
       ),
     )) leaves)
@@ -165,8 +187,10 @@ none_or : (named : Option (List ℕ)) → (named ≡ None) ⊎ (named ≢ None)
 none_or None = inl refl
 none_or (Some name) = inr (λ e. let no : Some name ≡ None = e in absurd (cc))
 
-pub unwritten_on : (asked : Job) (name : List ℕ) (old mid new : FilesAt) (g : Graph) (o : EdgeOrder) (Refused : Type 0) → IsStationOf name old.contents g o → HasRead (between old new) 1 → (Refused → ⊥) →
-    IsUnwritten (between old mid) → (files_asked asked ≡ [] → IsUnwritten (between mid new)) → Refused ⊎ ((files_asked asked ≢ []) × HasReadStation name (between old new) → ⊥) → IsUnwritten (between old new)
+pub unwritten_on : (asked : Job) (name : List ℕ) (old mid new : FilesAt) (g : Graph) (o : EdgeOrder) (Refused : Type 0) → IsStationOf name old.contents g o →
+    HasRead (between old new) 1 → (Refused → ⊥) →
+    IsUnwritten (between old mid) → (files_asked asked ≡ [] → IsUnwritten (between mid new)) →
+    Refused ⊎ ((files_asked asked ≢ []) × HasReadStation name (between old new) → ⊥) → IsUnwritten (between old new)
 unwritten_on asked name old mid new g o Refused has read answered before after (inl refused) = absurd (answered refused)
 unwritten_on asked name old mid new g o Refused has read answered before after (inr none) = by (empty_or (files_asked asked))
   where
@@ -174,7 +198,8 @@ unwritten_on asked name old mid new g o Refused has read answered before after (
     by (inl empty) = after empty ∙ before
     by (inr some) = absurd (none (some, (g, o, (read, has))))
 
-pub untold_on : {T : Type 0} (asked : Job) (name : List ℕ) (old new : FilesAt) (g : Graph) (o : EdgeOrder) (Refused : Type 0) (before after : T) → IsStationOf name old.contents g o → HasRead (between old new) 1 →
+pub untold_on : {T : Type 0} (asked : Job) (name : List ℕ) (old new : FilesAt) (g : Graph) (o : EdgeOrder) (Refused : Type 0) (before after : T) →
+    IsStationOf name old.contents g o → HasRead (between old new) 1 →
     (Refused → ⊥) → (asked.log ≢ None → after ≡ before) → Refused ⊎ ((asked.log ≡ None) × HasReadStation name (between old new) → ⊥) → after ≡ before
 untold_on asked name old new g o Refused before after has read answered same (inl refused) = absurd (answered refused)
 untold_on {T} asked name old new g o Refused before after has read answered same (inr none) = by (none_or asked.log)
@@ -189,7 +214,9 @@ cut_told (Ok reply) = cuts.Memory
 cut_told (Err cut) = cut
 
 -- a rest that couldn't be appended is a fault of writing, counted from before the search
-pub filed_cause : {A B : Type 0} (fault : LogSinkFault) (cut : Cut) (old mid after new : ℕ) → cut ≡ cut_of fault → IsErrOf {T = A} (Err cut) cuts.Unwritten → old ≤ mid → mid ≤ after →
+pub filed_cause : {A B : Type 0} (fault : LogSinkFault) (cut : Cut) (old mid after new : ℕ) → cut ≡ cut_of fault → IsErrOf {T = A} (Err cut) cuts.Unwritten →
+    old ≤ mid → mid ≤ after →
     (IsErrOf {T = B} (Err fault) faults.Failed → Rose after new) → Rose old new
 filed_cause faults.Failed cut old mid after new is unwritten begun told cause = let rose : Rose after new = cause refl in omega (arith, begun, told, rose)
-filed_cause faults.Memory cut old mid after new is unwritten begun told cause = let same : cuts.Memory ≡ cuts.Unwritten = sym is ∙ ap cut_told unwritten in absurd (cc)
+filed_cause faults.Memory cut old mid after new is unwritten begun told cause = let same : cuts.Memory ≡ cuts.Unwritten = sym is
+    ∙ ap cut_told unwritten in absurd (cc)

@@ -16,8 +16,10 @@ use Rattle.run_input.specs.declared.status.Status.{Status}
 use Rattle.run_draw_front.specs.FrontText.{front_text}
 use Rattle.run_draw_front.specs.Fronted.{FrontJob, front_job, status_of_front, IsFrontAnswer}
 
-pub fronted : (grid : GridSize) (a b : Criterion) (budget : ℕ) (asked : FrontJob) (IsTold : Lines → Type 0) (g : Graph) (o : EdgeOrder) (pairs : Pairs) (ending : FrontEnd) (status : Status) (text : List ℕ) → front_job grid a b budget ≡ asked →
-    IsRightFront (IsLawful (task_of (layout g o grid) budget ROOM)) a b pairs ending → (lines : Lines) × IsTold lines × IsFrontLog (task_of (layout g o grid) budget ROOM) a b ending lines →
+pub fronted : (grid : GridSize) (a b : Criterion) (budget : ℕ) (asked : FrontJob) (IsTold : Lines → Type 0) (g : Graph) (o : EdgeOrder) (pairs : Pairs)
+    (ending : FrontEnd) (status : Status) (text : List ℕ) → front_job grid a b budget ≡ asked →
+    IsRightFront (IsLawful (task_of (layout g o grid) budget ROOM)) a b pairs ending →
+    (lines : Lines) × IsTold lines × IsFrontLog (task_of (layout g o grid) budget ROOM) a b ending lines →
     status ≡ status_of_front ending → text ≡ front_text a b pairs ending → IsFrontAnswer asked IsTold g o status text
 fronted grid a b budget asked IsTold g o pairs ending status text same right log status_is spelled =
     subst (λ (j : FrontJob). IsFrontAnswer j IsTold g o status text) same (record {

@@ -32,7 +32,8 @@ use Rattle.run_explain_redraw.specs.Explained.{ExplainJob, explain_job, explain_
 -- what holds of each status and text of an answer of this search holds of its own
 each_why : (asked : ExplainJob) (g : Graph) (o : EdgeOrder) (w : Why) (P : Status → List ℕ → Type 0) → IsRightWhy (explain_task g o asked) w →
     ((d : Drawing) → Lawful g (is_above o) asked.grid d → P Done (codes "drawing exists\n")) →
-    ((laws : List Instance) (without : List Drawing) → IsExplanation g (is_above o) asked.grid laws → AreWithout g asked.grid laws without → P Done (laws_text g (map break_of laws) without)) →
+    ((laws : List Instance) (without : List Drawing) → IsExplanation g (is_above o) asked.grid laws → AreWithout g asked.grid laws without →
+    P Done (laws_text g (map break_of laws) without)) →
     P Unfinished (codes "why conflicts\n") → P Unfinished (codes "why room\n") → P (status_of_why w) (why_text g w)
 each_why asked g o (Exists d) P right lawful explained spent room = lawful d right
 each_why asked g o (Laws names without) P right lawful explained spent room =
@@ -41,9 +42,11 @@ each_why asked g o Spent P right lawful explained spent room = spent
 each_why asked g o Room P right lawful explained spent room = room
 
 -- what holds of each status and text that explain may answer holds of its answer
-pub by_why : (asked : ExplainJob) (traced : Lines → Type 0) (g : Graph) (o : EdgeOrder) (status : Status) (text : List ℕ) (P : Status → List ℕ → Type 0) → IsExplainAnswer asked traced g o status text →
+pub by_why : (asked : ExplainJob) (traced : Lines → Type 0) (g : Graph) (o : EdgeOrder) (status : Status) (text : List ℕ) (P : Status → List ℕ → Type 0) →
+    IsExplainAnswer asked traced g o status text →
     ((d : Drawing) → Lawful g (is_above o) asked.grid d → P Done (codes "drawing exists\n")) →
-    ((laws : List Instance) (without : List Drawing) → IsExplanation g (is_above o) asked.grid laws → AreWithout g asked.grid laws without → P Done (laws_text g (map break_of laws) without)) →
+    ((laws : List Instance) (without : List Drawing) → IsExplanation g (is_above o) asked.grid laws → AreWithout g asked.grid laws without →
+    P Done (laws_text g (map break_of laws) without)) →
     P Unfinished (codes "why conflicts\n") → P Unfinished (codes "why room\n") → P status text
 by_why asked traced g o status text P f lawful explained spent room =
     subst (λ (s : Status). P s text) (sym f.status_is)
@@ -55,8 +58,10 @@ all_fit p names without are = λ k d lt.
     let w : IsWithout p.graph p.grid are.laws k (get_or without k d) = (are.irreducible).each k (get_or without k d) (slice_get-get_or without k d lt) in
     w.loose.fits.size
 
-pub explained : (grid : GridSize) (budget : ℕ) (asked : ExplainJob) (IsTold : Lines → Type 0) (g : Graph) (o : EdgeOrder) (w : Why) (status : Status) (text : List ℕ) → explain_job grid budget ≡ asked →
-    IsRightWhy (task_of (layout g o grid) budget ROOM) w → (lines : Lines) × IsTold lines × IsWhyLog (layout g o grid) budget ROOM w lines → status ≡ status_of_why w → text ≡ why_text g w → IsExplainAnswer asked IsTold g o status text
+pub explained : (grid : GridSize) (budget : ℕ) (asked : ExplainJob) (IsTold : Lines → Type 0) (g : Graph) (o : EdgeOrder) (w : Why) (status : Status)
+    (text : List ℕ) → explain_job grid budget ≡ asked →
+    IsRightWhy (task_of (layout g o grid) budget ROOM) w → (lines : Lines) × IsTold lines × IsWhyLog (layout g o grid) budget ROOM w lines →
+    status ≡ status_of_why w → text ≡ why_text g w → IsExplainAnswer asked IsTold g o status text
 explained grid budget asked IsTold g o w status text same right log status_is spelled =
     subst (λ (j : ExplainJob). IsExplainAnswer j IsTold g o status text) same (record {
       why = w;
@@ -73,7 +78,8 @@ begins_railplan : List ℕ → Bool
 begins_railplan [] = false
 begins_railplan (b ∷ bytes) = b == 114
 
-pub exists : (g : Graph) (o : EdgeOrder) (asked : ExplainJob) (w : Why) → IsRightWhy (explain_task g o asked) w → status_of_why w ≡ Done → (why_text g w ≡ codes "drawing exists\n") ↔ ((d : Drawing) × Lawful g (is_above o) asked.grid d)
+pub exists : (g : Graph) (o : EdgeOrder) (asked : ExplainJob) (w : Why) → IsRightWhy (explain_task g o asked) w → status_of_why w ≡ Done →
+    (why_text g w ≡ codes "drawing exists\n") ↔ ((d : Drawing) × Lawful g (is_above o) asked.grid d)
 unfolding begins_railplan
 exists g o asked (Exists d) right done = (λ e. (d, right), λ h. refl)
 exists g o asked (Laws names without) right done = (

@@ -32,13 +32,16 @@ use Rattle.run_explain_redraw.proofs.JudgedLemmas.{three_weaker, judged_weaker, 
 -- ---- the search
 
 -- lines told to a log of this name, where the words name it, are told where the words say
-pub moved_named : {E : Type 0} (g : Graph) (o : EdgeOrder) (asked : RedrawJob) (former : Former) (met : Met) (traced : Lines → Type 0) (named : Option (List ℕ)) (r : Result Fewest E) → asked.log ≡ named →
+pub moved_named : {E : Type 0} (g : Graph) (o : EdgeOrder) (asked : RedrawJob) (former : Former) (met : Met) (traced : Lines → Type 0) (named : Option (List ℕ))
+    (r : Result Fewest E) → asked.log ≡ named →
     IfOk r (HasSearchedMoved g o asked former (IsRunLog named met traced)) → IfOk r (HasSearchedMoved g o asked former (IsRunLog asked.log met traced))
-moved_named g o asked former met traced named (Ok outcome) is searched = subst (λ (log : Option (List ℕ)). HasSearchedMoved g o asked former (IsRunLog log met traced) outcome) (sym is) searched
+moved_named g o asked former met traced named (Ok outcome) is searched = subst (λ (log : Option (List ℕ)). HasSearchedMoved g o asked former
+    (IsRunLog log met traced) outcome) (sym is) searched
 moved_named g o asked former met traced named (Err e) is searched = tt
 
 -- the drawing that was found has a point for each node and a line for each edge
-pub fewest_size : (g : Graph) (o : EdgeOrder) (asked : RedrawJob) (former : Former) (outcome : Fewest) → IsRightFewest (moved_in g o asked former) outcome → IfSome (fewest_found outcome) (HasSizeOf g)
+pub fewest_size : (g : Graph) (o : EdgeOrder) (asked : RedrawJob) (former : Former) (outcome : Fewest) → IsRightFewest (moved_in g o asked former) outcome →
+    IfSome (fewest_found outcome) (HasSizeOf g)
 fewest_size g o asked former (Best d) right = right.0.fits.size
 fewest_size g o asked former NoDrawing right = tt
 fewest_size g o asked former (Spent None) right = tt
@@ -47,8 +50,10 @@ fewest_size g o asked former (Room None) right = tt
 fewest_size g o asked former (Room (Some d)) right = right.fits.size
 
 -- a search and the text of its outcome are an answer
-pub redrawn : (asked inside : RedrawJob) (IsTold : Lines → Type 0) (g : Graph) (o : EdgeOrder) (points former : Former) (outcome : Fewest) (status : Status) (text : List ℕ) → inside ≡ asked → former ≡ points →
-    HasSearchedMoved g o asked points IsTold outcome → status ≡ status_of_moved outcome → text ≡ moved_text g inside.grid former outcome → IsRedrawn g o asked points IsTold status text
+pub redrawn : (asked inside : RedrawJob) (IsTold : Lines → Type 0) (g : Graph) (o : EdgeOrder) (points former : Former) (outcome : Fewest) (status : Status)
+    (text : List ℕ) → inside ≡ asked → former ≡ points →
+    HasSearchedMoved g o asked points IsTold outcome → status ≡ status_of_moved outcome → text ≡ moved_text g inside.grid former outcome →
+    IsRedrawn g o asked points IsTold status text
 redrawn asked inside IsTold g o points former outcome status text is same searched status_is spelled = record {
   outcome = outcome;
   searched = searched;
@@ -58,8 +63,10 @@ redrawn asked inside IsTold g o points former outcome status text is same search
 
 -- ---- after the reads
 
-redrawn_later : (asked : RedrawJob) (old mid new : FilesAt) (traced : Lines → Type 0) (g : Graph) (o : EdgeOrder) (former : Former) (status : Status) (text : List ℕ) → WhereTold old.contents mid.contents SameFiles →
-    IsRedrawn g o asked former (IsRunLog asked.log (between mid new) traced) status text → IsRedrawn g o asked former (IsRunLog asked.log (between old new) traced) status text
+redrawn_later : (asked : RedrawJob) (old mid new : FilesAt) (traced : Lines → Type 0) (g : Graph) (o : EdgeOrder) (former : Former) (status : Status)
+    (text : List ℕ) → WhereTold old.contents mid.contents SameFiles →
+    IsRedrawn g o asked former (IsRunLog asked.log (between mid new) traced) status text →
+    IsRedrawn g o asked former (IsRunLog asked.log (between old new) traced) status text
 redrawn_later asked old mid new traced g o former status text same r =
     let s = r.searched in
     record {
@@ -70,14 +77,28 @@ redrawn_later asked old mid new traced g o former status text same r =
     }
 
 -- the three files were read, had this station and these former points, and that was answered so
-pub redrawn_on : (input former sheet : List ℕ) (asked : RedrawJob) (old mid new : FilesAt) (traced : Lines → Type 0) (g : Graph) (o : EdgeOrder) (points : Former) (status : Status) (text : List ℕ) →
-    HaveFormerIn input former sheet old.contents g o points → WhereTold old.contents mid.contents SameFiles → HasRead (between old new) 3 → IsRedrawn g o asked points (IsRunLog asked.log (between mid new) traced) status text →
+pub redrawn_on : (input former sheet : List ℕ) (asked : RedrawJob) (old mid new : FilesAt) (traced : Lines → Type 0) (g : Graph) (o : EdgeOrder)
+    (points : Former) (status : Status) (text : List ℕ) →
+    HaveFormerIn input former sheet old.contents g o points → WhereTold old.contents mid.contents SameFiles → HasRead (between old new) 3 →
+    IsRedrawn g o asked points (IsRunLog asked.log (between mid new) traced) status text →
     IsRedrawAnswer input former sheet asked (between old new) traced status text
 redrawn_on input former sheet asked old mid new traced g o points status text in_files same read answer =
     let have = in_files.have in
-    let Redrawn : Graph → EdgeOrder → Former → Status → List ℕ → Type 0 = λ g o points. IsRedrawn g o asked points (IsRunLog asked.log (between old new) traced) in
+    let Redrawn : Graph → EdgeOrder → Former → Status → List ℕ → Type 0 = λ g o points. IsRedrawn g o asked points
+    (IsRunLog asked.log (between old new) traced) in
     read_three input former sheet (between old new) (AreJudged Redrawn) in_files.bytes in_files.old in_files.said status text in_files.inputs read
-    (inl (g, o, have.has_station, inl (have.old_graph, have.old_order, have.old_station, inl (points, have.gives, redrawn_later asked old mid new traced g o points status text same answer))))
+    (inl (
+      g,
+      o,
+      have.has_station,
+      inl (
+        have.old_graph,
+        have.old_order,
+        have.old_station,
+        inl
+            (points, have.gives, redrawn_later asked old mid new traced g o points status text same answer),
+      ),
+    ))
 
 -- a fault is answered whatever is asked
 pub rejected_on : (input former sheet : List ℕ) (asked : RedrawJob) (met : Met) (traced : Lines → Type 0) (status : Status) (text : List ℕ) →
@@ -85,28 +106,36 @@ pub rejected_on : (input former sheet : List ℕ) (asked : RedrawJob) (met : Met
 rejected_on input former sheet asked met traced status text =
     let None : Graph → EdgeOrder → Former → Status → List ℕ → Type 0 = λ g o points status text. ⊥ in
     let Redrawn : Graph → EdgeOrder → Former → Status → List ℕ → Type 0 = λ g o points. IsRedrawn g o asked points (IsRunLog asked.log met traced) in
-    three_weaker input former sheet met (AreJudged None) (AreJudged Redrawn) status text (λ bytes old said. judged_weaker None Redrawn bytes old said status text (λ g o points none. absurd none))
+    three_weaker input former sheet met (AreJudged None) (AreJudged Redrawn) status text
+    (λ bytes old said. judged_weaker None Redrawn bytes old said status text (λ g o points none. absurd none))
 
 -- ---- what is left, and what isn't written nor told
 
-pub redraw_leaves : (input former sheet : List ℕ) (asked : RedrawJob) (old mid new : FilesAt) (Refused : Type 0) → HasReadFormer input former sheet (between old new) → WhereTold old.contents mid.contents SameFiles → (Refused → ⊥) →
-    WhereTold mid.contents new.contents (LeftSo (NamedMay asked.log BeginsLog)) → WhereTold old.contents new.contents (LeftSo (λ file bytes. (Refused → ⊥) × IsLeftByRedraw input former sheet asked (between old new) file bytes))
+pub redraw_leaves : (input former sheet : List ℕ) (asked : RedrawJob) (old mid new : FilesAt) (Refused : Type 0) →
+    HasReadFormer input former sheet (between old new) → WhereTold old.contents mid.contents SameFiles → (Refused → ⊥) →
+    WhereTold mid.contents new.contents (LeftSo (NamedMay asked.log BeginsLog)) →
+    WhereTold old.contents new.contents (LeftSo (λ file bytes. (Refused → ⊥) × IsLeftByRedraw input former sheet asked (between old new) file bytes))
 redraw_leaves input former sheet asked old mid new Refused found same answered leaves =
     let May : (file bytes : List ℕ) → Type 0 = λ file bytes. (Refused → ⊥) × IsLeftByRedraw input former sheet asked (between old new) file bytes in
     leaves_later May old.contents mid.contents new.contents same
     (leaves_weaker (NamedMay asked.log BeginsLog) May mid.contents new.contents (λ file bytes may. (answered, (found, may.0, may.1))) leaves)
 
-pub redraw_unwritten : (log : Option (List ℕ)) (input former sheet : List ℕ) (old mid new : FilesAt) (Refused : Type 0) → HasReadFormer input former sheet (between old new) → (Refused → ⊥) → IsUnwritten (between old mid) →
-    (log ≡ None → IsUnwritten (between mid new)) → Refused ⊎ ((file_named log ≢ []) × HasReadFormer input former sheet (between old new) → ⊥) → IsUnwritten (between old new)
+pub redraw_unwritten : (log : Option (List ℕ)) (input former sheet : List ℕ) (old mid new : FilesAt) (Refused : Type 0) →
+    HasReadFormer input former sheet (between old new) → (Refused → ⊥) → IsUnwritten (between old mid) →
+    (log ≡ None → IsUnwritten (between mid new)) → Refused ⊎ ((file_named log ≢ []) × HasReadFormer input former sheet (between old new) → ⊥) →
+    IsUnwritten (between old new)
 redraw_unwritten log input former sheet old mid new Refused found answered before after (inl refused) = absurd (answered refused)
 redraw_unwritten None input former sheet old mid new Refused found answered before after (inr none) = after refl ∙ before
-redraw_unwritten (Some file) input former sheet old mid new Refused found answered before after (inr none) = absurd (none ((λ e. let no : file ∷ [] ≡ [] = e in absurd (cc)), found))
+redraw_unwritten (Some file) input former sheet old mid new Refused found answered before after (inr none) = absurd
+    (none ((λ e. let no : file ∷ [] ≡ [] = e in absurd (cc)), found))
 
-pub redraw_untold : {T : Type 0} (log : Option (List ℕ)) (input former sheet : List ℕ) (old new : FilesAt) (Refused : Type 0) (before after : T) → HasReadFormer input former sheet (between old new) → (Refused → ⊥) →
+pub redraw_untold : {T : Type 0} (log : Option (List ℕ)) (input former sheet : List ℕ) (old new : FilesAt) (Refused : Type 0) (before after : T) →
+    HasReadFormer input former sheet (between old new) → (Refused → ⊥) →
     (log ≢ None → after ≡ before) → Refused ⊎ ((log ≡ None) × HasReadFormer input former sheet (between old new) → ⊥) → after ≡ before
 redraw_untold log input former sheet old new Refused before after found answered same (inl refused) = absurd (answered refused)
 redraw_untold None input former sheet old new Refused before after found answered same (inr none) = absurd (none (refl, found))
-redraw_untold (Some file) input former sheet old new Refused before after found answered same (inr none) = same (λ e. let no : Some file ≡ None = e in absurd (cc))
+redraw_untold (Some file) input former sheet old new Refused before after found answered same (inr none) = same
+    (λ e. let no : Some file ≡ None = e in absurd (cc))
 
 -- ---- its lines derive
 

@@ -2,7 +2,8 @@
 use Rattle.std.proofs.Common.{◌≡◌, ◌≢◌, ◌⊎◌, ℕ, List, Ok, Err, inl, inr, sym, ◌∙◌, subst}
 use Rattle.std.specs.Prelude.{Result, IsOkAnd}
 use Rattle.plan_words.specs.declared.command.Command.{Command}
-use Rattle.plan_words.specs.declared.command.Command.TheVariants.{Draw, Verify, Check, Graph as PrintGraph, Make, Trial, Signals, Front, Redraw, Explain, Trim, Recheck}
+use Rattle.plan_words.specs.declared.command.Command.TheVariants.{Draw, Verify, Check, Graph as PrintGraph, Make, Trial, Signals, Front, Redraw, Explain, Trim}
+use Rattle.plan_words.specs.declared.command.Command.TheVariants.{Recheck}
 use Rattle.plan_words.specs.Words.{IsCommandOf}
 use Rattle.plan_words.proofs.AnswerLemmas.{command_same}
 use Rattle.run_input.specs.declared.reply.Cut.{Cut}
@@ -22,7 +23,8 @@ other_than_0 status (inl refused) is = subst IsRefused is refused
 other_than_0 status (inr (inl unfinished)) is = let e : Unfinished ≡ Done = sym unfinished ∙ is in cc
 other_than_0 status (inr (inr broken)) is = let e : Broken ≡ Done = sym broken ∙ is in cc
 
-pub trimmed_alone : {E : Type 0} (x : Result Reply E) → IsOkAnd x (λ r. IsRefused r.status ⊎ (r.status ≡ Unfinished) ⊎ (r.status ≡ Broken)) → IsOkAnd x (λ r. r.status ≢ Done)
+pub trimmed_alone : {E : Type 0} (x : Result Reply E) → IsOkAnd x (λ r. IsRefused r.status ⊎ (r.status ≡ Unfinished) ⊎ (r.status ≡ Broken)) →
+    IsOkAnd x (λ r. r.status ≢ Done)
 trimmed_alone (Ok reply) alone = other_than_0 reply.status alone
 trimmed_alone (Err e) alone = alone
 
@@ -43,9 +45,11 @@ refused_alone (Trim input sheet log hints) status refused = inl refused
 refused_alone (Recheck input sheet hints) status refused = refused
 
 -- as the words ask for one command, its statuses are those
-pub reply_alone : {E : Type 0} (words : List (List ℕ)) (command : Command) (x : Result Reply E) → IsCommandOf words command → IsOkAnd x (λ r. EndsUnwritten words r.status) → IsOkAnd x (λ r. AnswersAlone command r.status)
+pub reply_alone : {E : Type 0} (words : List (List ℕ)) (command : Command) (x : Result Reply E) → IsCommandOf words command →
+    IsOkAnd x (λ r. EndsUnwritten words r.status) → IsOkAnd x (λ r. AnswersAlone command r.status)
 reply_alone words command (Ok reply) asked (inl refused) = refused_alone command reply.status refused
-reply_alone words command (Ok reply) asked (inr (found, also, alone)) = subst (λ (c : Command). AnswersAlone c reply.status) (command_same words found command also asked) alone
+reply_alone words command (Ok reply) asked (inr (found, also, alone)) = subst (λ (c : Command). AnswersAlone c reply.status)
+    (command_same words found command also asked) alone
 reply_alone words command (Err e) asked ends = ends
 
 -- ---- none of them is that of a run that was cut short

@@ -1,7 +1,8 @@
 -- The files that a command writes have different names.
 use Rattle.std.proofs.Common.{ℕ, List, None, Some, refl, sym, arith}
 use Rattle.plan_words.specs.declared.command.Command.{Command}
-use Rattle.plan_words.specs.declared.command.Command.TheVariants.{Draw, Verify, Check, Graph as PrintGraph, Make, Trial, Signals, Front, Redraw, Explain, Trim, Recheck}
+use Rattle.plan_words.specs.declared.command.Command.TheVariants.{Draw, Verify, Check, Graph as PrintGraph, Make, Trial, Signals, Front, Redraw, Explain, Trim}
+use Rattle.plan_words.specs.declared.command.Command.TheVariants.{Recheck}
 use Rattle.plan_words.specs.Words.{IsCommandOf}
 use Rattle.plan_words.proofs.AnswerLemmas.{outputs_apart}
 use Rattle.run_draw_front.specs.Written.{AreFilesApart}
@@ -12,7 +13,8 @@ pub asked_apart : (words : List (List ℕ)) (command : Command) → IsCommandOf 
 asked_apart words (Draw input grid order budget None None) asked = λ i j d before within. absurd (omega (arith, within))
 asked_apart words (Draw input grid order budget None (Some l)) asked = λ i j d before within. absurd (omega (arith, before, within))
 asked_apart words (Draw input grid order budget (Some p) None) asked = λ i j d before within. absurd (omega (arith, before, within))
-asked_apart words (Draw input grid order budget (Some p) (Some l)) asked = two_apart l p (λ same. outputs_apart words input grid order budget (Some p) (Some l) p l asked refl refl (sym same))
+asked_apart words (Draw input grid order budget (Some p) (Some l)) asked = two_apart l p
+    (λ same. outputs_apart words input grid order budget (Some p) (Some l) p l asked refl refl (sym same))
 asked_apart words (PrintGraph input) asked = λ i j d before within. absurd (omega (arith, within))
 asked_apart words (Verify input sheet) asked = λ i j d before within. absurd (omega (arith, within))
 asked_apart words (Check input sheet log) asked = λ i j d before within. absurd (omega (arith, within))

@@ -30,17 +30,20 @@ ended_with_0 (why.Laws names without) status is finished = refl
 ended_with_0 why.Spent status is finished = absurd (finished is)
 ended_with_0 why.Room status is finished = absurd (finished is)
 
-why_ends : (g : Graph) (o : EdgeOrder) (asked : ExplainJob) (w : Why) (status : Status) (text : List ℕ) → IsRightWhy (explain_task g o asked) w → status ≡ status_of_why w → text ≡ why_text g w → SaysExactly g o asked.grid status text
+why_ends : (g : Graph) (o : EdgeOrder) (asked : ExplainJob) (w : Why) (status : Status) (text : List ℕ) → IsRightWhy (explain_task g o asked) w →
+    status ≡ status_of_why w → text ≡ why_text g w → SaysExactly g o asked.grid status text
 why_ends g o asked w status text right is spelled = λ finished.
     let done = ended_with_0 w status is finished in
     (is ∙ done, subst (λ (t : List ℕ). (t ≡ codes "drawing exists\n") ↔ SomeLawful g o asked.grid) (sym spelled) (exists g o asked w right done))
 
-pub explained_run : (input : List ℕ) (grid : GridSize) (budget : ℕ) (met : Met) (g : Graph) (o : EdgeOrder) (status : Status) (text : List ℕ) → met.before.contents ≢ None → IsStationOf input met.before.contents g o →
+pub explained_run : (input : List ℕ) (grid : GridSize) (budget : ℕ) (met : Met) (g : Graph) (o : EdgeOrder) (status : Status) (text : List ℕ) →
+    met.before.contents ≢ None → IsStationOf input met.before.contents g o →
     (FailsIn (Explain input grid budget) met → ⊥) → Owes (Explain input grid budget) met (λ lines. ⊤) status text → SaysExactly g o grid status text
 explained_run input grid budget met g o status text told (bytes, is, has) read owes =
     let traced : Lines → Type 0 = λ lines. ⊤ in
     let asked = explain_job grid budget in
     let first =
-    bytes_answered (text_input 1 input) 0 met bytes (IsAnswerAfter 1 met (IsFileJudged (IsExplainAnswer asked traced))) status text told is has.has_graph.has_topology.has_rows.few (λ fails. read (0, lit< tt, fails)) owes in
+    bytes_answered (text_input 1 input) 0 met bytes (IsAnswerAfter 1 met (IsFileJudged (IsExplainAnswer asked traced))) status text told is
+    has.has_graph.has_topology.has_rows.few (λ fails. read (0, lit< tt, fails)) owes in
     let answer = answered_at (IsExplainAnswer asked traced) bytes g o status text has first.1 in
     why_ends g o asked answer.why status text answer.right answer.status_is answer.spelled

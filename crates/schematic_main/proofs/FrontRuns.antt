@@ -23,19 +23,22 @@ use Rattle.schematic_main.specs.SearchedRuns.{EndsExactly}
 use Rattle.schematic_main.proofs.CertifiedRuns.{bytes_answered}
 use Rattle.schematic_main.proofs.SearchEnds.{ends_found, ends_without, ends_open, answered_at}
 
-front_ends : (g : Graph) (o : EdgeOrder) (grid : GridSize) (a b : Criterion) (pairs : Pairs) (ending : FrontEnd) (status : Status) → IsRightFront (Lawful g (is_above o) grid) a b pairs ending → status ≡ status_of_front ending →
+front_ends : (g : Graph) (o : EdgeOrder) (grid : GridSize) (a b : Criterion) (pairs : Pairs) (ending : FrontEnd) (status : Status) →
+    IsRightFront (Lawful g (is_above o) grid) a b pairs ending → status ≡ status_of_front ending →
     EndsExactly g o grid status
 front_ends g o grid a b pairs fronts.Whole status right is = ends_found g o grid status is right.0
 front_ends g o grid a b pairs fronts.Empty status right is = ends_without g o grid status is right.0
 front_ends g o grid a b pairs fronts.Conflicts status right is = ends_open g o grid status is
 front_ends g o grid a b pairs fronts.Room status right is = ends_open g o grid status is
 
-pub front_run : (input : List ℕ) (a b : Criterion) (grid : GridSize) (budget : ℕ) (met : Met) (g : Graph) (o : EdgeOrder) (status : Status) (text : List ℕ) → met.before.contents ≢ None → IsStationOf input met.before.contents g o →
+pub front_run : (input : List ℕ) (a b : Criterion) (grid : GridSize) (budget : ℕ) (met : Met) (g : Graph) (o : EdgeOrder) (status : Status) (text : List ℕ) →
+    met.before.contents ≢ None → IsStationOf input met.before.contents g o →
     (FailsIn (Front input a b grid budget) met → ⊥) → Owes (Front input a b grid budget) met (λ lines. ⊤) status text → EndsExactly g o grid status
 front_run input a b grid budget met g o status text told (bytes, is, has) read owes =
     let traced : Lines → Type 0 = λ lines. ⊤ in
     let asked = front_job grid a b budget in
     let first =
-    bytes_answered (text_input 1 input) 0 met bytes (IsAnswerAfter 1 met (IsFileJudged (IsFrontAnswer asked traced))) status text told is has.has_graph.has_topology.has_rows.few (λ fails. read (0, lit< tt, fails)) owes in
+    bytes_answered (text_input 1 input) 0 met bytes (IsAnswerAfter 1 met (IsFileJudged (IsFrontAnswer asked traced))) status text told is
+    has.has_graph.has_topology.has_rows.few (λ fails. read (0, lit< tt, fails)) owes in
     let answer = answered_at (IsFrontAnswer asked traced) bytes g o status text has first.1 in
     front_ends g o grid a b answer.pairs answer.ending status answer.right answer.status_is

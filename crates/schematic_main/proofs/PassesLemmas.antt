@@ -46,7 +46,8 @@ expected_of g o asked lines = expectation (layout g o asked.grid) asked.order (c
 abbrev IsWholeOrNone : Graph → EdgeOrder → Job → Lines → Type 0
 IsWholeOrNone g o asked lines = IsAllExpected (problem_of (layout g o asked.grid)) (limit_of g asked.grid) asked.order lines ⊎ (lines ≡ [])
 
-whole_or_none : (g : Graph) (o : EdgeOrder) (asked : Job) (outcome : Outcome) (lines : Lines) → IsOutcome (search_of g o asked) asked.order outcome lines → IsWholeOrNone g o asked lines
+whole_or_none : (g : Graph) (o : EdgeOrder) (asked : Job) (outcome : Outcome) (lines : Lines) → IsOutcome (search_of g o asked) asked.order outcome lines →
+    IsWholeOrNone g o asked lines
 whole_or_none g o asked (outcomes.Best d) lines ended = inl ended.whole
 whole_or_none g o asked outcomes.NoDrawing lines ended = inl ended.whole
 whole_or_none g o asked (outcomes.Spent None settled) lines ended = ended.told
@@ -58,15 +59,19 @@ whole_or_none g o asked (outcomes.Room (Some d) settled) lines ended = inl ended
 few_words : (e : Expectation) (lines : Lines) → clause_lines lines ≡ e.lines → words_of (flat_map added lines) ≤ ROOM → words_of (flat_map given e.lines) ≤ ROOM
 few_words e lines whole fits =
     let split = words_of_log lines in
-    let given_of : words_of (flat_map given e.lines) ≡ words_of (flat_map given lines) = ap (λ (xs : Lines). words_of (flat_map given xs)) (sym whole) ∙ ap words_of (given_of_clauses lines) in
+    let given_of : words_of (flat_map given e.lines) ≡ words_of (flat_map given lines) = ap (λ (xs : Lines). words_of (flat_map given xs)) (sym whole)
+    ∙ ap words_of (given_of_clauses lines) in
     omega (arith, split, given_of, fits)
 
-within : (g : Graph) (o : EdgeOrder) (asked : Job) (lines : Lines) → IsSearched (search_of g o asked) asked.order lines → IsWholeOrNone g o asked lines → clause_lines lines ≢ [] → PassesLimits (expected_of g o asked lines) → ⊥
+within : (g : Graph) (o : EdgeOrder) (asked : Job) (lines : Lines) → IsSearched (search_of g o asked) asked.order lines → IsWholeOrNone g o asked lines →
+    clause_lines lines ≢ [] → PassesLimits (expected_of g o asked lines) → ⊥
 within g o asked lines searched told some (inl many) = let few = searched.few some in omega (arith, few, many)
-within g o asked lines searched (inl whole) some (inr long) = let short = few_words (expected_of g o asked lines) lines whole searched.fits in omega (arith, short, long)
+within g o asked lines searched (inl whole) some (inr long) = let short = few_words (expected_of g o asked lines) lines whole searched.fits in omega
+    (arith, short, long)
 within g o asked lines searched (inr none) some (inr long) = absurd (some (ap (λ (xs : Lines). clause_lines xs) none))
 
-accepted : (g : Graph) (o : EdgeOrder) (asked : Job) (lines : Lines) → IsSearched (search_of g o asked) asked.order lines → IsWholeOrNone g o asked lines → AreAccepted (expected_of g o asked lines) lines
+accepted : (g : Graph) (o : EdgeOrder) (asked : Job) (lines : Lines) → IsSearched (search_of g o asked) asked.order lines → IsWholeOrNone g o asked lines →
+    AreAccepted (expected_of g o asked lines) lines
 accepted g o asked lines searched told = record {
   front = searched.front;
   within = within g o asked lines searched told;
@@ -76,7 +81,8 @@ accepted g o asked lines searched told = record {
 
 -- ---- and certify the claim, which is so
 
-lawful_found : (g : Graph) (o : EdgeOrder) (asked : Job) (outcome : Outcome) (lines : Lines) → IsOutcome (search_of g o asked) asked.order outcome lines → IfSome (sheet_of asked outcome).found (Lawful g (is_above o) asked.grid)
+lawful_found : (g : Graph) (o : EdgeOrder) (asked : Job) (outcome : Outcome) (lines : Lines) → IsOutcome (search_of g o asked) asked.order outcome lines →
+    IfSome (sheet_of asked outcome).found (Lawful g (is_above o) asked.grid)
 lawful_found g o asked (outcomes.Best d) lines ended = ended.lawful
 lawful_found g o asked outcomes.NoDrawing lines ended = tt
 lawful_found g o asked (outcomes.Spent None settled) lines ended = tt
@@ -87,7 +93,8 @@ lawful_found g o asked (outcomes.Room (Some d) settled) lines ended = ended.lawf
 abbrev claim_for : Job → Outcome → Claim
 claim_for asked outcome = claim_of asked.order (sheet_of asked outcome).found (sheet_of asked outcome).ending
 
-certifies : (g : Graph) (o : EdgeOrder) (asked : Job) (outcome : Outcome) (lines : Lines) → IsOutcome (search_of g o asked) asked.order outcome lines → CertifiesClaim (limit_of g asked.grid) lines asked.order (claim_for asked outcome)
+certifies : (g : Graph) (o : EdgeOrder) (asked : Job) (outcome : Outcome) (lines : Lines) → IsOutcome (search_of g o asked) asked.order outcome lines →
+    CertifiesClaim (limit_of g asked.grid) lines asked.order (claim_for asked outcome)
 certifies g o asked (outcomes.Best d) lines ended = ended.certified
 certifies g o asked outcomes.NoDrawing lines ended = ended.certified
 certifies g o asked (outcomes.Spent None settled) lines ended = tt
@@ -95,9 +102,11 @@ certifies g o asked (outcomes.Spent (Some d) settled) lines ended = ended.is_set
 certifies g o asked (outcomes.Room None settled) lines ended = tt
 certifies g o asked (outcomes.Room (Some d) settled) lines ended = ended.is_settled.certified
 
-is_so : (g : Graph) (o : EdgeOrder) (asked : Job) (outcome : Outcome) (lines : Lines) → IsOutcome (search_of g o asked) asked.order outcome lines → IsTrueClaim (Lawful g (is_above o) asked.grid) asked.order (claim_for asked outcome)
+is_so : (g : Graph) (o : EdgeOrder) (asked : Job) (outcome : Outcome) (lines : Lines) → IsOutcome (search_of g o asked) asked.order outcome lines →
+    IsTrueClaim (Lawful g (is_above o) asked.grid) asked.order (claim_for asked outcome)
 is_so g o asked (outcomes.Best d) lines ended = λ other lawful better.
-    ended.none_better other lawful (subst (λ (order : List Criterion). Better order (values_of other) (values_of d)) (take_all (length asked.order) asked.order (omega arith)) better)
+    ended.none_better other lawful (subst (λ (order : List Criterion). Better order (values_of other) (values_of d))
+    (take_all (length asked.order) asked.order (omega arith)) better)
 is_so g o asked outcomes.NoDrawing lines ended = ended.none_lawful
 is_so g o asked (outcomes.Spent None settled) lines ended = tt
 is_so g o asked (outcomes.Spent (Some d) settled) lines ended = ended.none_better
@@ -128,7 +137,8 @@ judged g o asked outcome lines ended =
       is_expected = record {
         lines = flat_map told_bound_line lines;
         bounds = own_bounds lines searched.formed;
-        expected_is = same_expectation (layout g o asked.grid) asked.order (caps (limit_of g asked.grid) lines) (caps (limit_of g asked.grid) (flat_map told_bound_line lines)) (λ c. sym (caps_alone (limit_of g asked.grid) lines c));
+        expected_is = same_expectation (layout g o asked.grid) asked.order (caps (limit_of g asked.grid) lines)
+            (caps (limit_of g asked.grid) (flat_map told_bound_line lines)) (λ c. sym (caps_alone (limit_of g asked.grid) lines c));
       };
       is_verdict = record {
         lines = lines;
@@ -149,10 +159,12 @@ ended_passes g o asked outcome lines ended text =
     let claim = claim_of sheet.order sheet.found sheet.ending in
     let is_judged : IsLogJudged (layout g o sheet.grid) sheet.order claim (log_text lines) verdicts.Certified =
     subst (λ (grid : GridSize). IsLogJudged (layout g o grid) sheet.order claim (log_text lines) verdicts.Certified) (sym (grid_asked asked outcome))
-    (subst (λ (order : List Criterion). IsLogJudged (layout g o asked.grid) order (claim_of order sheet.found sheet.ending) (log_text lines) verdicts.Certified) (sym (order_asked asked outcome))
+    (subst (λ (order : List Criterion). IsLogJudged (layout g o asked.grid) order (claim_of order sheet.found sheet.ending) (log_text lines) verdicts.Certified)
+    (sym (order_asked asked outcome))
     (judged g o asked outcome lines ended)) in
     let lawful : IfSome sheet.found (Lawful g (is_above o) sheet.grid) =
-    subst (λ (grid : GridSize). IfSome sheet.found (Lawful g (is_above o) grid)) (sym (grid_asked asked outcome)) (lawful_found g o asked outcome lines ended) in
+    subst (λ (grid : GridSize). IfSome sheet.found (Lawful g (is_above o) grid)) (sym (grid_asked asked outcome))
+    (lawful_found g o asked outcome lines ended) in
     inl (record {
       said = sheet;
       is_text = text;

@@ -34,7 +34,8 @@ pub ends_open : (g : Graph) (o : EdgeOrder) (grid : GridSize) (status : Status) 
 ends_open g o grid status is = λ finished. absurd (finished is)
 
 -- a search for the best drawing
-pub best_ends : (g : Graph) (o : EdgeOrder) (asked : Job) (outcome : Outcome) (lines : Lines) (status : Status) → HasEnded g o asked outcome lines → status ≡ status_of outcome → EndsExactly g o asked.grid status
+pub best_ends : (g : Graph) (o : EdgeOrder) (asked : Job) (outcome : Outcome) (lines : Lines) (status : Status) → HasEnded g o asked outcome lines →
+    status ≡ status_of outcome → EndsExactly g o asked.grid status
 best_ends g o asked (outcomes.Best d) lines status ended is = ends_found g o asked.grid status is (d, ended.lawful)
 best_ends g o asked outcomes.NoDrawing lines status ended is = ends_without g o asked.grid status is ended.none_lawful
 best_ends g o asked (outcomes.Spent found settled) lines status ended is = ends_open g o asked.grid status is
@@ -43,6 +44,7 @@ best_ends g o asked (outcomes.Room found settled) lines status ended is = ends_o
 -- ---- the file
 
 -- bytes that have a station are answered by it
-pub answered_at : (Answers : Graph → EdgeOrder → Status → List ℕ → Type 0) (bytes : List ℕ) (g : Graph) (o : EdgeOrder) (status : Status) (text : List ℕ) → HasStation bytes g o → IsFileJudged Answers bytes status text → Answers g o status text
+pub answered_at : (Answers : Graph → EdgeOrder → Status → List ℕ → Type 0) (bytes : List ℕ) (g : Graph) (o : EdgeOrder) (status : Status) (text : List ℕ) →
+    HasStation bytes g o → IsFileJudged Answers bytes status text → Answers g o status text
 answered_at Answers bytes g o status text has (inl (h, p, also, answer)) = of_station (λ x y. Answers x y status text) bytes g h o p has also answer
 answered_at Answers bytes g o status text has (inr refused) = absurd (station_or_fault bytes g o refused.fault has refused.has)

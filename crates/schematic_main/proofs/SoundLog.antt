@@ -21,13 +21,16 @@ no_fault (line ∷ lines) rest what told is fault =
 -- nor before their end
 no_fault_before : (lines : Lines) (rest : List ℕ) (what : LogWhat) → [] ≡ flat_map ended_text lines ++ rest → HasNextFault rest what → ⊥
 no_fault_before [] rest what is fault = no_next_fault what (subst (λ (text : List ℕ). HasNextFault text what) (sym is) fault)
-no_fault_before (line ∷ lines) rest what is fault = line_goes_on line (flat_map ended_text lines ++ rest) (is ∙ append_assoc (ended_text line) (flat_map ended_text lines) rest)
+no_fault_before (line ∷ lines) rest what is fault = line_goes_on line (flat_map ended_text lines ++ rest)
+    (is ∙ append_assoc (ended_text line) (flat_map ended_text lines) rest)
 
-pub sound_log : (y : Layout) (order : List Criterion) (claim : Claim) (lines : Lines) (what : LogWhat) (number : ℕ) → MayAllBeTold lines → IsLogJudged y order claim (log_text lines) (Faulty what number) → ⊥
+pub sound_log : (y : Layout) (order : List Criterion) (claim : Claim) (lines : Lines) (what : LogWhat) (number : ℕ) → MayAllBeTold lines →
+    IsLogJudged y order claim (log_text lines) (Faulty what number) → ⊥
 sound_log y order claim lines what number formed judged = elim judged.is_verdict [
-  | inl text ↦ elim (log_fronts (log_text lines) text.before lines text.rest [] text.accepts.formed formed text.accepts.spelled (sym (append-nil (log_text lines)))) [
-    | inl front ↦ no_fault front.more text.rest what front.told front.rest text.fault
-    | inr front ↦ no_fault_before front.more text.rest what front.rest text.fault
-  ]
+  | inl text ↦ elim (log_fronts (log_text lines) text.before lines text.rest [] text.accepts.formed formed text.accepts.spelled
+      (sym (append-nil (log_text lines)))) [
+        | inl front ↦ no_fault front.more text.rest what front.told front.rest text.fault
+        | inr front ↦ no_fault_before front.more text.rest what front.rest text.fault
+      ]
   | inr header ↦ header.lacks (flat_map ended_text lines) refl
 ]

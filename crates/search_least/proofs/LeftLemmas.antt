@@ -26,7 +26,8 @@ use Rattle.search_least.proofs.BuildLemmas.{expected_built, formulas_are_clauses
 use Rattle.search_least.proofs.OutcomeLemmas.{zero_told, first_state}
 
 -- behind the lines that were expected with one cap the first of those that are expected with the next
-left_over : (p : Task) (order : List Criterion) (cap now : Criterion → ℕ) (xs lines told : Lines) → clause_lines lines ≡ expected_lines p.encoding order cap → expected_lines p.encoding order now ≡ expected_lines p.encoding order cap ++ xs →
+left_over : (p : Task) (order : List Criterion) (cap now : Criterion → ℕ) (xs lines told : Lines) → clause_lines lines ≡ expected_lines p.encoding order cap →
+    expected_lines p.encoding order now ≡ expected_lines p.encoding order cap ++ xs →
     IsLeft xs lines told → IsLeastLeft p order told
 left_over p order cap now xs lines told before is left =
     let rest = left.begins.0 in
@@ -35,20 +36,25 @@ left_over p order cap now xs lines told before is left =
       cap = now;
       begins = (
         rest,
-        is ∙ ap (λ (ls : Lines). ls ++ xs) (sym before) ∙ ap (λ (ls : Lines). clause_lines lines ++ ls) left.begins.1 ∙ sym (append_assoc (clause_lines lines) left.front rest) ∙ ap (λ (ls : Lines). ls ++ rest) (sym left.gives),
+        is ∙ ap (λ (ls : Lines). ls ++ xs) (sym before) ∙ ap (λ (ls : Lines). clause_lines lines ++ ls) left.begins.1
+            ∙ sym (append_assoc (clause_lines lines) left.front rest) ∙ ap (λ (ls : Lines). ls ++ rest) (sym left.gives),
       );
     }
 
 -- an error in the bounds of the criterion at place i
-pub built_left : (p : Task) (order : List Criterion) (i : ℕ) (c : Criterion) (n : ℕ) (held : List Below) (d : Drawing) (cap : Criterion → ℕ) (vars : ℕ) (known old new : Lines → Type 0) → IsOrder order → slice_get order i ≡ Some c → Counted p order i cap vars →
+pub built_left : (p : Task) (order : List Criterion) (i : ℕ) (c : Criterion) (n : ℕ) (held : List Below) (d : Drawing) (cap : Criterion → ℕ) (vars : ℕ)
+    (known old new : Lines → Type 0) → IsOrder order → slice_get order i ≡ Some c → Counted p order i cap vars →
     Leaves (sum_lines p.encoding vars c n) known old new → LeavesSearch p order (SearchState p order i held d cap) known old new
 built_left p order i c n held d cap vars known old new is at k h = λ lines knows state was told tells.
-    left_over p order cap (with_cap cap c n) (sum_lines p.encoding vars c n) lines told state.told (expected_built p order i c n cap vars is at k) (h lines knows was told tells)
+    left_over p order cap (with_cap cap c n) (sum_lines p.encoding vars c n) lines told state.told (expected_built p order i c n cap vars is at k)
+    (h lines knows was told tells)
 
 -- an error behind them
-pub asked_left : {S : Type 0} (knows log : S → Lines → Type 0) (count : S → ℕ) (a b e : S) (p : Task) (order : List Criterion) (i : ℕ) (c : Criterion) (n : ℕ) (held : List Below) (d : Drawing) (cap : Criterion → ℕ) (vars : ℕ) (built : Built) →
+pub asked_left : {S : Type 0} (knows log : S → Lines → Type 0) (count : S → ℕ) (a b e : S) (p : Task) (order : List Criterion) (i : ℕ) (c : Criterion) (n : ℕ)
+    (held : List Below) (d : Drawing) (cap : Criterion → ℕ) (vars : ℕ) (built : Built) →
     IsOrder order → slice_get order i ≡ Some c → Counted p order i cap vars → built ≡ Whole →
-    Continues knows log count a b (λ lines more. IsBuild p vars c n built lines more) → Leaves [] (knows b) (log b) (log e) → LeavesSearch p order (SearchState p order i held d cap) (knows a) (log a) (log e)
+    Continues knows log count a b (λ lines more. IsBuild p vars c n built lines more) → Leaves [] (knows b) (log b) (log e) →
+    LeavesSearch p order (SearchState p order i held d cap) (knows a) (log a) (log e)
 asked_left knows log count a b e p order i c n held d cap vars built is at k was run h =
     let xs = sum_lines p.encoding vars c n in
     built_left p order i c n held d cap vars (knows a) (log a) (log e) is at k
@@ -57,15 +63,19 @@ asked_left knows log count a b e p order i c n held d cap vars built is at k was
     (λ lines more r. ap clause_lines (subst (λ (x : Built). IsBuild p vars c n x lines more) was r) ∙ sum_is_clauses p.encoding vars c n) h))
 
 -- the whole of what is expected, with nothing behind it
-left_whole : (p : Task) (order : List Criterion) (cap : Criterion → ℕ) (lines : Lines) → Derives lines → clause_lines lines ≡ expected_lines p.encoding order cap → IsLeastLeft p order lines
+left_whole : (p : Task) (order : List Criterion) (cap : Criterion → ℕ) (lines : Lines) → Derives lines →
+    clause_lines lines ≡ expected_lines p.encoding order cap → IsLeastLeft p order lines
 left_whole p order cap lines derives is = record { derives = derives; cap = cap; begins = ([], sym is ∙ sym (append-nil (clause_lines lines))) }
 
 -- an error that tells nothing, once the place's least value is found or the search stopped
-pub bounded_left : {S : Type 0} (knows log : S → Lines → Type 0) (count : S → ℕ) (a e : S) (p : Task) (order : List Criterion) (i : ℕ) (held : List Below) (stop : Option Stop) (s : ℕ) (first d : Drawing) (cap now : Criterion → ℕ) →
+pub bounded_left : {S : Type 0} (knows log : S → Lines → Type 0) (count : S → ℕ) (a e : S) (p : Task) (order : List Criterion) (i : ℕ) (held : List Below)
+    (stop : Option Stop) (s : ℕ) (first d : Drawing) (cap now : Criterion → ℕ) →
     ((lines : Lines) → knows e lines → Derives lines) → ((x y : Lines) → log e x → log e y → x ≡ y) →
-    Continues knows log count a e (λ lines more. SearchState p order i held first cap lines → BoundedTo p order i held stop s d now (lines ++ more)) → LeavesSearch p order (SearchState p order i held first cap) (knows a) (log a) (log e)
+    Continues knows log count a e (λ lines more. SearchState p order i held first cap lines → BoundedTo p order i held stop s d now (lines ++ more)) →
+    LeavesSearch p order (SearchState p order i held first cap) (knows a) (log a) (log e)
 bounded_left knows log count a e p order i held stop s first d cap now derives one run = λ lines k state was told is.
-    let t : ToldBehind (knows e) (log a) (log e) (count a) (count e) lines (λ more. SearchState p order i held first cap lines → BoundedTo p order i held stop s d now (lines ++ more)) = run lines k in
+    let t : ToldBehind (knows e) (log a) (log e) (count a) (count e) lines (λ more. SearchState p order i held first cap lines → BoundedTo p order i held stop s
+    d now (lines ++ more)) = run lines k in
     let all = lines ++ t.more in
     subst (IsLeastLeft p order) (one all told (t.told lines was) is) (by stop all (derives all t.knows) (t.does state))
   where
@@ -74,24 +84,32 @@ bounded_left knows log count a e p order i held stop s first d cap now derives o
     by (Some x) lines derive b = left_whole p order (caps (greatest_of p) lines) lines derive b.told
 
 -- an error in a later call
-pub search_later : {S : Type 0} (knows log : S → Lines → Type 0) (count : S → ℕ) (a b e : S) (q p : Task) (order : List Criterion) (P : Lines → Type 0) (Q : Task → Lines → Type 0) → q ≡ p →
-    Continues knows log count a b (λ lines more. P lines → Q p (lines ++ more)) → LeavesSearch q order (Q q) (knows b) (log b) (log e) → LeavesSearch p order P (knows a) (log a) (log e)
+pub search_later : {S : Type 0} (knows log : S → Lines → Type 0) (count : S → ℕ) (a b e : S) (q p : Task) (order : List Criterion) (P : Lines → Type 0)
+    (Q : Task → Lines → Type 0) → q ≡ p →
+    Continues knows log count a b (λ lines more. P lines → Q p (lines ++ more)) → LeavesSearch q order (Q q) (knows b) (log b) (log e) →
+    LeavesSearch p order P (knows a) (log a) (log e)
 search_later knows log count a b e q p order P Q same run h = λ lines k so was told is.
     let t : ToldBehind (knows b) (log a) (log b) (count a) (count b) lines (λ more. P lines → Q p (lines ++ more)) = run lines k in
     let after : LeavesSearch p order (Q p) (knows b) (log b) (log e) = subst (λ (x : Task). LeavesSearch x order (Q x) (knows b) (log b) (log e)) same h in
     after (lines ++ t.more) t.knows (t.does so) (t.told lines was) told is
 
 -- an error in the first question
-pub first_left : (p : Task) (order : List Criterion) (cap : Criterion → ℕ) (known old new : Lines → Type 0) → ((c : Criterion) → cap c ≡ 0) → Leaves [] known old new → LeavesSearch p order (λ lines. lines ≡ first_lines p) known old new
+pub first_left : (p : Task) (order : List Criterion) (cap : Criterion → ℕ) (known old new : Lines → Type 0) → ((c : Criterion) → cap c ≡ 0) →
+    Leaves [] known old new → LeavesSearch p order (λ lines. lines ≡ first_lines p) known old new
 first_left p order cap known old new z h = λ lines k is was told tells.
-    left_over p order cap cap [] lines told (ap clause_lines is ∙ formulas_are_clauses p.encoding.clauses ∙ sym (zero_told p order cap z)) (sym (append-nil (expected_lines p.encoding order cap))) (h lines k was told tells)
+    left_over p order cap cap [] lines told (ap clause_lines is ∙ formulas_are_clauses p.encoding.clauses ∙ sym (zero_told p order cap z))
+    (sym (append-nil (expected_lines p.encoding order cap))) (h lines k was told tells)
 
 -- a first drawing was found
-pub first_goes : {S : Type 0} (knows log : S → Lines → Type 0) (count : S → ℕ) (a b : S) (p : Task) (order : List Criterion) (d : Drawing) (reply : Reply) (f : Criterion → ℕ) → ((c : Criterion) → f c ≡ 0) → reply ≡ Found d → IsRightReply p [] reply →
-    Continues knows log count a b (λ lines more. IsReply p lines [] reply more) → Continues knows log count a b (λ lines more. lines ≡ first_lines p → SearchState p order 0 [] d f (lines ++ more))
+pub first_goes : {S : Type 0} (knows log : S → Lines → Type 0) (count : S → ℕ) (a b : S) (p : Task) (order : List Criterion) (d : Drawing) (reply : Reply)
+    (f : Criterion → ℕ) → ((c : Criterion) → f c ≡ 0) → reply ≡ Found d → IsRightReply p [] reply →
+    Continues knows log count a b (λ lines more. IsReply p lines [] reply more) →
+    Continues knows log count a b (λ lines more. lines ≡ first_lines p → SearchState p order 0 [] d f (lines ++ more))
 first_goes knows log count a b p order d reply f z was fact asked =
-    becomes knows log count a b (λ lines more. IsReply p lines [] reply more) (λ lines more. lines ≡ first_lines p → SearchState p order 0 [] d f (lines ++ more)) asked
+    becomes knows log count a b (λ lines more. IsReply p lines [] reply more) (λ lines more. lines ≡ first_lines p → SearchState p order 0 [] d f
+    (lines ++ more)) asked
     (λ lines xs ka kb answer start.
     let got : IsLawful p d × AreMet (values_of d) [] = subst (IsRightReply p []) was fact in
-    let question : IsAsked (first_lines p) [] (Model ∷ []) xs = subst (λ (ls : Lines). IsAsked ls [] (Model ∷ []) xs) start (subst (λ r. IsReply p lines [] r xs) was answer) in
+    let question : IsAsked (first_lines p) [] (Model ∷ []) xs = subst (λ (ls : Lines). IsAsked ls [] (Model ∷ []) xs) start
+    (subst (λ r. IsReply p lines [] r xs) was answer) in
     subst (λ (ls : Lines). SearchState p order 0 [] d f (ls ++ xs)) (sym start) (first_state p order d f xs z got.0 question))

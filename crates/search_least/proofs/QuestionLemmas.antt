@@ -3,7 +3,8 @@ use Rattle.std.proofs.Common.{◌≡◌, List, [], ◌∷◌, ◌++◌, refl, sy
 use Rattle.std.specs.Prelude.{All, Contains, Some, None, Option, fold}
 use Rattle.std.proofs.lemmas.Grind.{fold-append}
 use Rattle.std.proofs.lemmas.List.Concat.{flat_map-cons}
-use Rattle.std.proofs.lemmas.List.Elements.{All-nil, All-cons, All-map, All-contains, Contains-append_left, Contains-append_right, Contains-append_cases, Contains-push}
+use Rattle.std.proofs.lemmas.List.Elements.{All-nil, All-cons, All-map, All-contains, Contains-append_left, Contains-append_right, Contains-append_cases}
+use Rattle.std.proofs.lemmas.List.Elements.{Contains-push}
 use Rattle.cnf_core.specs.Lit.{Literal}
 use Rattle.cnf_core.specs.Clause.{Clauses}
 use Rattle.refute_log.specs.declared.line.LogLine.{LogLine}
@@ -24,11 +25,14 @@ no_learnt : (clauses : Clauses) (clause : List Literal) → All (λ l. l ≡ Ref
 no_learnt clauses clause = All-map (λ (l : LogLine). l ≡ Refuted clause → ⊥) Learnt clauses (λ k d lt e. cc)
 
 -- a Refuted line of the question stands at its end
-pub refuted_at_end : (lines : Lines) (bounds : List Below) (ending more : Lines) (clause : List Literal) → IsAsked lines bounds ending more → Contains more (Refuted clause) → Contains ending (Refuted clause)
+pub refuted_at_end : (lines : Lines) (bounds : List Below) (ending more : Lines) (clause : List Literal) → IsAsked lines bounds ending more →
+    Contains more (Refuted clause) → Contains ending (Refuted clause)
 refuted_at_end lines bounds ending more clause asked there =
-    let h : Contains ((Query asked.query ∷ []) ++ (map Learnt asked.clauses ++ ending)) (Refuted clause) = subst (λ (ls : Lines). Contains ls (Refuted clause)) asked.is there in
+    let h : Contains ((Query asked.query ∷ []) ++ (map Learnt asked.clauses ++ ending)) (Refuted clause) = subst (λ (ls : Lines). Contains ls (Refuted clause))
+    asked.is there in
     elim (Contains-append_cases (Query asked.query ∷ []) (map Learnt asked.clauses ++ ending) (Refuted clause) h) [
-      | inl first ↦ absurd (none_in (Query asked.query ∷ []) (Refuted clause) (All-cons (λ (l : LogLine). l ≡ Refuted clause → ⊥) (Query asked.query) [] (λ e. cc) (All-nil (λ (l : LogLine). l ≡ Refuted clause → ⊥))) first)
+      | inl first ↦ absurd (none_in (Query asked.query ∷ []) (Refuted clause) (All-cons (λ (l : LogLine). l ≡ Refuted clause → ⊥) (Query asked.query) []
+          (λ e. cc) (All-nil (λ (l : LogLine). l ≡ Refuted clause → ⊥))) first)
       | inr rest ↦ elim (Contains-append_cases (map Learnt asked.clauses) ending (Refuted clause) rest) [
         | inl k ↦ absurd (none_in (map Learnt asked.clauses) (Refuted clause) (no_learnt asked.clauses clause) k)
         | inr e ↦ e
@@ -36,7 +40,8 @@ refuted_at_end lines bounds ending more clause asked there =
     ]
 
 -- no Refuted line where the end has none
-pub refuted_before : (lines : Lines) (bounds : List Below) (ending more : Lines) (clause : List Literal) → IsAsked lines bounds ending more → (Contains ending (Refuted clause) → ⊥) →
+pub refuted_before : (lines : Lines) (bounds : List Below) (ending more : Lines) (clause : List Literal) → IsAsked lines bounds ending more →
+    (Contains ending (Refuted clause) → ⊥) →
     Contains (lines ++ more) (Refuted clause) → Contains lines (Refuted clause)
 refuted_before lines bounds ending more clause asked none there = elim (Contains-append_cases lines more (Refuted clause) there) [
   | inl h ↦ h
@@ -44,17 +49,20 @@ refuted_before lines bounds ending more clause asked none there = elim (Contains
 ]
 
 pub not_model : (clause : List Literal) → Contains (Model ∷ []) (Refuted clause) → ⊥
-not_model clause there = none_in (Model ∷ []) (Refuted clause) (All-cons (λ (l : LogLine). l ≡ Refuted clause → ⊥) Model [] (λ e. cc) (All-nil (λ (l : LogLine). l ≡ Refuted clause → ⊥))) there
+not_model clause there = none_in (Model ∷ []) (Refuted clause) (All-cons (λ (l : LogLine). l ≡ Refuted clause → ⊥) Model [] (λ e. cc)
+    (All-nil (λ (l : LogLine). l ≡ Refuted clause → ⊥))) there
 
 pub not_nothing : (clause : List Literal) → Contains [] (Refuted clause) → ⊥
 not_nothing clause there = none_in [] (Refuted clause) (All-nil (λ (l : LogLine). l ≡ Refuted clause → ⊥)) there
 
 pub same_refuted : (c d : List Literal) → Contains (Refuted c ∷ []) (Refuted d) → c ≡ d
-same_refuted c d there = All-contains (λ (l : LogLine). l ≡ Refuted d → c ≡ d) (Refuted c ∷ []) (Refuted d) (All-cons (λ (l : LogLine). l ≡ Refuted d → c ≡ d) (Refuted c) [] (λ e. cc) (All-nil (λ (l : LogLine). l ≡ Refuted d → c ≡ d))) there refl
+same_refuted c d there = All-contains (λ (l : LogLine). l ≡ Refuted d → c ≡ d) (Refuted c ∷ []) (Refuted d)
+    (All-cons (λ (l : LogLine). l ≡ Refuted d → c ≡ d) (Refuted c) [] (λ e. cc) (All-nil (λ (l : LogLine). l ≡ Refuted d → c ≡ d))) there refl
 
 pub ends_in : (lines : Lines) (bounds : List Below) (line : LogLine) (more : Lines) → IsAsked lines bounds (line ∷ []) more → Contains (lines ++ more) line
 ends_in lines bounds line more asked =
-    let h : Contains ((Query asked.query ∷ []) ++ (map Learnt asked.clauses ++ line ∷ [])) line = Contains-append_right (Query asked.query ∷ []) (map Learnt asked.clauses ++ line ∷ []) line (Contains-push (map Learnt asked.clauses) line) in
+    let h : Contains ((Query asked.query ∷ []) ++ (map Learnt asked.clauses ++ line ∷ [])) line = Contains-append_right (Query asked.query ∷ [])
+    (map Learnt asked.clauses ++ line ∷ []) line (Contains-push (map Learnt asked.clauses) line) in
     Contains-append_right lines more line (subst (λ (ls : Lines). Contains ls line) (sym asked.is) h)
 
 -- ---- no clauses are told in a question
@@ -62,9 +70,11 @@ ends_in lines bounds line more asked =
 pub no_clauses_both : (xs ys : Lines) → clause_lines xs ≡ [] → clause_lines ys ≡ [] → clause_lines (xs ++ ys) ≡ []
 no_clauses_both xs ys e f = clause_lines_append xs ys ∙ ap (λ (ls : Lines). ls ++ clause_lines ys) e ∙ f
 
-pub asks_no_clauses : (lines : Lines) (bounds : List Below) (ending more : Lines) → IsAsked lines bounds ending more → clause_lines ending ≡ [] → clause_lines more ≡ []
+pub asks_no_clauses : (lines : Lines) (bounds : List Below) (ending more : Lines) → IsAsked lines bounds ending more → clause_lines ending ≡ [] →
+    clause_lines more ≡ []
 asks_no_clauses lines bounds ending more asked none =
-    ap clause_lines asked.is ∙ flat_map-cons clause_line (Query asked.query) (map Learnt asked.clauses ++ ending) ∙ no_clauses_both (map Learnt asked.clauses) ending (learnt_no_clauses asked.clauses) none
+    ap clause_lines asked.is ∙ flat_map-cons clause_line (Query asked.query) (map Learnt asked.clauses ++ ending)
+    ∙ no_clauses_both (map Learnt asked.clauses) ending (learnt_no_clauses asked.clauses) none
 
 -- ---- the latest query before the last Model line
 
@@ -77,7 +87,8 @@ pub question_queries : (lines : Lines) (query : List Literal) (cs : Clauses) (en
 question_queries lines query cs ending more is =
     let start : Queries = record { latest = None; modelled = None } in
     let next : Queries = record { latest = Some query; modelled = (queries lines).modelled } in
-    fold-append after_line start lines more ∙ ap (fold after_line (queries lines)) is ∙ fold-append after_line next (map Learnt cs) ending ∙ ap (λ (q : Queries). fold after_line q ending) (learnt_no_query next cs)
+    fold-append after_line start lines more ∙ ap (fold after_line (queries lines)) is ∙ fold-append after_line next (map Learnt cs) ending
+    ∙ ap (λ (q : Queries). fold after_line q ending) (learnt_no_query next cs)
 
 pub asked_queries : (lines : Lines) (bounds : List Below) (ending more : Lines) (a : IsAsked lines bounds ending more) →
     queries (lines ++ more) ≡ fold after_line (record { latest = Some a.query; modelled = (queries lines).modelled }) ending
@@ -92,9 +103,16 @@ negated_longer lines more (b ∷ bs) (l ∷ ls) h =
     ((n.0, Contains-append_left lines more (Bound b.criterion b.limit n.0) n.1, n.2), negated_longer lines more bs ls h.1)
 
 pub met_later : (lines more : Lines) (v : Values) → (queries (lines ++ more)).modelled ≡ (queries lines).modelled → IsMet lines v → IsMet (lines ++ more) v
-met_later lines more v e m = record { query = m.query; modelled = e ∙ m.modelled; bounds = m.bounds; negated = negated_longer lines more m.bounds m.query m.negated; met = m.met }
+met_later lines more v e m = record {
+  query = m.query;
+  modelled = e ∙ m.modelled;
+  bounds = m.bounds;
+  negated = negated_longer lines more m.bounds m.query m.negated;
+  met = m.met;
+}
 
-pub met_found : (lines : Lines) (bounds : List Below) (more : Lines) (v : Values) → IsAsked lines bounds (Model ∷ []) more → AreMet v bounds → IsMet (lines ++ more) v
+pub met_found : (lines : Lines) (bounds : List Below) (more : Lines) (v : Values) → IsAsked lines bounds (Model ∷ []) more → AreMet v bounds →
+    IsMet (lines ++ more) v
 met_found lines bounds more v asked met = record {
   query = asked.query;
   modelled = ap (λ (q : Queries). q.modelled) (asked_queries lines bounds (Model ∷ []) more asked);
@@ -103,8 +121,10 @@ met_found lines bounds more v asked met = record {
   met = met;
 }
 
-pub met_refuted : (lines : Lines) (bounds : List Below) (more : Lines) (v : Values) (clause : List Literal) → IsAsked lines bounds (Refuted clause ∷ []) more → IsMet lines v → IsMet (lines ++ more) v
-met_refuted lines bounds more v clause asked m = met_later lines more v (ap (λ (q : Queries). q.modelled) (asked_queries lines bounds (Refuted clause ∷ []) more asked)) m
+pub met_refuted : (lines : Lines) (bounds : List Below) (more : Lines) (v : Values) (clause : List Literal) → IsAsked lines bounds (Refuted clause ∷ []) more →
+    IsMet lines v → IsMet (lines ++ more) v
+met_refuted lines bounds more v clause asked m = met_later lines more v (ap (λ (q : Queries). q.modelled)
+    (asked_queries lines bounds (Refuted clause ∷ []) more asked)) m
 
 pub met_stopped : (lines : Lines) (bounds : List Below) (more : Lines) (v : Values) → IsAsked lines bounds [] more → IsMet lines v → IsMet (lines ++ more) v
 met_stopped lines bounds more v asked m = met_later lines more v (ap (λ (q : Queries). q.modelled) (asked_queries lines bounds [] more asked)) m

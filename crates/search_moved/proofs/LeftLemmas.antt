@@ -19,12 +19,14 @@ use Rattle.search_moved.specs.Told.{IsCounting, IsMovedLeft}
 use Rattle.search_moved.proofs.StartLemmas.{both_are}
 
 -- an error behind what is known that tells nothing
-pub known_left : (y : Layout) (former : Former) (budget room : ℕ) (k : Kept) (log : Lines → Type 0) → ((a b : Lines) → log a → log b → a ≡ b) → Leaves [] (KnowsMoved y former budget room k) log log
+pub known_left : (y : Layout) (former : Former) (budget room : ℕ) (k : Kept) (log : Lines → Type 0) → ((a b : Lines) → log a → log b → a ≡ b) →
+    Leaves [] (KnowsMoved y former budget room k) log log
 known_left y former budget room k log one = leaves_same (KnowsMoved y former budget room k) log (λ lines h. h.belongs.derives) one
 
 -- an error behind a question
 pub later_left : (y : Layout) (former : Former) (budget room : ℕ) (old new : Kept) (l0 l1 l2 : Lines → Type 0) (n0 n1 : ℕ) (R : Lines → Lines → Type 0) →
-    GoesOn (KnowsMoved y former budget room old) (KnowsMoved y former budget room new) l0 l1 n0 n1 R → Leaves [] (KnowsMoved y former budget room new) l1 l2 → Leaves [] (KnowsMoved y former budget room old) l0 l2
+    GoesOn (KnowsMoved y former budget room old) (KnowsMoved y former budget room new) l0 l1 n0 n1 R → Leaves [] (KnowsMoved y former budget room new) l1 l2 →
+    Leaves [] (KnowsMoved y former budget room old) l0 l2
 later_left y former budget room old new l0 l1 l2 n0 n1 R goes h =
     leaves_then (KnowsMoved y former budget room old) (KnowsMoved y former budget room new) l0 l1 l2 n0 n1 R [] [] goes
     (λ lines more ka kb r. kb.told_are ∙ sym ka.told_are ∙ sym (append-nil (clause_lines lines))) h
@@ -32,27 +34,38 @@ later_left y former budget room old new l0 l1 l2 n0 n1 R goes h =
 -- ---- the whole search
 
 -- nothing was told
-pub left_none : (y : Layout) (former : Former) (log : Lines → Type 0) → ((a b : Lines) → log a → log b → a ≡ b) → log [] → (lines : Lines) → log lines → IsMovedLeft y former lines
-left_none y former log one none lines is = subst (IsMovedLeft y former) (one [] lines none is) (record { derives = derives_none; begins = (map Formula (formula_of y former), refl) })
+pub left_none : (y : Layout) (former : Former) (log : Lines → Type 0) → ((a b : Lines) → log a → log b → a ≡ b) → log [] → (lines : Lines) → log lines →
+    IsMovedLeft y former lines
+left_none y former log one none lines is = subst (IsMovedLeft y former) (one [] lines none is) (record {
+  derives = derives_none;
+  begins = (map Formula (formula_of y former), refl);
+})
 
 -- an error in the formula's clauses
-pub left_begun : (e : Encoding) (former : Former) (room : ℕ) (a f : Cnf) (old : Kept) (l0 l1 : Lines → Type 0) → IsWhole e → e.bounds ≡ [] → a ≡ e.formula → IsCounting (layout_of e) former room f → old ≡ blank room →
+pub left_begun : (e : Encoding) (former : Former) (room : ℕ) (a f : Cnf) (old : Kept) (l0 l1 : Lines → Type 0) → IsWhole e → e.bounds ≡ [] → a ≡ e.formula →
+    IsCounting (layout_of e) former room f → old ≡ blank room →
     Leaves (map Formula (a.clauses ++ f.clauses)) (λ ls. Belongs ls old) l0 l1 → l0 [] → (lines : Lines) → l1 lines → IsMovedLeft (layout_of e) former lines
 left_begun e former room a f old l0 l1 whole none is counting blank_is h nil lines told =
     let left = h [] (new_belongs old room blank_is) nil lines told in
     record {
       derives = left.derives;
-      begins = (left.begins.0, ap (map Formula) (sym (both_are e former room a f whole none is counting)) ∙ left.begins.1 ∙ ap (λ (ls : Lines). ls ++ left.begins.0) (sym left.gives));
+      begins = (
+        left.begins.0,
+        ap (map Formula) (sym (both_are e former room a f whole none is counting)) ∙ left.begins.1
+            ∙ ap (λ (ls : Lines). ls ++ left.begins.0) (sym left.gives),
+      );
     }
 
 -- an error behind them
-pub left_later : (e : Encoding) (former : Former) (budget room : ℕ) (a f : Cnf) (old mid : Kept) (l0 l1 l2 : Lines → Type 0) (n0 n1 : ℕ) → IsWhole e → e.bounds ≡ [] → a ≡ e.formula → IsCounting (layout_of e) former room f → old ≡ blank room →
+pub left_later : (e : Encoding) (former : Former) (budget room : ℕ) (a f : Cnf) (old mid : Kept) (l0 l1 l2 : Lines → Type 0) (n0 n1 : ℕ) → IsWhole e →
+    e.bounds ≡ [] → a ≡ e.formula → IsCounting (layout_of e) former room f → old ≡ blank room →
     GoesOn (λ ls. Belongs ls old) (λ ls. Belongs ls mid) l0 l1 n0 n1 (λ lines more. more ≡ map Formula (a.clauses ++ f.clauses)) →
     KnowsMoved (layout_of e) former budget room mid (map Formula (formula_of (layout_of e) former)) →
     Leaves [] (KnowsMoved (layout_of e) former budget room mid) l1 l2 → l0 [] → (lines : Lines) → l2 lines → IsMovedLeft (layout_of e) former lines
 left_later e former budget room a f old mid l0 l1 l2 n0 n1 whole none is counting blank_is goes knows h nil lines told =
     let start : Lines = map Formula (formula_of (layout_of e) former) in
-    let run : ToldBehind (λ ls. Belongs ls mid) l0 l1 n0 n1 [] (λ more. more ≡ map Formula (a.clauses ++ f.clauses)) = goes [] (new_belongs old room blank_is) in
+    let run : ToldBehind (λ ls. Belongs ls mid) l0 l1 n0 n1 [] (λ more. more ≡ map Formula (a.clauses ++ f.clauses)) = goes []
+    (new_belongs old room blank_is) in
     let began : l1 start = subst l1 (run.does ∙ ap (map Formula) (both_are e former room a f whole none is counting)) (run.told [] nil) in
     let left = h start knows began lines told in
     let nothing : left.front ≡ [] = nothing_begins left.front left.begins.0 left.begins.1 in
@@ -60,7 +73,8 @@ left_later e former budget room a f old mid l0 l1 l2 n0 n1 whole none is countin
       derives = left.derives;
       begins = (
         [],
-        sym knows.told_are ∙ sym (append-nil (clause_lines start)) ∙ ap (λ (ls : Lines). clause_lines start ++ ls) (sym nothing) ∙ sym left.gives ∙ sym (append-nil (clause_lines lines)),
+        sym knows.told_are ∙ sym (append-nil (clause_lines start)) ∙ ap (λ (ls : Lines). clause_lines start ++ ls) (sym nothing) ∙ sym left.gives
+            ∙ sym (append-nil (clause_lines lines)),
       );
     }
   where

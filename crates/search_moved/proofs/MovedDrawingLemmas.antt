@@ -24,10 +24,12 @@ use Rattle.drawing_cnf.proofs.VariableLemmas.{moved_named}
 use Rattle.drawing_cnf.proofs.SizeLemmas.{count_words, count_vars}
 use Rattle.search_moved.specs.MovedFormula.{moved_formula, moved_size, SoundMoved, CoversMoved}
 
-stands_read : (v : Assignment) (g : Graph) (grid : GridSize) (d : Drawing) (k : ℕ) → StandsFor v g (drawing_vars g grid) d → k < length g.nodes → ReadsPoint v ((drawing_vars g grid).node k) (place d k)
+stands_read : (v : Assignment) (g : Graph) (grid : GridSize) (d : Drawing) (k : ℕ) → StandsFor v g (drawing_vars g grid) d → k < length g.nodes →
+    ReadsPoint v ((drawing_vars g grid).node k) (place d k)
 stands_read v g grid d k s lt = record { x = s.columns k lt; y = s.rows k lt }
 
-pub moved_sound : (g : Graph) (above overlap : ℕ → ℕ → Bool) (grid : GridSize) (former : Former) → IsTrackGraph g → IsGrid grid → AreTablesOf g above overlap → length former ≡ length g.nodes → SoundMoved g above overlap grid former
+pub moved_sound : (g : Graph) (above overlap : ℕ → ℕ → Bool) (grid : GridSize) (former : Former) → IsTrackGraph g → IsGrid grid → AreTablesOf g above overlap →
+    length former ≡ length g.nodes → SoundMoved g above overlap grid former
 moved_sound g above overlap grid former is size t same v h =
     let formula = formula_clauses g above overlap grid in
     let vars = formula_size g above overlap grid in
@@ -37,15 +39,21 @@ moved_sound g above overlap grid former is size t same v h =
       drawing = s.drawing;
       stands = s.stands;
       lawful = s.lawful;
-      tells = count_exact v (drawing_vars g grid).node former (place s.drawing) vars (λ k lt. stands_read v g grid s.drawing k s.stands (omega (arith, lt, same))) (satisfies_right v formula count h);
+      tells = count_exact v (drawing_vars g grid).node former (place s.drawing) vars
+          (λ k lt. stands_read v g grid s.drawing k s.stands (omega (arith, lt, same))) (satisfies_right v formula count h);
     }
 
-node_there : (g : Graph) (above overlap : ℕ → ℕ → Bool) (grid : GridSize) (k : ℕ) → IsGrid grid → laws_first g grid ≤ VARS + 1 → k < length g.nodes → NodeThere (formula_size g above overlap grid) ((drawing_vars g grid).node k)
+node_there : (g : Graph) (above overlap : ℕ → ℕ → Bool) (grid : GridSize) (k : ℕ) → IsGrid grid → laws_first g grid ≤ VARS + 1 → k < length g.nodes →
+    NodeThere (formula_size g above overlap grid) ((drawing_vars g grid).node k)
 node_there g above overlap grid k size few lt =
     let a = base_vars g grid size few in
-    node_more (base_last g grid) (formula_size g above overlap grid) ((drawing_vars g grid).node k) (omega arith) (record { x = a.node_x k lt; y = a.node_y k lt })
+    node_more (base_last g grid) (formula_size g above overlap grid) ((drawing_vars g grid).node k) (omega arith) (record {
+      x = a.node_x k lt;
+      y = a.node_y k lt;
+    })
 
-pub moved_covers : (g : Graph) (above overlap : ℕ → ℕ → Bool) (grid : GridSize) (former : Former) → IsTrackGraph g → IsGrid grid → laws_first g grid ≤ VARS + 1 → AreTablesOf g above overlap → length former ≡ length g.nodes →
+pub moved_covers : (g : Graph) (above overlap : ℕ → ℕ → Bool) (grid : GridSize) (former : Former) → IsTrackGraph g → IsGrid grid →
+    laws_first g grid ≤ VARS + 1 → AreTablesOf g above overlap → length former ≡ length g.nodes →
     CoversMoved g above overlap grid former
 moved_covers g above overlap grid former is size few t same d h =
     let laws = instances g above overlap in
@@ -62,18 +70,21 @@ moved_covers g above overlap grid former is size few t same d h =
     let read : Read e.to g x grid d = read_stays m.to e.to (base_last g grid) g x grid d a (λ y low. e.same.below y (omega arith)) r in
     record {
       to = e.to;
-      satisfies = satisfies_append e.to formula count (satisfies_before (vars + 1) (count_size former vars) vars m.to e.to formula (omega arith) (expected_there g above grid laws is size few are) e.same m.satisfies) e.holds;
+      satisfies = satisfies_append e.to formula count (satisfies_before (vars + 1) (count_size former vars) vars m.to e.to formula (omega arith)
+          (expected_there g above grid laws is size few are) e.same m.satisfies) e.holds;
       stands = reads_stand e.to g x grid d read.reads read.loose;
       tells = count_exact e.to x.node former (place d) vars (λ k lt. read.reads.points k (omega (arith, lt, same))) e.holds;
     }
 
-pub moved_is_named : (g : Graph) (above overlap : ℕ → ℕ → Bool) (grid : GridSize) (former : Former) (j : ℕ) → 1 ≤ j → j ≤ matched former → IsNamed (moved_formula g above overlap grid former) (formula_size g above overlap grid + j)
+pub moved_is_named : (g : Graph) (above overlap : ℕ → ℕ → Bool) (grid : GridSize) (former : Former) (j : ℕ) → 1 ≤ j → j ≤ matched former →
+    IsNamed (moved_formula g above overlap grid former) (formula_size g above overlap grid + j)
 moved_is_named g above overlap grid former j from to =
     let x = drawing_vars g grid in
     let vars = formula_size g above overlap grid in
     behind (formula_clauses g above overlap grid) (count_clauses x.node former vars) (vars + j) (moved_named x.node former vars j from to)
 
-pub moved_words : (g : Graph) (above overlap : ℕ → ℕ → Bool) (grid : GridSize) (former : Former) → words_of (moved_formula g above overlap grid former) ≤ words_of (formula_clauses g above overlap grid) + 200 * ((length former + 1) * (length former + 2))
+pub moved_words : (g : Graph) (above overlap : ℕ → ℕ → Bool) (grid : GridSize) (former : Former) →
+    words_of (moved_formula g above overlap grid former) ≤ words_of (formula_clauses g above overlap grid) + 200 * ((length former + 1) * (length former + 2))
 moved_words g above overlap grid former =
     let formula = formula_clauses g above overlap grid in
     let vars = formula_size g above overlap grid in
@@ -82,5 +93,6 @@ moved_words g above overlap grid former =
     let b = count_words (drawing_vars g grid).node former vars in
     omega (arith, a, b)
 
-pub moved_vars : (g : Graph) (above overlap : ℕ → ℕ → Bool) (grid : GridSize) (former : Former) → moved_size g above overlap grid former ≤ formula_size g above overlap grid + 20 * ((length former + 1) * (length former + 2))
+pub moved_vars : (g : Graph) (above overlap : ℕ → ℕ → Bool) (grid : GridSize) (former : Former) →
+    moved_size g above overlap grid former ≤ formula_size g above overlap grid + 20 * ((length former + 1) * (length former + 2))
 moved_vars g above overlap grid former = let b = count_vars former (formula_size g above overlap grid) in omega (arith, b)

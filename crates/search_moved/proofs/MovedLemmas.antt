@@ -1,5 +1,6 @@
 -- A question about moved nodes, and what its answer says of drawings.
-use Rattle.std.proofs.Common.{◌≡◌, ◌≤◌, ◌<◌, ℕ, ◌+◌, ◌-◌, ◌^◌, Bool, true, false, List, [], ◌∷◌, ◌++◌, length, map, refl, sym, ◌∙◌, ap, subst, arith, append-nil}
+use Rattle.std.proofs.Common.{◌≡◌, ◌≤◌, ◌<◌, ℕ, ◌+◌, ◌-◌, ◌^◌, Bool, true, false, List, [], ◌∷◌, ◌++◌, length, map, refl, sym, ◌∙◌, ap, subst, arith}
+use Rattle.std.proofs.Common.{append-nil}
 use Rattle.std.specs.Prelude.{All, Contains, Some, None, Option, MatchOption, ⊤, flat_map, nat_le, not}
 use Rattle.std.proofs.lemmas.Bool.{leb-false}
 use Rattle.std.proofs.lemmas.List.Elements.{All-nil, All-cons, All-head, All-weaker}
@@ -52,12 +53,14 @@ use Rattle.drawing_cnf.proofs.ApartLemmas.{flipped}
 
 -- ---- a search tells no clauses of the formula
 
-search_no_clauses : (a : Verdict) (assume : List Literal) (cs : Clauses) (ending : Lines) → EndsWith a assume ending → clause_lines (search_lines assume cs ending) ≡ []
+search_no_clauses : (a : Verdict) (assume : List Literal) (cs : Clauses) (ending : Lines) → EndsWith a assume ending →
+    clause_lines (search_lines assume cs ending) ≡ []
 search_no_clauses a assume cs ending e = no_clauses_both (map Learnt cs) ending (learnt_no_clauses cs) (clause_ending a assume ending e)
 
 -- ---- the query
 
-pub query_is : (y : Layout) (former : Former) (budget room last : ℕ) (limit : Option ℕ) → last ≡ formula_size y.graph (is_above y.order) (is_overlap y.order) y.grid → query_at last limit ≡ query_of (moved_task y former budget room) limit
+pub query_is : (y : Layout) (former : Former) (budget room last : ℕ) (limit : Option ℕ) →
+    last ≡ formula_size y.graph (is_above y.order) (is_overlap y.order) y.grid → query_at last limit ≡ query_of (moved_task y former budget room) limit
 query_is y former budget room last None e = refl
 query_is y former budget room last (Some n) e = ap (λ k. negative_of (k + n) ∷ []) e
 
@@ -65,12 +68,14 @@ pub distinct : (p : CountTask) (limit : Option ℕ) → AreDistinct (query_of p 
 distinct p None = tt
 distinct p (Some n) = (tt, tt)
 
-pub named : (y : Layout) (former : Former) (budget room : ℕ) (ds : Clauses) (limit : Option ℕ) → IsMovedFormula y former → AreAmong (formula_of y former) ds → MatchOption limit ⊤ (λ n. (1 ≤ n) × (n ≤ matched former)) →
+pub named : (y : Layout) (former : Former) (budget room : ℕ) (ds : Clauses) (limit : Option ℕ) → IsMovedFormula y former → AreAmong (formula_of y former) ds →
+    MatchOption limit ⊤ (λ n. (1 ≤ n) × (n ≤ matched former)) →
     All (λ l. IsNamed ds l.var) (query_of (moved_task y former budget room) limit)
 named y former budget room ds None facts among h = All-nil (λ (l : Literal). IsNamed ds l.var)
 named y former budget room ds (Some n) facts among h =
     let v = moved_variable y.graph (is_above y.order) (is_overlap y.order) y.grid n in
-    All-cons (λ (l : Literal). IsNamed ds l.var) (negate (positive_of v)) [] (named_in (formula_of y former) ds v among (facts.named n h.0 h.1)) (All-nil (λ (l : Literal). IsNamed ds l.var))
+    All-cons (λ (l : Literal). IsNamed ds l.var) (negate (positive_of v)) [] (named_in (formula_of y former) ds v among (facts.named n h.0 h.1))
+    (All-nil (λ (l : Literal). IsNamed ds l.var))
 
 is_positive : (b : Bool) → not b ≡ false → b ≡ true
 is_positive true e = refl
@@ -82,7 +87,8 @@ turned l x e =
     let p : l.positive ≡ true = is_positive l.positive (sym (ap (λ (z : Literal). z.positive) e)) in
     ap (λ n. literal n l.positive) v ∙ ap (literal x) p
 
-pub says_reached : (y : Layout) (former : Former) (budget room : ℕ) (limit : Option ℕ) (clause : List Literal) → All (λ l. Contains (query_of (moved_task y former budget room) limit) (negate l)) clause → All (SaysReached (moved_task y former budget room) limit) clause
+pub says_reached : (y : Layout) (former : Former) (budget room : ℕ) (limit : Option ℕ) (clause : List Literal) →
+    All (λ l. Contains (query_of (moved_task y former budget room) limit) (negate l)) clause → All (SaysReached (moved_task y former budget room) limit) clause
 says_reached y former budget room None clause h =
     All-weaker (λ l. Contains [] (negate l)) (SaysReached (moved_task y former budget room) None) (λ l there. absurd (let lt = there.1 in omega arith)) clause h
 says_reached y former budget room (Some n) clause h =
@@ -95,10 +101,12 @@ says_reached y former budget room (Some n) clause h =
 true_positive : (v : Assignment) (x : ℕ) → truth v (positive_of x) ≡ v x
 true_positive v x = refl
 
-pub lines_cover : (y : Layout) (former : Former) (budget room : ℕ) (lines : Lines) → IsMovedFormula y former → clause_lines lines ≡ map Formula (formula_of y former) → CoversCounts (moved_task y former budget room) lines
+pub lines_cover : (y : Layout) (former : Former) (budget room : ℕ) (lines : Lines) → IsMovedFormula y former →
+    clause_lines lines ≡ map Formula (formula_of y former) → CoversCounts (moved_task y former budget room) lines
 lines_cover y former budget room lines facts are = λ d h.
     let m = facts.covers d h in
-    let same : formula_of y former ≡ flat_map given lines = sym (sym (given_of_clauses lines) ∙ ap (flat_map given) are ∙ given_formulas (formula_of y former)) in
+    let same : formula_of y former ≡ flat_map given lines = sym (sym (given_of_clauses lines) ∙ ap (flat_map given) are
+    ∙ given_formulas (formula_of y former)) in
     record {
       assignment = m.to;
       formula = subst (SatisfiesAll m.to) same m.satisfies;
@@ -107,7 +115,8 @@ lines_cover y former budget room lines facts are = λ d h.
           (true_positive m.to (moved_variable y.graph (is_above y.order) (is_overlap y.order) y.grid j) ∙ m.tells j from to);
     }
 
-pub ready_after : (e : Encoding) (former : Former) (budget room : ℕ) (old new : Kept) (a : Verdict) (cs : Clauses) → budget < 2 ^ 32 → IsReady e former budget room old → HasLearnt old new cs → HasSpent a (budget - old.learnt) (length cs) →
+pub ready_after : (e : Encoding) (former : Former) (budget room : ℕ) (old new : Kept) (a : Verdict) (cs : Clauses) → budget < 2 ^ 32 →
+    IsReady e former budget room old → HasLearnt old new cs → HasSpent a (budget - old.learnt) (length cs) →
     AreGiven (formula_of (layout_of e) former) new.clauses → IsReady e former budget room new
 ready_after e former budget room old new a cs top ready h has given =
     let n = within_spent a (budget - old.learnt) (length cs) has in
@@ -126,8 +135,10 @@ ready_after e former budget room old new a cs top ready h has given =
 
 answered : (y : Layout) (former : Former) (budget room : ℕ) (old new : Kept) (limit : Option ℕ) (a : Verdict) (cs : Clauses) (lines ending : Lines) →
     KnowsMoved y former budget room old lines → old.learnt ≤ budget → new.room ≡ room → (given : Clauses) →
-    Belongs (lines ++ search_lines (query_of (moved_task y former budget room) limit) cs ending) new → EndsWith a (query_of (moved_task y former budget room) limit) ending → HasSpent a (budget - old.learnt) (length cs) →
-    IsTrueAnswer a given (query_of (moved_task y former budget room) limit) new → TellsAnswer (moved_task y former budget room) lines limit a (search_lines (query_of (moved_task y former budget room) limit) cs ending)
+    Belongs (lines ++ search_lines (query_of (moved_task y former budget room) limit) cs ending) new →
+    EndsWith a (query_of (moved_task y former budget room) limit) ending → HasSpent a (budget - old.learnt) (length cs) →
+    IsTrueAnswer a given (query_of (moved_task y former budget room) limit) new →
+    TellsAnswer (moved_task y former budget room) lines limit a (search_lines (query_of (moved_task y former budget room) limit) cs ending)
 answered y former budget room old new limit Model cs lines ending k spent is_room given belongs ends has true_answer =
     record { clauses = cs; is = ap (search_lines (query_of (moved_task y former budget room) limit) cs) ends }
 answered y former budget room old new limit RefutedVerdict cs lines ending k spent is_room given belongs ends has true_answer = (
@@ -140,7 +151,8 @@ answered y former budget room old new limit Spent cs lines ending k spent is_roo
     let same : search_lines q cs ending ≡ search_lines q cs [] = ap (search_lines q cs) ends in
     let belongs_so : Belongs (lines ++ search_lines q cs []) new = subst (λ (ls : Lines). Belongs (lines ++ ls) new) same belongs in
     let count : length (flat_map learnt (lines ++ search_lines q cs ending)) ≡ budget =
-    count_of_search Spent q cs lines ending ends ∙ (let c = k.learnt_are in let e : length cs ≡ budget - old.learnt = has in let f : length (flat_map learnt lines) + length cs ≡ budget = omega arith in f) in (
+    count_of_search Spent q cs lines ending ends ∙ (let c = k.learnt_are in let e : length cs ≡ budget - old.learnt = has in let f : length
+    (flat_map learnt lines) + length cs ≡ budget = omega arith in f) in (
       record { clauses = cs; is = same },
       (count, subst (λ (ls : Lines). Open (lines ++ ls)) (sym same) (is_open q cs lines new belongs_so true_answer)),
     )
@@ -150,10 +162,12 @@ answered y former budget room old new limit Room cs lines ending k spent is_room
       subst (NextClausePasses (lines ++ search_lines q cs ending)) is_room (has_no_room (lines ++ search_lines q cs ending) new belongs true_answer),
     )
 
-pub search_goes : (e : Encoding) (former : Former) (budget room : ℕ) (old new : Kept) (limit : Option ℕ) (a : Verdict) (before now : Lines → Type 0) (n m : ℕ) → budget < 2 ^ 32 → IsReady e former budget room old →
+pub search_goes : (e : Encoding) (former : Former) (budget room : ℕ) (old new : Kept) (limit : Option ℕ) (a : Verdict) (before now : Lines → Type 0) (n m : ℕ) →
+    budget < 2 ^ 32 → IsReady e former budget room old →
     HasSolved before now (query_of (moved_task (layout_of e) former budget room) limit) old new a (budget - old.learnt) n m →
     IsTrueAnswer a (formula_of (layout_of e) former) (query_of (moved_task (layout_of e) former budget room) limit) new → new.words ≤ room →
-    GoesOn (KnowsMoved (layout_of e) former budget room old) (KnowsMoved (layout_of e) former budget room new) before now n m (λ lines more. TellsAnswer (moved_task (layout_of e) former budget room) lines limit a more)
+    GoesOn (KnowsMoved (layout_of e) former budget room old) (KnowsMoved (layout_of e) former budget room new) before now n m
+    (λ lines more. TellsAnswer (moved_task (layout_of e) former budget room) lines limit a more)
 search_goes e former budget room old new limit a before now n m top ready s true_answer fits = λ lines k.
     let y = layout_of e in
     let q = query_of (moved_task y former budget room) limit in
@@ -162,7 +176,8 @@ search_goes e former budget room old new limit a before now n m top ready s true
     let few = within_spent a (budget - old.learnt) (length s.learnt) s.spent in
     let count = count_after old.learnt new.learnt (length s.learnt) budget ready.spent few top (s.kept).learnt in
     let are : clause_lines (lines ++ more) ≡ map Formula (formula_of y former) =
-    clause_lines_append lines more ∙ ap (λ (ls : Lines). clause_lines lines ++ ls) (search_no_clauses a q s.learnt s.ending s.ends) ∙ append-nil (clause_lines lines) ∙ k.told_are in
+    clause_lines_append lines more ∙ ap (λ (ls : Lines). clause_lines lines ++ ls) (search_no_clauses a q s.learnt s.ending s.ends)
+    ∙ append-nil (clause_lines lines) ∙ k.told_are in
     record {
       more = more;
       knows = record {
@@ -175,36 +190,48 @@ search_goes e former budget room old new limit a before now n m top ready s true
       };
       told = s.told;
       counted = s.counted ∙ ap (λ c. rose_by c n) (sym (ap length (learnt_of_search a q s.learnt s.ending s.ends)));
-      does = answered y former budget room old new limit a s.learnt lines s.ending k ready.spent ((s.kept).room ∙ ready.room_is) (formula_of y former) belongs s.ends s.spent true_answer;
+      does = answered y former budget room old new limit a s.learnt lines s.ending k ready.spent ((s.kept).room ∙ ready.room_is) (formula_of y former) belongs
+          s.ends s.spent true_answer;
     }
 
 -- ---- the formula alone
 
 pub formula_is : (e : Encoding) (former : Former) (budget room : ℕ) (k : Kept) → IsReady e former budget room k → e.formula.clauses ≡ drawing_clauses e
 formula_is e former budget room k ready =
-    (ready.whole).clauses ∙ ap (λ (bs : List Bound). drawing_clauses e ++ bounds_clauses e.graph (encoded_vars e) e.grid bs) ready.bounds ∙ append-nil (drawing_clauses e)
+    (ready.whole).clauses ∙ ap (λ (bs : List Bound). drawing_clauses e ++ bounds_clauses e.graph (encoded_vars e) e.grid bs) ready.bounds
+    ∙ append-nil (drawing_clauses e)
 
-pub last_is : (e : Encoding) (former : Former) (budget room : ℕ) (k : Kept) → IsReady e former budget room k → e.formula.vars ≡ formula_size e.graph (is_above e.order) (is_overlap e.order) e.grid
+pub last_is : (e : Encoding) (former : Former) (budget room : ℕ) (k : Kept) → IsReady e former budget room k →
+    e.formula.vars ≡ formula_size e.graph (is_above e.order) (is_overlap e.order) e.grid
 last_is e former budget room k ready = (ready.whole).vars ∙ ap (bounds_last e.graph (encoded_vars e) e.grid (drawing_last e)) ready.bounds
 
-pub few_variables : (e : Encoding) (former : Former) (budget room last : ℕ) (k : Kept) (limit : Option ℕ) → IsReady e former budget room k → last ≡ e.formula.vars → k.vars ≤ VARS → MatchOption limit ⊤ (λ n. (1 ≤ n) × (n ≤ matched former)) →
+pub few_variables : (e : Encoding) (former : Former) (budget room last : ℕ) (k : Kept) (limit : Option ℕ) → IsReady e former budget room k →
+    last ≡ e.formula.vars → k.vars ≤ VARS → MatchOption limit ⊤ (λ n. (1 ≤ n) × (n ≤ matched former)) →
     MatchOption limit ⊤ (λ n. (1 ≤ n) × (last + n ≤ VARS))
 few_variables e former budget room last k None ready is few h = tt
-few_variables e former budget room last k (Some n) ready is few h = (h.0, let size = last_is e former budget room k ready in let vars = ready.vars in let to = h.1 in omega (arith, is, size, vars, few, to))
+few_variables e former budget room last k (Some n) ready is few h = (
+  h.0,
+  let size = last_is e former budget room k ready in let vars = ready.vars in let
+      to = h.1 in omega (arith, is, size, vars, few, to),
+)
 
-pub drawing_model : (e : Encoding) (former : Former) (budget room : ℕ) (k : Kept) (v : Assignment) → IsReady e former budget room k → SatisfiesAll v (formula_of (layout_of e) former) → SatisfiesAll v e.formula.clauses
+pub drawing_model : (e : Encoding) (former : Former) (budget room : ℕ) (k : Kept) (v : Assignment) → IsReady e former budget room k →
+    SatisfiesAll v (formula_of (layout_of e) former) → SatisfiesAll v e.formula.clauses
 drawing_model e former budget room k v ready h =
     subst (SatisfiesAll v) (sym (formula_is e former budget room k ready))
-    (satisfies_left v (drawing_clauses e) (count_clauses (drawing_vars e.graph e.grid).node former (formula_size e.graph (is_above e.order) (is_overlap e.order) e.grid)) h)
+    (satisfies_left v (drawing_clauses e) (count_clauses (drawing_vars e.graph e.grid).node former
+    (formula_size e.graph (is_above e.order) (is_overlap e.order) e.grid)) h)
 
 pub long_enough : (e : Encoding) (former : Former) (budget room : ℕ) (k : Kept) (n : ℕ) → IsReady e former budget room k → n ≡ k.vars → e.formula.vars ≤ n
 long_enough e former budget room k n ready is = let last = last_is e former budget room k ready in let vars = ready.vars in omega (arith, last, vars, is)
 
 -- ---- the drawing that is found
 
-pub is_below : (y : Layout) (former : Former) (budget room : ℕ) (limit : Option ℕ) (v : Assignment) (d : Drawing) → IsMovedFormula y former → MatchOption limit ⊤ (λ n. (1 ≤ n) × (n ≤ matched former)) → SatisfiesAll v (formula_of y former) →
+pub is_below : (y : Layout) (former : Former) (budget room : ℕ) (limit : Option ℕ) (v : Assignment) (d : Drawing) → IsMovedFormula y former →
+    MatchOption limit ⊤ (λ n. (1 ≤ n) × (n ≤ matched former)) → SatisfiesAll v (formula_of y former) →
     MakesTrue v (query_of (moved_task y former budget room) limit) →
-    ((other : Drawing) → Lawful y.graph (is_above y.order) y.grid other → StandsFor v y.graph (drawing_vars y.graph y.grid) other → other ≡ d) → IsBelow limit (moved_nodes former d)
+    ((other : Drawing) → Lawful y.graph (is_above y.order) y.grid other → StandsFor v y.graph (drawing_vars y.graph y.grid) other → other ≡ d) →
+    IsBelow limit (moved_nodes former d)
 is_below y former budget room None v d facts h all true_all alone = tt
 is_below y former budget room (Some n) v d facts h all true_all alone =
     let s = facts.sound v all in
@@ -215,17 +242,21 @@ is_below y former budget room (Some n) v d facts h all true_all alone =
     let reads : v x ≡ nat_le n (moved_nodes former d) = s.tells n h.0 h.1 ∙ ap (λ (z : Drawing). nat_le n (moved_nodes former z)) same in
     leb-false n (moved_nodes former d) (sym reads ∙ is_false)
 
-pub model_below : (e : Encoding) (former : Former) (budget room : ℕ) (k : Kept) (limit : Option ℕ) (assume : List Literal) (m : List Bool) (d : Drawing) → IsReady e former budget room k → MatchOption limit ⊤ (λ n. (1 ≤ n) × (n ≤ matched former)) →
+pub model_below : (e : Encoding) (former : Former) (budget room : ℕ) (k : Kept) (limit : Option ℕ) (assume : List Literal) (m : List Bool) (d : Drawing) →
+    IsReady e former budget room k → MatchOption limit ⊤ (λ n. (1 ≤ n) × (n ≤ matched former)) →
     assume ≡ query_of (moved_task (layout_of e) former budget room) limit → HasModel (formula_of (layout_of e) former) assume k → k.model ≡ Some m →
-    ((other : Drawing) → Lawful e.graph (is_above e.order) e.grid other → StandsFor (assignment m) e.graph (encoded_vars e) other → other ≡ d) → IsBelow limit (moved_nodes former d)
+    ((other : Drawing) → Lawful e.graph (is_above e.order) e.grid other → StandsFor (assignment m) e.graph (encoded_vars e) other → other ≡ d) →
+    IsBelow limit (moved_nodes former d)
 model_below e former budget room k limit assume m d ready h is model k_model alone =
     let same : model.values ≡ m = (let e : Some (model.values) ≡ Some m = sym model.model ∙ k_model in cc) in
-    is_below (layout_of e) former budget room limit (assignment m) d ready.facts h (subst (λ (x : List Bool). SatisfiesAll (assignment x) (formula_of (layout_of e) former)) same model.clauses)
+    is_below (layout_of e) former budget room limit (assignment m) d ready.facts h
+    (subst (λ (x : List Bool). SatisfiesAll (assignment x) (formula_of (layout_of e) former)) same model.clauses)
     (subst (MakesTrue (assignment m)) is (subst (λ (x : List Bool). MakesTrue (assignment x) assume) same model.assumptions)) alone
 
 -- ---- the answer
 
-pub answer_lines : (p : CountTask) (lines : Lines) (limit : Option ℕ) (a : Verdict) (r : Answer) (more : Lines) → IsAnswerOf a r → TellsAnswer p lines limit a more → IsAnswer p lines limit r more
+pub answer_lines : (p : CountTask) (lines : Lines) (limit : Option ℕ) (a : Verdict) (r : Answer) (more : Lines) → IsAnswerOf a r →
+    TellsAnswer p lines limit a more → IsAnswer p lines limit r more
 answer_lines p lines limit Model (Found d) more is h = h
 answer_lines p lines limit Model Refuted more is h = absurd is
 answer_lines p lines limit Model (Stopped stop) more is h = absurd is

@@ -9,7 +9,7 @@ ghost use Rattle.drawing_cnf.specs.Expected.{formula_clauses, formula_size};
 ghost use Rattle.drawing_cnf.specs.Moved.{Former, matched};
 ghost use Rattle.search_moved.specs.MovedFormula.{moved_formula, moved_size, moved_variable, SoundMoved, CoversMoved};
 
-/// Each assignment that satisfies the clauses stands for a lawful drawing and tells how many nodes moved, and each
+/// Each assignment that satisfies the clauses means a lawful drawing and says how many nodes moved, and each
 /// lawful drawing has such an assignment.
 pub fn moved_formula_stands_for_drawings()
     ensures sound { (g : Graph) (o : EdgeOrder) (grid : GridSize) (former : Former) →

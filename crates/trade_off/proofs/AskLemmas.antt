@@ -33,67 +33,88 @@ less_or_more i j = grind arith
 
 -- ---- no drawing meets what was refuted
 
-excluded : (p : Task) (lines more : Lines) (bounds : List Below) (clause : List Literal) → CoversDrawings p.graph p.above p.grid (lines ++ more) → Derives (lines ++ more) →
+excluded : (p : Task) (lines more : Lines) (bounds : List Below) (clause : List Literal) → CoversDrawings p.graph p.above p.grid (lines ++ more) →
+    Derives (lines ++ more) →
     AreAgainst (greatest_of p) lines bounds clause → Contains (lines ++ more) (RefutedLine clause) → NoneMeets p bounds
 excluded p lines more bounds clause covers derives against there = λ d lawful met.
     let m : MeetsLog (lines ++ more) (values_of d) = covers d lawful in
     let some = some_from_satisfies m.assignment clause (refuted_holds m.assignment (lines ++ more) derives m.formula clause there) in
     let any : Any (λ b. SaysAtLeast (greatest_of p) lines b.criterion b.limit some.1) bounds =
     All-contains (λ l. Any (λ b. SaysAtLeast (greatest_of p) lines b.criterion b.limit l) bounds) clause some.1 against (some.0, some.2, some.3) in
-    let k = reached (greatest_of p) (lines ++ more) (values_of d) m (any.1).criterion (any.1).limit some.1 (says_more (greatest_of p) lines more (any.1).criterion (any.1).limit some.1 any.4) some.4 in
+    let k = reached (greatest_of p) (lines ++ more) (values_of d) m (any.1).criterion (any.1).limit some.1
+    (says_more (greatest_of p) lines more (any.1).criterion (any.1).limit some.1 any.4) some.4 in
     let lt = All-contains (λ (b : Below). value_of (values_of d) b.criterion < b.limit) bounds any.1 met (any.0, any.2, any.3) in
     omega (arith, k, lt)
 
-pub refuted_none : {S : Type 0} (knows log : S → Lines → Type 0) (count : S → ℕ) (a e : S) (q p : Task) (bounds : List Below) (reply : Reply) → q ≡ p → reply ≡ Refuted → KnowsSome knows a → Laws knows e q →
+pub refuted_none : {S : Type 0} (knows log : S → Lines → Type 0) (count : S → ℕ) (a e : S) (q p : Task) (bounds : List Below) (reply : Reply) → q ≡ p →
+    reply ≡ Refuted → KnowsSome knows a → Laws knows e q →
     Continues knows log count a e (λ lines more. IsReply q lines bounds reply more) → NoneMeets p bounds
 refuted_none knows log count a e q p bounds reply same was known laws asked =
     let lines = known.0 in
     let t : ToldBehind (knows e) (log a) (log e) (count a) (count e) lines (λ more. IsReply q lines bounds reply more) = asked lines known.1 in
     let got : IsReply q lines bounds Refuted t.more = subst (λ (r : Reply). IsReply q lines bounds r t.more) was t.does in
     subst (λ (x : Task). NoneMeets x bounds) same
-    (excluded q lines t.more bounds got.0 (laws.covers (lines ++ t.more) t.knows) (laws.derives (lines ++ t.more) t.knows) got.1 (ends_in lines bounds (RefutedLine got.0) t.more got.2))
+    (excluded q lines t.more bounds got.0 (laws.covers (lines ++ t.more) t.knows) (laws.derives (lines ++ t.more) t.knows) got.1
+    (ends_in lines bounds (RefutedLine got.0) t.more got.2))
 
 pub laws_back : {S : Type 0} (knows : S → Lines → Type 0) (s : S) (q p : Task) → q ≡ p → Laws knows s q → Laws knows s p
 laws_back knows s q p same laws = subst (λ (x : Task). Laws knows s x) same laws
 
 -- ---- the least value
 
-pub least_from : (p : Task) (held bounds : List Below) (c : Criterion) (u : ℕ) (d : Drawing) → bounds ≡ held ++ below_limit c u ∷ [] → u ≡ value_of (values_of d) c → NoneMeets p bounds → IsLeastUnder p held c d
+pub least_from : (p : Task) (held bounds : List Below) (c : Criterion) (u : ℕ) (d : Drawing) → bounds ≡ held ++ below_limit c u ∷ [] →
+    u ≡ value_of (values_of d) c → NoneMeets p bounds → IsLeastUnder p held c d
 least_from p held bounds c u d is value none = λ e lawful met. by e lawful met (less_or_more u (value_of (values_of e) c))
   where
-    by : (e : Drawing) → IsLawful p e → AreMet (values_of e) held → (u ≤ value_of (values_of e) c) ⊎ (value_of (values_of e) c < u) → value_of (values_of d) c ≤ value_of (values_of e) c
+    by : (e : Drawing) → IsLawful p e → AreMet (values_of e) held → (u ≤ value_of (values_of e) c) ⊎ (value_of (values_of e) c < u) →
+        value_of (values_of d) c ≤ value_of (values_of e) c
     by e lawful met (inl le) = omega (arith, value, le)
-    by e lawful met (inr lt) = absurd (none e lawful (subst (AreMet (values_of e)) (sym is) (All-push (λ (b : Below). value_of (values_of e) b.criterion < b.limit) held (below_limit c u) met lt)))
+    by e lawful met (inr lt) = absurd (none e lawful (subst (AreMet (values_of e)) (sym is)
+        (All-push (λ (b : Below). value_of (values_of e) b.criterion < b.limit) held (below_limit c u) met lt)))
 
 pub least_zero : (p : Task) (held : List Below) (c : Criterion) (u : ℕ) (d : Drawing) → u ≡ value_of (values_of d) c → u ≡ 0 → IsLeastUnder p held c d
 least_zero p held c u d value zero = λ e lawful met. omega (arith, value, zero)
 
-pub found_meets : (q p : Task) (held bounds : List Below) (c : Criterion) (u : ℕ) (d : Drawing) (reply : Reply) → bounds ≡ held ++ below_limit c u ∷ [] → reply ≡ Found d → IsRightReply q bounds reply → AreMet (values_of d) held
+pub found_meets : (q p : Task) (held bounds : List Below) (c : Criterion) (u : ℕ) (d : Drawing) (reply : Reply) → bounds ≡ held ++ below_limit c u ∷ [] →
+    reply ≡ Found d → IsRightReply q bounds reply → AreMet (values_of d) held
 found_meets q p held bounds c u d reply is was fact =
     let got : IsLawful q d × AreMet (values_of d) bounds = subst (IsRightReply q bounds) was fact in
     All-weaker (Contains held) (λ (b : Below). value_of (values_of d) b.criterion < b.limit)
-    (λ b there. All-contains (λ (b : Below). value_of (values_of d) b.criterion < b.limit) (held ++ below_limit c u ∷ []) b (subst (AreMet (values_of d)) is got.1) (Contains-append_left held (below_limit c u ∷ []) b there))
+    (λ b there. All-contains (λ (b : Below). value_of (values_of d) b.criterion < b.limit) (held ++ below_limit c u ∷ []) b
+    (subst (AreMet (values_of d)) is got.1) (Contains-append_left held (below_limit c u ∷ []) b there))
     held (All-contains_itself held)
 
 -- ---- the bounds of a question are of different criteria
 
 pub once_with : (held bounds : List Below) (c : Criterion) (u : ℕ) → bounds ≡ held ++ below_limit c u ∷ [] → AreBeside c held → AreOnce bounds
-once_with held bounds c u is h = subst AreOnce (sym is) (all_pairs_push (λ (x y : Below). x.criterion ≢ y.criterion) held (below_limit c u) h.once (λ k d lt. h.other k d lt))
+once_with held bounds c u is h = subst AreOnce (sym is) (all_pairs_push (λ (x y : Below). x.criterion ≢ y.criterion) held (below_limit c u) h.once
+    (λ k d lt. h.other k d lt))
 
 -- ---- what a run of questions tells
 
 pub asked_none : {S : Type 0} (knows log : S → Lines → Type 0) (count : S → ℕ) (s : S) (p : Task) → Continues knows log count s s (AreAsked p None)
-asked_none knows log count s p = stays knows log count s (AreAsked p None) (λ lines k. record { none = refl; placed = subst (AreUnderBounds p) (sym (append-nil lines)); cause = tt })
+asked_none knows log count s p = stays knows log count s (AreAsked p None) (λ lines k. record {
+  none = refl;
+  placed = subst (AreUnderBounds p) (sym (append-nil lines));
+  cause = tt;
+})
 
-asked_both : (p : Task) (stop : Option Stop) (lines xs ys : Lines) → AreAsked p None lines xs → AreAsked p stop (lines ++ xs) ys → AreAsked p stop lines (xs ++ ys)
+asked_both : (p : Task) (stop : Option Stop) (lines xs ys : Lines) → AreAsked p None lines xs → AreAsked p stop (lines ++ xs) ys →
+    AreAsked p stop lines (xs ++ ys)
 asked_both p stop lines xs ys f g =
     let same : (lines ++ xs) ++ ys ≡ lines ++ (xs ++ ys) = append_assoc lines xs ys in
-    record { none = no_clauses_both xs ys f.none g.none; placed = λ h. subst (AreUnderBounds p) same (g.placed (f.placed h)); cause = subst (λ (ls : Lines). MatchOption stop ⊤ (λ s. IsCause p.budget p.room s ls)) same g.cause }
+    record {
+      none = no_clauses_both xs ys f.none g.none;
+      placed = λ h. subst (AreUnderBounds p) same (g.placed (f.placed h));
+      cause = subst
+          (λ (ls : Lines). MatchOption stop ⊤ (λ s. IsCause p.budget p.room s ls)) same g.cause;
+    }
 
 pub asked_then : {S : Type 0} (knows log : S → Lines → Type 0) (count : S → ℕ) (a b e : S) (q p : Task) (stop : Option Stop) → q ≡ p →
     Continues knows log count a b (AreAsked p None) → Continues knows log count b e (AreAsked q stop) → Continues knows log count a e (AreAsked p stop)
 asked_then knows log count a b e q p stop same f g =
-    goes_on knows log count a b e (AreAsked p None) (AreAsked p stop) (AreAsked p stop) f (subst (λ (x : Task). Continues knows log count b e (AreAsked x stop)) same g)
+    goes_on knows log count a b e (AreAsked p None) (AreAsked p stop) (AreAsked p stop) f
+    (subst (λ (x : Task). Continues knows log count b e (AreAsked x stop)) same g)
     (λ lines xs ys ka kb ke h k. asked_both p stop lines xs ys h k)
 
 -- ---- one question
@@ -108,7 +129,8 @@ reply_stop (Found d) = None
 reply_stop Refuted = None
 reply_stop (Stopped stop) = Some stop
 
-reply_cause : (p : Task) (lines : Lines) (bounds : List Below) (reply : Reply) (more : Lines) → IsReply p lines bounds reply more → MatchOption (reply_stop reply) ⊤ (λ s. IsCause p.budget p.room s (lines ++ more))
+reply_cause : (p : Task) (lines : Lines) (bounds : List Below) (reply : Reply) (more : Lines) → IsReply p lines bounds reply more →
+    MatchOption (reply_stop reply) ⊤ (λ s. IsCause p.budget p.room s (lines ++ more))
 reply_cause p lines bounds (Found d) more h = tt
 reply_cause p lines bounds Refuted more h = tt
 reply_cause p lines bounds (Stopped stop) more h = h.1
@@ -119,21 +141,33 @@ pub record IsOneAsked (q p : Task) (bounds : List Below) (reply : Reply) : Type 
   pub once : AreOnce bounds
   pub right : IsRightReply q bounds reply
 
-asks : {S : Type 0} (knows log : S → Lines → Type 0) (count : S → ℕ) (a e : S) (q p : Task) (bounds : List Below) (reply : Reply) → IsOneAsked q p bounds reply →
+asks : {S : Type 0} (knows log : S → Lines → Type 0) (count : S → ℕ) (a e : S) (q p : Task) (bounds : List Below) (reply : Reply) →
+    IsOneAsked q p bounds reply →
     Continues knows log count a e (λ lines more. IsReply q lines bounds reply more) → Continues knows log count a e (AreAsked p (reply_stop reply))
 asks knows log count a e q p bounds reply one asked =
     subst (λ (x : Task). Continues knows log count a e (AreAsked x (reply_stop reply))) one.same
     (becomes knows log count a e (λ lines more. IsReply q lines bounds reply more) (AreAsked q (reply_stop reply)) asked
-    (λ lines xs ka ke h. record { none = reply_clauses q lines bounds reply xs h; placed = asked_under_bounds q lines bounds reply xs one.once one.right h; cause = reply_cause q lines bounds reply xs h }))
+    (λ lines xs ka ke h. record {
+      none = reply_clauses q lines bounds reply xs h;
+      placed = asked_under_bounds q lines bounds reply xs one.once one.right h;
+      cause = reply_cause q lines
+          bounds reply xs h;
+    }))
 
-pub asks_found : {S : Type 0} (knows log : S → Lines → Type 0) (count : S → ℕ) (a e : S) (q p : Task) (bounds : List Below) (reply : Reply) (d : Drawing) → IsOneAsked q p bounds reply → reply ≡ Found d →
+pub asks_found : {S : Type 0} (knows log : S → Lines → Type 0) (count : S → ℕ) (a e : S) (q p : Task) (bounds : List Below) (reply : Reply) (d : Drawing) →
+    IsOneAsked q p bounds reply → reply ≡ Found d →
     Continues knows log count a e (λ lines more. IsReply q lines bounds reply more) → Continues knows log count a e (AreAsked p None)
-asks_found knows log count a e q p bounds reply d one was asked = subst (λ (r : Reply). Continues knows log count a e (AreAsked p (reply_stop r))) was (asks knows log count a e q p bounds reply one asked)
+asks_found knows log count a e q p bounds reply d one was asked = subst (λ (r : Reply). Continues knows log count a e (AreAsked p (reply_stop r))) was
+    (asks knows log count a e q p bounds reply one asked)
 
-pub asks_refuted : {S : Type 0} (knows log : S → Lines → Type 0) (count : S → ℕ) (a e : S) (q p : Task) (bounds : List Below) (reply : Reply) → IsOneAsked q p bounds reply → reply ≡ Refuted →
+pub asks_refuted : {S : Type 0} (knows log : S → Lines → Type 0) (count : S → ℕ) (a e : S) (q p : Task) (bounds : List Below) (reply : Reply) →
+    IsOneAsked q p bounds reply → reply ≡ Refuted →
     Continues knows log count a e (λ lines more. IsReply q lines bounds reply more) → Continues knows log count a e (AreAsked p None)
-asks_refuted knows log count a e q p bounds reply one was asked = subst (λ (r : Reply). Continues knows log count a e (AreAsked p (reply_stop r))) was (asks knows log count a e q p bounds reply one asked)
+asks_refuted knows log count a e q p bounds reply one was asked = subst (λ (r : Reply). Continues knows log count a e (AreAsked p (reply_stop r))) was
+    (asks knows log count a e q p bounds reply one asked)
 
-pub asks_stopped : {S : Type 0} (knows log : S → Lines → Type 0) (count : S → ℕ) (a e : S) (q p : Task) (bounds : List Below) (reply : Reply) (stop : Stop) → IsOneAsked q p bounds reply → reply ≡ Stopped stop →
+pub asks_stopped : {S : Type 0} (knows log : S → Lines → Type 0) (count : S → ℕ) (a e : S) (q p : Task) (bounds : List Below) (reply : Reply) (stop : Stop) →
+    IsOneAsked q p bounds reply → reply ≡ Stopped stop →
     Continues knows log count a e (λ lines more. IsReply q lines bounds reply more) → Continues knows log count a e (AreAsked p (Some stop))
-asks_stopped knows log count a e q p bounds reply stop one was asked = subst (λ (r : Reply). Continues knows log count a e (AreAsked p (reply_stop r))) was (asks knows log count a e q p bounds reply one asked)
+asks_stopped knows log count a e q p bounds reply stop one was asked = subst (λ (r : Reply). Continues knows log count a e (AreAsked p (reply_stop r))) was
+    (asks knows log count a e q p bounds reply one asked)

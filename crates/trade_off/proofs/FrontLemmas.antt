@@ -17,7 +17,8 @@ use Rattle.trade_off.specs.Outcome.{IsRightFront, stopped_by, stop_behind}
 use Rattle.trade_off.proofs.AskLemmas.{less_or_more}
 
 -- of the pairs below a limit, the least first number with its least second one is on the front
-next_on_front : (L : Drawing → Type 0) (a b : Criterion) (limit : Option ℕ) (n m : ℕ) → ((l : ℕ) → l ≤ m → IsUnder limit l) → IsNextPair L a b limit n m → IsOnFront L a b n m
+next_on_front : (L : Drawing → Type 0) (a b : Criterion) (limit : Option ℕ) (n m : ℕ) → ((l : ℕ) → l ≤ m → IsUnder limit l) → IsNextPair L a b limit n m →
+    IsOnFront L a b n m
 next_on_front L a b limit n m lower x = record {
   attained = x.attained;
   no_other = λ k l at le under.
@@ -59,11 +60,13 @@ first_so_far L a b n m x = record {
         by (inl le) h g lt = absurd (let e = g le in omega (arith, e, lt))
         by (inr more) h g lt = more
 
-pub next_so_far : (L : Drawing → Type 0) (a b : Criterion) (limit : ℕ) (pairs : Pairs) (n m : ℕ) → IsSoFar L a b limit pairs → IsNextPair L a b (Some limit) n m → IsSoFar L a b m (pairs ++ (n, m) ∷ [])
+pub next_so_far : (L : Drawing → Type 0) (a b : Criterion) (limit : ℕ) (pairs : Pairs) (n m : ℕ) → IsSoFar L a b limit pairs →
+    IsNextPair L a b (Some limit) n m → IsSoFar L a b m (pairs ++ (n, m) ∷ [])
 next_so_far L a b limit pairs n m s x = record {
   listed = record {
     rising = all_pairs_push (λ x y. x.0 < y.0) pairs (n, m) (s.listed).rising (λ k d lt. s.behind n m x.attained x.below k d lt);
-    each = All-push (λ x. IsOnFront L a b x.0 x.1) pairs (n, m) (s.listed).each (next_on_front L a b (Some limit) n m (λ l le. let h : m < limit = x.below in let g : l < limit = omega (arith, h, le) in g) x);
+    each = All-push (λ x. IsOnFront L a b x.0 x.1) pairs (n, m) (s.listed).each (next_on_front L a b (Some limit) n m
+        (λ l le. let h : m < limit = x.below in let g : l < limit = omega (arith, h, le) in g) x);
   };
   behind = λ k l at lt.
       let under : l < limit = (let h : m < limit = x.below in omega (arith, h, lt)) in
@@ -127,11 +130,14 @@ stopped_right : (L : Drawing → Type 0) (a b : Criterion) (pairs : Pairs) (stop
 stopped_right L a b pairs BudgetSpent h = h
 stopped_right L a b pairs RoomFull h = h
 
-pub right_stopped : (L : Drawing → Type 0) (a b : Criterion) (limit : ℕ) (pairs : Pairs) (stop : Stop) (ending : FrontEnd) → ending ≡ stopped_by stop → IsSoFar L a b limit pairs → IsRightFront L a b pairs ending
+pub right_stopped : (L : Drawing → Type 0) (a b : Criterion) (limit : ℕ) (pairs : Pairs) (stop : Stop) (ending : FrontEnd) → ending ≡ stopped_by stop →
+    IsSoFar L a b limit pairs → IsRightFront L a b pairs ending
 right_stopped L a b limit pairs stop ending is s = subst (IsRightFront L a b pairs) (sym is) (stopped_right L a b pairs stop (up_to L a b limit pairs s))
 
-pub right_stopped_first : (L : Drawing → Type 0) (a b : Criterion) (pairs : Pairs) (stop : Stop) (ending : FrontEnd) → ending ≡ stopped_by stop → pairs ≡ [] → IsRightFront L a b pairs ending
-right_stopped_first L a b pairs stop ending is none = subst (IsRightFront L a b pairs) (sym is) (stopped_right L a b pairs stop (subst (IsFrontUpTo L a b) (sym none) (up_to_none L a b)))
+pub right_stopped_first : (L : Drawing → Type 0) (a b : Criterion) (pairs : Pairs) (stop : Stop) (ending : FrontEnd) → ending ≡ stopped_by stop → pairs ≡ [] →
+    IsRightFront L a b pairs ending
+right_stopped_first L a b pairs stop ending is none = subst (IsRightFront L a b pairs) (sym is)
+    (stopped_right L a b pairs stop (subst (IsFrontUpTo L a b) (sym none) (up_to_none L a b)))
 
 pub stopped_behind : (stop : Stop) (ending : FrontEnd) → ending ≡ stopped_by stop → stop_behind ending ≡ Some stop
 stopped_behind stop ending is = ap stop_behind is ∙ by stop
@@ -140,11 +146,21 @@ stopped_behind stop ending is = ap stop_behind is ∙ by stop
     by BudgetSpent = refl
     by RoomFull = refl
 
-pub right_whole : (L : Drawing → Type 0) (a b : Criterion) (limit : ℕ) (pairs : Pairs) → IsSoFar L a b limit pairs → ((k l : ℕ) → IsAttained L a b k l → l < limit → ⊥) → IsRightFront L a b pairs Whole
+pub right_whole : (L : Drawing → Type 0) (a b : Criterion) (limit : ℕ) (pairs : Pairs) → IsSoFar L a b limit pairs →
+    ((k l : ℕ) → IsAttained L a b k l → l < limit → ⊥) → IsRightFront L a b pairs Whole
 right_whole L a b limit pairs s none = (s.some, whole_from L a b limit pairs s none)
 
-pub right_empty : (L : Drawing → Type 0) (a b : Criterion) (pairs : Pairs) → ((k l : ℕ) → IsAttained L a b k l → IsUnder None l → ⊥) → pairs ≡ [] → IsRightFront L a b pairs Empty
-right_empty L a b pairs none is = (λ d one. none (value_of (values_of d) a) (value_of (values_of d) b) (record { drawing = d; is_one = one; first = refl; second = refl }) tt, is)
+pub right_empty : (L : Drawing → Type 0) (a b : Criterion) (pairs : Pairs) → ((k l : ℕ) → IsAttained L a b k l → IsUnder None l → ⊥) → pairs ≡ [] →
+    IsRightFront L a b pairs Empty
+right_empty L a b pairs none is = (
+  λ d one. none (value_of (values_of d) a) (value_of (values_of d) b) (record {
+    drawing = d;
+    is_one = one;
+    first = refl;
+    second = refl;
+  }) tt,
+  is,
+)
 
 -- the answer of a search for the next pair, by its kind
 pub next_is : (L : Drawing → Type 0) (a b : Criterion) (limit : Option ℕ) (r s : Next) → r ≡ s → IsNext L a b limit r → IsNext L a b limit s

@@ -29,17 +29,20 @@ pub asked_later : {S : Type 0} (knows log : S → Lines → Type 0) (count : S �
 asked_later knows log count a b e p stop run after = leaves_later knows log count a b e (AreAsked p stop) [] [] run (λ lines more h. h.none) after
 
 pub asked_here : {S : Type 0} (knows log : S → Lines → Type 0) (count : S → ℕ) (a b : S) (p : Task) (stop : Option Stop) →
-    Continues knows log count a b (AreAsked p stop) → ((lines : Lines) → knows b lines → Derives lines) → ((x y : Lines) → log b x → log b y → x ≡ y) → Leaves [] (knows a) (log a) (log b)
+    Continues knows log count a b (AreAsked p stop) → ((lines : Lines) → knows b lines → Derives lines) → ((x y : Lines) → log b x → log b y → x ≡ y) →
+    Leaves [] (knows a) (log a) (log b)
 asked_here knows log count a b p stop run derives one = leaves_here knows log count a b (AreAsked p stop) run (λ lines more h. h.none) derives one
 
 pub replied_later : {S : Type 0} (knows log : S → Lines → Type 0) (count : S → ℕ) (a b e : S) (p : Task) (bounds : List Below) (reply : Reply) →
     Continues knows log count a b (λ lines more. IsReply p lines bounds reply more) → Leaves [] (knows b) (log b) (log e) → Leaves [] (knows a) (log a) (log e)
 replied_later knows log count a b e p bounds reply run after =
-    leaves_later knows log count a b e (λ lines more. IsReply p lines bounds reply more) [] [] run (λ lines more h. reply_clauses p lines bounds reply more h) after
+    leaves_later knows log count a b e (λ lines more. IsReply p lines bounds reply more) [] [] run (λ lines more h. reply_clauses p lines bounds reply more h)
+    after
 
 -- ---- the bounds of both criteria
 
-pub both_left : {S : Type 0} (knows log : S → Lines → Type 0) (count : S → ℕ) (s t e : S) (q p : Task) (a b : Criterion) (vars many : ℕ) (first : Built) → q ≡ p → first ≡ AllOfThem →
+pub both_left : {S : Type 0} (knows log : S → Lines → Type 0) (count : S → ℕ) (s t e : S) (q p : Task) (a b : Criterion) (vars many : ℕ) (first : Built) →
+    q ≡ p → first ≡ AllOfThem →
     many ≡ vars + sum_vars_of p.encoding vars a (greatest_of p a) →
     Continues knows log count s t (λ lines more. IsBuild p vars a (greatest_of p a) first lines more) →
     Leaves (sum_lines q.encoding many b (greatest_of q b)) (knows t) (log t) (log e) →
@@ -52,12 +55,15 @@ both_left knows log count s t e q p a b vars many first same was size f h =
     (subst (λ (x : Task). Leaves (sum_lines x.encoding many b (greatest_of x b)) (knows t) (log t) (log e)) same h) in
     subst (λ (zs : Lines). Leaves (xs ++ zs) (knows s) (log s) (log e)) (sym (append-nil ys))
     (leaves_later knows log count s t e (λ lines more. IsBuild p vars a (greatest_of p a) first lines more) xs ys f
-    (λ lines more r. ap clause_lines (subst (λ (x : Built). IsBuild p vars a (greatest_of p a) x lines more) was r) ∙ sum_is_clauses p.encoding vars a (greatest_of p a)) second)
+    (λ lines more r. ap clause_lines (subst (λ (x : Built). IsBuild p vars a (greatest_of p a) x lines more) was r)
+    ∙ sum_is_clauses p.encoding vars a (greatest_of p a)) second)
 
 -- ---- the whole search
 
-pub build_left : {S : Type 0} (knows log : S → Lines → Type 0) (s e : S) (p : Task) (a b : Criterion) (vars : ℕ) → vars ≡ p.encoding.vars → knows s (first_lines p) →
-    Leaves (sums p.encoding vars (a ∷ b ∷ []) (greatest_of p)) (knows s) (log s) (log e) → log s (first_lines p) → (lines : Lines) → log e lines → IsFrontLeft p a b lines
+pub build_left : {S : Type 0} (knows log : S → Lines → Type 0) (s e : S) (p : Task) (a b : Criterion) (vars : ℕ) → vars ≡ p.encoding.vars →
+    knows s (first_lines p) →
+    Leaves (sums p.encoding vars (a ∷ b ∷ []) (greatest_of p)) (knows s) (log s) (log e) → log s (first_lines p) → (lines : Lines) → log e lines →
+    IsFrontLeft p a b lines
 build_left knows log s e p a b vars start known h = λ told lines is.
     let left = h (first_lines p) known told lines is in
     let rest = left.begins.0 in
@@ -72,11 +78,13 @@ build_left knows log s e p a b vars start known h = λ told lines is.
       );
     }
 
-pub collect_left : {S : Type 0} (knows log : S → Lines → Type 0) (count : S → ℕ) (s t e : S) (p : Task) (a b : Criterion) (r : Built) → r ≡ AllOfThem → knows s (first_lines p) →
+pub collect_left : {S : Type 0} (knows log : S → Lines → Type 0) (count : S → ℕ) (s t e : S) (p : Task) (a b : Criterion) (r : Built) → r ≡ AllOfThem →
+    knows s (first_lines p) →
     Continues knows log count s t (λ lines more. lines ≡ first_lines p → IsBuiltFront p a b r (lines ++ more)) →
     Leaves [] (knows t) (log t) (log e) → log s (first_lines p) → (lines : Lines) → log e lines → IsFrontLeft p a b lines
 collect_left knows log count s t e p a b r was known run h = λ told lines is.
-    let first : ToldBehind (knows t) (log s) (log t) (count s) (count t) (first_lines p) (λ more. first_lines p ≡ first_lines p → IsBuiltFront p a b r (first_lines p ++ more)) = run (first_lines p) known in
+    let first : ToldBehind (knows t) (log s) (log t) (count s) (count t) (first_lines p)
+    (λ more. first_lines p ≡ first_lines p → IsBuiltFront p a b r (first_lines p ++ more)) = run (first_lines p) known in
     let now = first_lines p ++ first.more in
     let built : IsBuiltFront p a b AllOfThem now = subst (λ (x : Built). IsBuiltFront p a b x now) was (first.does refl) in
     let whole : clause_lines now ≡ front_lines p a b = built.1 in

@@ -55,7 +55,8 @@ hold_beside c d u most held is apart = subst (AreBeside c) (sym is) (by (nat_lt 
     by true = beside_one c d (u + 1) apart
     by false = beside_none c
 
-pub under_within : (caps : Criterion → ℕ) (c : Criterion) (most : ℕ) (limit : Option ℕ) (held : List Below) → held ≡ under c limit → caps c ≡ most → MatchOption limit ⊤ (λ k. (1 ≤ k) × (k ≤ most)) → All (IsWithinCap caps) held
+pub under_within : (caps : Criterion → ℕ) (c : Criterion) (most : ℕ) (limit : Option ℕ) (held : List Below) → held ≡ under c limit → caps c ≡ most →
+    MatchOption limit ⊤ (λ k. (1 ≤ k) × (k ≤ most)) → All (IsWithinCap caps) held
 under_within caps c most limit held is cap h = subst (All (IsWithinCap caps)) (sym is) (by limit h)
   where
     by : (limit : Option ℕ) → MatchOption limit ⊤ (λ k. (1 ≤ k) × (k ≤ most)) → All (IsWithinCap caps) (under c limit)
@@ -66,7 +67,8 @@ pub hold_within : (caps : Criterion → ℕ) (c : Criterion) (u most : ℕ) (hel
 hold_within caps c u most held is cap = subst (All (IsWithinCap caps)) (sym is) (by (nat_lt u most) refl)
   where
     by : (t : Bool) → nat_lt u most ≡ t → All (IsWithinCap caps) (cond t (below_limit c (u + 1) ∷ []) [])
-    by true e = All-cons (IsWithinCap caps) (below_limit c (u + 1)) [] (omega arith, (let lt = ltb-true u most e in omega (arith, lt, cap))) (All-nil (IsWithinCap caps))
+    by true e = All-cons (IsWithinCap caps) (below_limit c (u + 1)) [] (omega arith, (let lt = ltb-true u most e in omega (arith, lt, cap)))
+        (All-nil (IsWithinCap caps))
     by false e = All-nil (IsWithinCap caps)
 
 pub under_once : (c : Criterion) (limit : Option ℕ) (held : List Below) → held ≡ under c limit → AreOnce held
@@ -76,18 +78,21 @@ under_once c limit held is = subst AreOnce (sym is) (by limit)
     by None = λ i j d lt low. absurd (omega arith)
     by (Some k) = λ i j d lt low. absurd (omega (arith, lt, low))
 
-pub found_fact : (p : Task) (bounds : List Below) (d : Drawing) (reply : Reply) → reply ≡ Found d → IsRightReply p bounds reply → IsLawful p d × AreMet (values_of d) bounds
+pub found_fact : (p : Task) (bounds : List Below) (d : Drawing) (reply : Reply) → reply ≡ Found d → IsRightReply p bounds reply →
+    IsLawful p d × AreMet (values_of d) bounds
 found_fact p bounds d reply was fact = subst (IsRightReply p bounds) was fact
 
 -- a drawing of no greater value meets it, and a lawful one that meets it has no greater value
-pub hold_meets : (c : Criterion) (u most : ℕ) (held : List Below) (d : Drawing) → held ≡ hold c u most → value_of (values_of d) c ≤ u → AreMet (values_of d) held
+pub hold_meets : (c : Criterion) (u most : ℕ) (held : List Below) (d : Drawing) → held ≡ hold c u most → value_of (values_of d) c ≤ u →
+    AreMet (values_of d) held
 hold_meets c u most held d is le = subst (AreMet (values_of d)) (sym is) (by (nat_lt u most))
   where
     by : (t : Bool) → AreMet (values_of d) (cond t (below_limit c (u + 1) ∷ []) [])
     by true = All-cons (P d) (below_limit c (u + 1)) [] (let h : value_of (values_of d) c < u + 1 = omega (arith, le) in h) (All-nil (P d))
     by false = All-nil (P d)
 
-pub meets_hold : (p : Task) (c : Criterion) (u : ℕ) (held : List Below) (d : Drawing) → IsLawful p d → held ≡ hold c u (greatest_of p c) → AreMet (values_of d) held → value_of (values_of d) c ≤ u
+pub meets_hold : (p : Task) (c : Criterion) (u : ℕ) (held : List Below) (d : Drawing) → IsLawful p d → held ≡ hold c u (greatest_of p c) →
+    AreMet (values_of d) held → value_of (values_of d) c ≤ u
 meets_hold p c u held d lawful is met = by (nat_lt u (greatest_of p c)) refl (subst (AreMet (values_of d)) is met)
   where
     by : (t : Bool) → nat_lt u (greatest_of p c) ≡ t → AreMet (values_of d) (cond t (below_limit c (u + 1) ∷ []) []) → value_of (values_of d) c ≤ u
@@ -99,7 +104,8 @@ meets_hold p c u held d lawful is met = by (nat_lt u (greatest_of p c)) refl (su
 
 -- ---- the next pair
 
-pub second_there : (p : Task) (a b : Criterion) (n m : ℕ) (held : List Below) (least d : Drawing) → n ≡ value_of (values_of least) a → m ≡ value_of (values_of d) b → held ≡ hold a n (greatest_of p a) →
+pub second_there : (p : Task) (a b : Criterion) (n m : ℕ) (held : List Below) (least d : Drawing) → n ≡ value_of (values_of least) a →
+    m ≡ value_of (values_of d) b → held ≡ hold a n (greatest_of p a) →
     IsLawful p d → AreMet (values_of d) held → value_of (values_of d) b ≤ value_of (values_of least) b → IsLeastUnder p held b d → IsSecond p a b least n m
 second_there p a b n m held least d first second is lawful met le h = record {
   drawing = d;
@@ -108,14 +114,16 @@ second_there p a b n m held least d first second is lawful met le h = record {
   first = meets_hold p a n held d lawful is met;
   second = sym second;
   no_more = omega (arith, second, le);
-  least = λ e other under. let k : value_of (values_of d) b ≤ value_of (values_of e) b = h e other (hold_meets a n (greatest_of p a) held e is under) in omega (arith, second, k);
+  least = λ e other under. let k : value_of (values_of d) b ≤ value_of (values_of e) b = h e other (hold_meets a n (greatest_of p a) held e is under) in omega
+      (arith, second, k);
 }
 
 under_less : (limit : Option ℕ) (i j : ℕ) → j ≤ i → IsUnder limit i → IsUnder limit j
 under_less None i j le h = tt
 under_less (Some limit) i j le h = omega (arith, le, h)
 
-pub next_from : (p : Task) (a b : Criterion) (limit : Option ℕ) (held : List Below) (d : Drawing) (next : Next) → held ≡ under b limit → IsLawful p d → AreMet (values_of d) held → IsLeastUnder p held a d →
+pub next_from : (p : Task) (a b : Criterion) (limit : Option ℕ) (held : List Below) (d : Drawing) (next : Next) → held ≡ under b limit → IsLawful p d →
+    AreMet (values_of d) held → IsLeastUnder p held a d →
     IsSecondOf p a b d next → IsNext (IsLawful p) a b limit next
 next_from p a b limit held d (Stopped stop) is lawful met least h = tt
 next_from p a b limit held d NoMore is lawful met least h = absurd h
@@ -124,7 +132,8 @@ next_from p a b limit held d (Pair n m) is lawful met least s =
     let e = s.drawing in
     let below : IsUnder limit m = under_less limit (value_of (values_of d) b) m s.no_more low in
     let least_there : (x : Drawing) → IsLawful p x → IsUnder limit (value_of (values_of x) b) → n ≤ value_of (values_of x) a =
-    (λ x other under_it. let k : value_of (values_of d) a ≤ value_of (values_of x) a = least x other (subst (AreMet (values_of x)) (sym is) (under_meets b limit x under_it)) in let f = s.first_is in omega (arith, f, k)) in
+    (λ x other under_it. let k : value_of (values_of d) a ≤ value_of (values_of x) a = least x other
+    (subst (AreMet (values_of x)) (sym is) (under_meets b limit x under_it)) in let f = s.first_is in omega (arith, f, k)) in
     record {
       attained = record {
         drawing = e;
@@ -137,8 +146,10 @@ next_from p a b limit held d (Pair n m) is lawful met least s =
       least_second = λ k l at le. subst (λ j. m ≤ j) at.second (s.least at.drawing at.is_one (let f = at.first in omega (arith, f, le)));
     }
 
-pub none_from : (p : Task) (a b : Criterion) (limit : Option ℕ) (bounds : List Below) → bounds ≡ under b limit → NoneMeets p bounds → IsNext (IsLawful p) a b limit NoMore
-none_from p a b limit bounds is none = λ k l at low. none at.drawing at.is_one (subst (AreMet (values_of at.drawing)) (sym is) (under_meets b limit at.drawing (subst (IsUnder limit) (sym at.second) low)))
+pub none_from : (p : Task) (a b : Criterion) (limit : Option ℕ) (bounds : List Below) → bounds ≡ under b limit → NoneMeets p bounds →
+    IsNext (IsLawful p) a b limit NoMore
+none_from p a b limit bounds is none = λ k l at low. none at.drawing at.is_one (subst (AreMet (values_of at.drawing)) (sym is)
+    (under_meets b limit at.drawing (subst (IsUnder limit) (sym at.second) low)))
 
 -- the second number of an attained pair isn't above the greatest value
 pub attained_within : (p : Task) (a b : Criterion) (n m : ℕ) → IsAttained (IsLawful p) a b n m → m ≤ greatest_of p b

@@ -16,8 +16,10 @@ returns-clause-lines g c =
     let k = c.args.known.now in
     let l = g.L.LogSink in
     let y = layout_with k in
-    goes_weaker (KnowsWhy (task_of y k.budget k.room) c.args.solver.now) (KnowsWhy (task_of y k.budget k.room) c.query.new.solver) (l.tells c.args.log.now) (l.tells c.query.new.log) (l.learnt c.args.log.now) (l.learnt c.query.new.log)
-    (λ lines more. TellsAnswer (task_of y k.budget k.room) c.in_ok-answer.answer (lines ++ more)) (λ lines more. TellsReply (task_of y k.budget k.room) c.in_ok-reply.reply (lines ++ more)) c.in_ok-answer.ensures.lines
+    goes_weaker (KnowsWhy (task_of y k.budget k.room) c.args.solver.now) (KnowsWhy (task_of y k.budget k.room) c.query.new.solver) (l.tells c.args.log.now)
+    (l.tells c.query.new.log) (l.learnt c.args.log.now) (l.learnt c.query.new.log)
+    (λ lines more. TellsAnswer (task_of y k.budget k.room) c.in_ok-answer.answer (lines ++ more))
+    (λ lines more. TellsReply (task_of y k.budget k.room) c.in_ok-reply.reply (lines ++ more)) c.in_ok-answer.ensures.lines
     (λ lines more. reply_tells y k.budget k.room c.in_ok-answer.answer c.in_ok-reply.reply (lines ++ more) c.in_ok-reply.ensures.of)
 
 pub returns-in_err-assume-clause-leaves : goal.returns-in_err-assume-clause-leaves
@@ -34,7 +36,8 @@ returns-in_err-reply-clause-leaves g c =
     let k = g.L.LogSink in
     let x = c.args.known.now in
     let y = layout_with x in
-    on_err_anyway _ _ (later_left y x.budget x.room c.args.solver.now c.query.new.solver (k.tells c.args.log.now) (k.tells c.query.new.log) (k.tells c.query.new.log) (k.learnt c.args.log.now) (k.learnt c.query.new.log)
+    on_err_anyway _ _ (later_left y x.budget x.room c.args.solver.now c.query.new.solver (k.tells c.args.log.now) (k.tells c.query.new.log)
+    (k.tells c.query.new.log) (k.learnt c.args.log.now) (k.learnt c.query.new.log)
     (λ lines more. TellsAnswer (task_of y x.budget x.room) c.in_ok-answer.answer (lines ++ more)) c.in_ok-answer.ensures.lines
     (known_left y x.budget x.room c.query.new.solver (k.tells c.query.new.log) (g.met.L.LogSink.one_reading c.query.new.log)))
 
@@ -43,8 +46,10 @@ assumptions-requires g c =
     let k = c.args.known.now in
     let y = layout_with k in
     record {
-      there = subst (λ (xs : List ℕ). All (λ n. n < length xs) c.args.wanted.now) (sym c.deref.ensures.value) (wanted_there y k.selecting.items c.args.wanted.now k.budget k.room c.requires.ready.selecting_are c.requires.places);
-      variables = subst (All (λ x. (1 ≤ x) × (x ≤ VARS))) (sym c.deref.ensures.value) (selecting_within y k.selecting.items k.budget k.room c.args.solver.now c.requires.ready);
+      there = subst (λ (xs : List ℕ). All (λ n. n < length xs) c.args.wanted.now) (sym c.deref.ensures.value)
+          (wanted_there y k.selecting.items c.args.wanted.now k.budget k.room c.requires.ready.selecting_are c.requires.places);
+      variables = subst (All (λ x. (1 ≤ x) × (x ≤ VARS))) (sym c.deref.ensures.value)
+          (selecting_within y k.selecting.items k.budget k.room c.args.solver.now c.requires.ready);
     }
 
 pub query-requires-clause-assumed : goal.query-requires-clause-assumed

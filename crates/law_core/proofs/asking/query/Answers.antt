@@ -14,12 +14,14 @@ use Rattle.law_core.proofs.asking.query.Goals as goal
 
 pub solve-requires-clause-distinct : goal.solve-requires-clause-distinct
 solve-requires-clause-distinct g c = let k = c.args.known.now in
-    subst AreDistinct (sym c.requires.assumed) (distinct (layout_with k) k.selecting.items c.args.wanted.now k.budget k.room c.requires.ready.selecting_are c.requires.places)
+    subst AreDistinct (sym c.requires.assumed) (distinct (layout_with k) k.selecting.items c.args.wanted.now k.budget k.room c.requires.ready.selecting_are
+    c.requires.places)
 
 pub solve-requires-clause-named : goal.solve-requires-clause-named
 solve-requires-clause-named g c = let k = c.args.known.now in
     subst (λ (ls : List Literal). All (λ l. IsNamed c.args.solver.now.clauses l.var) ls) (sym c.requires.assumed)
-    (named (layout_with k) k.selecting.items c.args.wanted.now k.budget k.room c.args.solver.now.clauses c.requires.ready.selecting_are c.requires.ready.given.kept c.requires.places)
+    (named (layout_with k) k.selecting.items c.args.wanted.now k.budget k.room c.args.solver.now.clauses c.requires.ready.selecting_are
+    c.requires.ready.given.kept c.requires.places)
 
 pub returns-in-Ok-clause-answer : goal.returns-in-Ok-clause-answer
 returns-in-Ok-clause-answer g c = c.in-Ok.ensures.answer (formula_of (layout_with c.args.known.now)) c.requires.ready.given
@@ -33,7 +35,8 @@ returns-in-Ok-clause-ready g c =
     let y = layout_with k in
     let s = c.in-Ok.ensures.searched in
     ready_after y k.selecting.items k.budget k.room c.args.solver.now c.solve.new.self c.in-Ok.answer s.learnt (omega arith) c.requires.ready s.kept
-    (subst (λ n. HasSpent c.in-Ok.answer (k.budget - n) (length s.learnt)) c.learnt.ensures s.spent) (c.in-Ok.ensures.given (formula_of y) c.requires.ready.given)
+    (subst (λ n. HasSpent c.in-Ok.answer (k.budget - n) (length s.learnt)) c.learnt.ensures s.spent)
+    (c.in-Ok.ensures.given (formula_of y) c.requires.ready.given)
 
 pub returns-in-Ok-clause-lines : goal.returns-in-Ok-clause-lines
 returns-in-Ok-clause-lines g c =
@@ -42,24 +45,36 @@ returns-in-Ok-clause-lines g c =
     let l = g.L.LogSink in
     let old = c.args.solver.now in
     let new = c.solve.new.self in
-    let s = subst (λ n. HasSolved (l.tells c.args.log.now) (l.tells c.solve.new.log) c.args.assume.now old new c.in-Ok.answer (k.budget - n) (l.learnt c.args.log.now) (l.learnt c.solve.new.log))
+    let s = subst (λ n. HasSolved (l.tells c.args.log.now) (l.tells c.solve.new.log) c.args.assume.now old new c.in-Ok.answer (k.budget - n)
+    (l.learnt c.args.log.now) (l.learnt c.solve.new.log))
     c.learnt.ensures c.in-Ok.ensures.searched in
     let limit = c.words.ensures.limit s.kept.failed in
     let same = s.kept.room in
     let is = c.requires.ready.room_is in
-    search_goes y k.selecting.items k.budget k.room old new c.in-Ok.answer c.args.assume.now (l.tells c.args.log.now) (l.tells c.solve.new.log) (l.learnt c.args.log.now) (l.learnt c.solve.new.log)
-    (omega arith) c.requires.ready (c.args.wanted.now, c.requires.places, c.requires.assumed ∙ ap (λ (xs : List ℕ). query_of xs c.args.wanted.now) c.requires.ready.selecting_are) s (c.in-Ok.ensures.answer (formula_of y) c.requires.ready.given) (omega (arith, limit, same, is))
+    search_goes y k.selecting.items k.budget k.room old new c.in-Ok.answer c.args.assume.now (l.tells c.args.log.now) (l.tells c.solve.new.log)
+    (l.learnt c.args.log.now) (l.learnt c.solve.new.log)
+    (omega arith) c.requires.ready (
+      c.args.wanted.now,
+      c.requires.places,
+      c.requires.assumed
+          ∙ ap (λ (xs : List ℕ). query_of xs c.args.wanted.now) c.requires.ready.selecting_are,
+    ) s (c.in-Ok.ensures.answer (formula_of y) c.requires.ready.given)
+    (omega (arith, limit, same, is))
 
 pub returns-in-Err-Log-clause-leaves : goal.returns-in-Err-Log-clause-leaves
 returns-in-Err-Log-clause-leaves g c =
     let k = g.L.LogSink in
     let x = c.args.known.now in
-    leaves_known [] (KnowsWhy (task_of (layout_with x) x.budget x.room) c.args.solver.now) (λ ls. Belongs ls c.args.solver.now) (k.tells c.args.log.now) (k.tells c.solve.new.log) (λ lines b. b.belongs)
-    (search_left (λ ls. Belongs ls c.args.solver.now) (k.tells c.args.log.now) (k.tells c.solve.new.log) c.in-Err-Log.ensures.derives c.in-Err-Log.ensures.gives)
+    leaves_known [] (KnowsWhy (task_of (layout_with x) x.budget x.room) c.args.solver.now) (λ ls. Belongs ls c.args.solver.now) (k.tells c.args.log.now)
+    (k.tells c.solve.new.log) (λ lines b. b.belongs)
+    (search_left (λ ls. Belongs ls c.args.solver.now) (k.tells c.args.log.now) (k.tells c.solve.new.log) c.in-Err-Log.ensures.derives
+    c.in-Err-Log.ensures.gives)
 
 pub returns-in-Err-Memory-clause-leaves : goal.returns-in-Err-Memory-clause-leaves
 returns-in-Err-Memory-clause-leaves g c =
     let k = g.L.LogSink in
     let x = c.args.known.now in
-    leaves_known [] (KnowsWhy (task_of (layout_with x) x.budget x.room) c.args.solver.now) (λ ls. Belongs ls c.args.solver.now) (k.tells c.args.log.now) (k.tells c.solve.new.log) (λ lines b. b.belongs)
-    (search_left (λ ls. Belongs ls c.args.solver.now) (k.tells c.args.log.now) (k.tells c.solve.new.log) c.in-Err-Memory.ensures.derives c.in-Err-Memory.ensures.gives)
+    leaves_known [] (KnowsWhy (task_of (layout_with x) x.budget x.room) c.args.solver.now) (λ ls. Belongs ls c.args.solver.now) (k.tells c.args.log.now)
+    (k.tells c.solve.new.log) (λ lines b. b.belongs)
+    (search_left (λ ls. Belongs ls c.args.solver.now) (k.tells c.args.log.now) (k.tells c.solve.new.log) c.in-Err-Memory.ensures.derives
+    c.in-Err-Memory.ensures.gives)

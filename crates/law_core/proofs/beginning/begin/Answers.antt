@@ -11,4 +11,5 @@ pub add_clauses-requires-clause-fits : goal.add_clauses-requires-clause-fits
 add_clauses-requires-clause-fits g c = blank_fits c.args.solver.now c.args.formula.now.room c.args.formula.now.clauses c.requires.new c.requires.fits
 
 pub returns-in-Ok-clause-taken : goal.returns-in-Ok-clause-taken
-returns-in-Ok-clause-taken g c = blank_taken c.args.solver.now c.add_clauses.new.solver c.args.formula.now.room c.args.formula.now.vars c.args.formula.now.clauses c.requires.new c.in-Ok.ensures.taken
+returns-in-Ok-clause-taken g c = blank_taken c.args.solver.now c.add_clauses.new.solver c.args.formula.now.room c.args.formula.now.vars
+    c.args.formula.now.clauses c.requires.new c.in-Ok.ensures.taken

@@ -16,7 +16,10 @@ returns-clause-lines g c =
     let log = c.args.log.now in
     let solver_is = c.solver-1.given.1 (sym c.find_laws.ensures.later.0) in
     let log_is = c.log-1.given.1 (sym c.find_laws.ensures.later.1) in
-    subst (λ (k : Kept). IfOk c.find_laws.result (λ o. GoesOn (KnowsWhy p old) (KnowsWhy p k) (l.tells log) (l.tells c.log-1.given.0) (l.learnt log) (l.learnt c.log-1.given.0) (λ ls m. TellsOutcome p o (ls ++ m)))) (sym solver_is)
-    (subst (λ (x : g.row.L.Denot). IfOk c.find_laws.result (λ o. GoesOn (KnowsWhy p old) (KnowsWhy p new.solver.now) (l.tells log) (l.tells x) (l.learnt log) (l.learnt x) (λ ls m. TellsOutcome p o (ls ++ m)))) (sym log_is)
-    (subst (λ (q : Task). IfOk c.find_laws.result (λ o. GoesOn (KnowsWhy p old) (KnowsWhy q new.solver.now) (l.tells log) (l.tells new.log.now) (l.learnt log) (l.learnt new.log.now) (λ ls m. TellsOutcome p o (ls ++ m))))
+    subst (λ (k : Kept). IfOk c.find_laws.result (λ o. GoesOn (KnowsWhy p old) (KnowsWhy p k) (l.tells log) (l.tells c.log-1.given.0) (l.learnt log)
+    (l.learnt c.log-1.given.0) (λ ls m. TellsOutcome p o (ls ++ m)))) (sym solver_is)
+    (subst (λ (x : g.row.L.Denot). IfOk c.find_laws.result (λ o. GoesOn (KnowsWhy p old) (KnowsWhy p new.solver.now) (l.tells log) (l.tells x) (l.learnt log)
+    (l.learnt x) (λ ls m. TellsOutcome p o (ls ++ m)))) (sym log_is)
+    (subst (λ (q : Task). IfOk c.find_laws.result (λ o. GoesOn (KnowsWhy p old) (KnowsWhy q new.solver.now) (l.tells log) (l.tells new.log.now) (l.learnt log)
+    (l.learnt new.log.now) (λ ls m. TellsOutcome p o (ls ++ m))))
     c.find_laws.ensures.task c.find_laws.ensures.lines))

@@ -16,8 +16,10 @@ returns-in_err-add_choice c =
     let k = c.loop-law.law-index in
     let d = law.Ordered (record { 0 = 0 }) (record { 0 = 0 }) in
     let there = law_there c.args.laws.now k d c.loop-law-test.true in
-    choosing_refused c.add_choice.result c.from_residual.result c.args.g.now (drawing_vars c.args.g.now c.args.grid.now) c.args.grid.now.width c.args.f.now c.loop-law.f c.add_choice.new.f
-    (map instance_of c.args.laws.now) k (instance_of (get_or c.args.laws.now k d)) 8 c.from_residual.ensures.0 (λ h. search (rules, h)) there.0 there.1 c.loop-law.invariant c.add_choice.ensures
+    choosing_refused c.add_choice.result c.from_residual.result c.args.g.now (drawing_vars c.args.g.now c.args.grid.now) c.args.grid.now.width c.args.f.now
+    c.loop-law.f c.add_choice.new.f
+    (map instance_of c.args.laws.now) k (instance_of (get_or c.args.laws.now k d)) 8 c.from_residual.ensures.0 (λ h. search (rules, h)) there.0 there.1
+    c.loop-law.invariant c.add_choice.ensures
 
 pub loop-law-preserved : goal.loop-law-preserved
 loop-law-preserved c =
@@ -28,5 +30,6 @@ loop-law-preserved c =
     (map instance_of c.args.laws.now) k (instance_of (get_or c.args.laws.now k d)) 8 there.0 there.1 c.loop-law.invariant c.in_ok-add_choice.ensures
 
 pub returns : goal.returns
-returns c = choosing_done tt c.args.g.now (drawing_vars c.args.g.now c.args.grid.now) c.args.grid.now.width c.args.f.now c.loop-law.f (map instance_of c.args.laws.now) c.loop-law.law-index 8
+returns c = choosing_done tt c.args.g.now (drawing_vars c.args.g.now c.args.grid.now) c.args.grid.now.width c.args.f.now c.loop-law.f
+    (map instance_of c.args.laws.now) c.loop-law.law-index 8
     (laws_over c.args.laws.now c.loop-law.law-index c.loop-law-test.false) c.loop-law.invariant

@@ -14,11 +14,13 @@ pub returns-in_err-add-clause-adds : goal.returns-in_err-add-clause-adds
 returns-in_err-add-clause-adds c =
     let is = same_pair c.args.f.now.vars c.in_ok-first.first.0 c.new-off.result c.new.result c.in_ok-first.ensures.var c.new-off.ensures c.new.ensures in
     subst (λ (ls : List Literal). AddsBlock c.from_residual-in_err-add.result c.args.f.now c.add.new.self 2 (ls ∷ []) 8) is
-    (selector_no_room c.from_residual-in_err-add.result c.args.f.now c.new_vars.new.self c.add.new.self (c.new-off.result ∷ c.new.result ∷ []) 8 (omega arith) c.from_residual-in_err-add.ensures.0
+    (selector_no_room c.from_residual-in_err-add.result c.args.f.now c.new_vars.new.self c.add.new.self (c.new-off.result ∷ c.new.result ∷ []) 8 (omega arith)
+    c.from_residual-in_err-add.ensures.0
     (λ k. c.in_err-add.ensures.room.0 (search (rules, k))) c.in_ok-first.ensures.ok c.in_err-add.ensures.err)
 
 pub returns-clause-adds : goal.returns-clause-adds
 returns-clause-adds c =
     let is = same_pair c.args.f.now.vars c.in_ok-first.first.0 c.new-off.result c.new.result c.in_ok-first.ensures.var c.new-off.ensures c.new.ensures in
     subst (λ (ls : List Literal). AddsBlock (Ok c.new-off.result) c.args.f.now c.add.new.self 2 (ls ∷ []) 8) is
-    (selector_ok c.new-off.result c.args.f.now c.new_vars.new.self c.add.new.self (c.new-off.result ∷ c.new.result ∷ []) 8 c.in_ok-first.ensures.ok c.in_ok-add.ensures.ok)
+    (selector_ok c.new-off.result c.args.f.now c.new_vars.new.self c.add.new.self (c.new-off.result ∷ c.new.result ∷ []) 8 c.in_ok-first.ensures.ok
+    c.in_ok-add.ensures.ok)

@@ -10,4 +10,5 @@ returns c =
     let mid = c.list_where.new.laws.items in
     let new = c.list_unless.new.laws.items in
     listed_then old mid new _ _ c.in_ok-list_where.ensures
-    (subst (λ (b : Bool). map instance_of new ≡ map instance_of mid ++ cond b [] (Parted c.args.e c.args.h ∷ [])) c.is_settled.ensures c.in_ok-list_unless.ensures)
+    (subst (λ (b : Bool). map instance_of new ≡ map instance_of mid ++ cond b [] (Parted c.args.e c.args.h ∷ [])) c.is_settled.ensures
+    c.in_ok-list_unless.ensures)

@@ -17,5 +17,6 @@ loop-h-preserved c =
     let is = ap (λ (b : Bool). pair_by b c.above-in-loop-h.result c.overlap.result e h) c.above.ensures
     ∙ ap (λ (b : Bool). pair_by (is_above t e h) b c.overlap.result e h) c.above-in-loop-h.ensures
     ∙ ap (λ (b : Bool). pair_by (is_above t e h) (is_above t h e) b e h) c.overlap.ensures in
-    listing_more (edge_pair (is_above t) (is_overlap t) e) c.args.laws.now.items c.loop-h.laws.items c.list_pair.new.laws.items (pairs_from c.args.end (edge_pair (is_above t) (is_overlap t)) e) h c.args.end c.loop-h-test.true c.loop-h.invariant
+    listing_more (edge_pair (is_above t) (is_overlap t) e) c.args.laws.now.items c.loop-h.laws.items c.list_pair.new.laws.items
+    (pairs_from c.args.end (edge_pair (is_above t) (is_overlap t)) e) h c.args.end c.loop-h-test.true c.loop-h.invariant
     (c.in_ok-list_pair.ensures ∙ ap (λ (xs : List Instance). map instance_of c.loop-h.laws.items ++ xs) is)

@@ -10,15 +10,18 @@ use Rattle.law_core.proofs.whole.make_why_formula.Goals as goal
 
 pub loose_formula-requires-clause-parties : goal.loose_formula-requires-clause-parties
 loose_formula-requires-clause-parties c =
-    listed_parties c.args.g.now c.args.t.now c.deref.result.now c.requires.order (ap (λ (ls : List Law). map instance_of ls) c.deref.ensures.value ∙ c.in_ok-laws.ensures)
+    listed_parties c.args.g.now c.args.t.now c.deref.result.now c.requires.order (ap (λ (ls : List Law). map instance_of ls) c.deref.ensures.value
+    ∙ c.in_ok-laws.ensures)
 
 pub returns-clause-clauses : goal.returns-clause-clauses
 returns-clause-clauses c =
-    c.in_ok-formula.ensures.clauses ∙ ap (λ (is : List Instance). loose_clauses c.args.g.now c.args.grid.now is) (ap (λ (ls : List Law). map instance_of ls) c.deref.ensures.value ∙ c.in_ok-laws.ensures)
+    c.in_ok-formula.ensures.clauses ∙ ap (λ (is : List Instance). loose_clauses c.args.g.now c.args.grid.now is)
+    (ap (λ (ls : List Law). map instance_of ls) c.deref.ensures.value ∙ c.in_ok-laws.ensures)
 
 pub returns-clause-vars : goal.returns-clause-vars
 returns-clause-vars c =
-    c.in_ok-formula.ensures.vars ∙ ap (λ (is : List Instance). loose_size c.args.g.now c.args.grid.now is) (ap (λ (ls : List Law). map instance_of ls) c.deref.ensures.value ∙ c.in_ok-laws.ensures)
+    c.in_ok-formula.ensures.vars ∙ ap (λ (is : List Instance). loose_size c.args.g.now c.args.grid.now is)
+    (ap (λ (ls : List Law). map instance_of ls) c.deref.ensures.value ∙ c.in_ok-laws.ensures)
 
 pub returns-clause-words_fit : goal.returns-clause-words_fit
 returns-clause-words_fit c = λ ok.
@@ -32,5 +35,6 @@ returns-clause-vars_fit c = λ ok.
 
 pub returns-in_err-formula-clause-full : goal.returns-in_err-formula-clause-full
 returns-in_err-formula-clause-full c = λ k.
-    subst (λ (is : List Instance). (VARS < loose_size c.args.g.now c.args.grid.now is) ⊎ (c.args.room < words_of (loose_clauses c.args.g.now c.args.grid.now is)))
+    subst (λ (is : List Instance). (VARS < loose_size c.args.g.now c.args.grid.now is) ⊎
+    (c.args.room < words_of (loose_clauses c.args.g.now c.args.grid.now is)))
     (ap (λ (ls : List Law). map instance_of ls) c.deref.ensures.value ∙ c.in_ok-laws.ensures) (c.in_err-formula.ensures.full (search (rules, k)))

@@ -24,7 +24,8 @@ returns-in-Ok-clause-ready g c =
     let k = c.args.known.now in
     let s = c.in-Ok.ensures.searched in
     ready_after k.encoded k.told.items k.budget k.room c.args.solver.now c.solve.new.self c.in-Ok.answer s.learnt (omega arith) c.requires.ready s.kept
-    (subst (λ n. HasSpent c.in-Ok.answer (k.budget - n) (length s.learnt)) c.learnt.ensures s.spent) (c.in-Ok.ensures.given k.encoded.formula.clauses c.requires.ready.given)
+    (subst (λ n. HasSpent c.in-Ok.answer (k.budget - n) (length s.learnt)) c.learnt.ensures s.spent)
+    (c.in-Ok.ensures.given k.encoded.formula.clauses c.requires.ready.given)
 
 pub returns-in-Ok-clause-lines : goal.returns-in-Ok-clause-lines
 returns-in-Ok-clause-lines g c =
@@ -32,26 +33,33 @@ returns-in-Ok-clause-lines g c =
     let l = g.L.LogSink in
     let old = c.args.solver.now in
     let new = c.solve.new.self in
-    let s = subst (λ n. HasSolved (l.tells c.args.log.now) (l.tells c.solve.new.log) c.args.assume.now old new c.in-Ok.answer (k.budget - n) (l.learnt c.args.log.now) (l.learnt c.solve.new.log))
+    let s = subst (λ n. HasSolved (l.tells c.args.log.now) (l.tells c.solve.new.log) c.args.assume.now old new c.in-Ok.answer (k.budget - n)
+    (l.learnt c.args.log.now) (l.learnt c.solve.new.log))
     c.learnt.ensures c.in-Ok.ensures.searched in
     let limit = c.words.ensures.limit s.kept.failed in
     let same = s.kept.room in
     let is = c.requires.ready.room_is in
     let vars = c.vars.ensures.limit in
     let value = c.vars.ensures.value in
-    search_goes k.encoded k.told.items k.budget k.room old new c.args.bounds.now c.args.assume.now c.in-Ok.answer (l.tells c.args.log.now) (l.tells c.solve.new.log) (l.learnt c.args.log.now) (l.learnt c.solve.new.log)
-    (omega arith) c.requires.ready c.requires.assumed s (c.in-Ok.ensures.answer k.encoded.formula.clauses c.requires.ready.given) (omega (arith, limit, same, is)) (omega (arith, vars, value))
+    search_goes k.encoded k.told.items k.budget k.room old new c.args.bounds.now c.args.assume.now c.in-Ok.answer (l.tells c.args.log.now)
+    (l.tells c.solve.new.log) (l.learnt c.args.log.now) (l.learnt c.solve.new.log)
+    (omega arith) c.requires.ready c.requires.assumed s (c.in-Ok.ensures.answer k.encoded.formula.clauses c.requires.ready.given)
+    (omega (arith, limit, same, is)) (omega (arith, vars, value))
 
 pub returns-in-Err-Log-clause-leaves : goal.returns-in-Err-Log-clause-leaves
 returns-in-Err-Log-clause-leaves g c =
     let k = g.L.LogSink in
     let x = c.args.known.now in
-    leaves_known [] (KnowsLines (layout_of x.encoded) x.told.items x.budget x.room c.args.solver.now) (λ ls. Belongs ls c.args.solver.now) (k.tells c.args.log.now) (k.tells c.solve.new.log) (λ lines b. b.belongs)
-    (search_left (λ ls. Belongs ls c.args.solver.now) (k.tells c.args.log.now) (k.tells c.solve.new.log) c.in-Err-Log.ensures.derives c.in-Err-Log.ensures.gives)
+    leaves_known [] (KnowsLines (layout_of x.encoded) x.told.items x.budget x.room c.args.solver.now) (λ ls. Belongs ls c.args.solver.now)
+    (k.tells c.args.log.now) (k.tells c.solve.new.log) (λ lines b. b.belongs)
+    (search_left (λ ls. Belongs ls c.args.solver.now) (k.tells c.args.log.now) (k.tells c.solve.new.log) c.in-Err-Log.ensures.derives
+    c.in-Err-Log.ensures.gives)
 
 pub returns-in-Err-Memory-clause-leaves : goal.returns-in-Err-Memory-clause-leaves
 returns-in-Err-Memory-clause-leaves g c =
     let k = g.L.LogSink in
     let x = c.args.known.now in
-    leaves_known [] (KnowsLines (layout_of x.encoded) x.told.items x.budget x.room c.args.solver.now) (λ ls. Belongs ls c.args.solver.now) (k.tells c.args.log.now) (k.tells c.solve.new.log) (λ lines b. b.belongs)
-    (search_left (λ ls. Belongs ls c.args.solver.now) (k.tells c.args.log.now) (k.tells c.solve.new.log) c.in-Err-Memory.ensures.derives c.in-Err-Memory.ensures.gives)
+    leaves_known [] (KnowsLines (layout_of x.encoded) x.told.items x.budget x.room c.args.solver.now) (λ ls. Belongs ls c.args.solver.now)
+    (k.tells c.args.log.now) (k.tells c.solve.new.log) (λ lines b. b.belongs)
+    (search_left (λ ls. Belongs ls c.args.solver.now) (k.tells c.args.log.now) (k.tells c.solve.new.log) c.in-Err-Memory.ensures.derives
+    c.in-Err-Memory.ensures.gives)

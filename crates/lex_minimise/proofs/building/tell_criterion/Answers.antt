@@ -23,7 +23,8 @@ tell_bounds-requires g c =
     let k = c.args.known.now in
     record {
       small = grown_small k.encoded k.told.items k.budget k.room c.args.bounds c.args.from c.args.solver.now c.requires.grown
-          (subst (λ (x : Graph). IsStationGraph x) c.graph.ensures c.nodes.ensures.station) (subst (λ (x : GridSize). IsGrid x) c.grid.ensures c.width.ensures.is_grid);
+          (subst (λ (x : Graph). IsStationGraph x) c.graph.ensures c.nodes.ensures.station)
+          (subst (λ (x : GridSize). IsGrid x) c.grid.ensures c.width.ensures.is_grid);
     }
 
 pub returns-clause-ready : goal.returns-clause-ready
@@ -33,7 +34,8 @@ returns-clause-ready g c =
     let new = c.add_clauses.new.solver in
     subst (λ (bs : List Bound). IsReady k.encoded bs k.budget k.room new) (sym c.in_ok-push.ensures.items)
     (ready_grown k.encoded k.told.items k.budget k.room c.args.bounds c.args.from old new c.requires.grown
-    (subst (λ (f : Cnf). HasTaken (with_more_vars old (f.vars - old.vars)) new (drop c.args.from f.clauses)) c.formula.ensures c.in_ok-add_clauses.ensures.taken))
+    (subst (λ (f : Cnf). HasTaken (with_more_vars old (f.vars - old.vars)) new (drop c.args.from f.clauses)) c.formula.ensures
+    c.in_ok-add_clauses.ensures.taken))
 
 pub returns-clause-lines : goal.returns-clause-lines
 returns-clause-lines g c =
@@ -41,15 +43,20 @@ returns-clause-lines g c =
     let l = g.L.LogSink in
     let old = c.args.solver.now in
     let new = c.add_clauses.new.solver in
-    subst (λ (bs : List Bound). GoesOn (KnowsLines (layout_of k.encoded) k.told.items k.budget k.room old) (KnowsLines (layout_of k.encoded) bs k.budget k.room new)
+    subst (λ (bs : List Bound). GoesOn (KnowsLines (layout_of k.encoded) k.told.items k.budget k.room old)
+    (KnowsLines (layout_of k.encoded) bs k.budget k.room new)
     (l.tells c.args.log.now) (l.tells c.tell_bounds.new.log) (l.learnt c.args.log.now) (l.learnt c.tell_bounds.new.log)
     (λ lines more. more ≡ lines_of_bound k.encoded.graph (encoded_vars k.encoded) k.encoded.grid c.args.bounds)) (sym c.in_ok-push.ensures.items)
-    (grown_goes k.encoded k.told.items k.budget k.room c.args.bounds c.args.from old new (l.tells c.args.log.now) (l.tells c.add_clauses.new.log) (l.tells c.tell_bounds.new.log)
+    (grown_goes k.encoded k.told.items k.budget k.room c.args.bounds c.args.from old new (l.tells c.args.log.now) (l.tells c.add_clauses.new.log)
+    (l.tells c.tell_bounds.new.log)
     (l.learnt c.args.log.now) (l.learnt c.add_clauses.new.log) (l.learnt c.tell_bounds.new.log) c.requires.grown
     (grown_small k.encoded k.told.items k.budget k.room c.args.bounds c.args.from old c.requires.grown
-    (subst (λ (x : Graph). IsStationGraph x) c.graph.ensures c.nodes.ensures.station) (subst (λ (x : GridSize). IsGrid x) c.grid.ensures c.width.ensures.is_grid))
-    (subst (λ (f : Cnf). HasTaken (with_more_vars old (f.vars - old.vars)) new (drop c.args.from f.clauses)) c.formula.ensures c.in_ok-add_clauses.ensures.taken) c.requires.fits
-    (subst (λ (f : Cnf). GoesOn (λ ls. Belongs ls old) (λ ls. Belongs ls new) (l.tells c.args.log.now) (l.tells c.add_clauses.new.log) (l.learnt c.args.log.now) (l.learnt c.add_clauses.new.log)
+    (subst (λ (x : Graph). IsStationGraph x) c.graph.ensures c.nodes.ensures.station)
+    (subst (λ (x : GridSize). IsGrid x) c.grid.ensures c.width.ensures.is_grid))
+    (subst (λ (f : Cnf). HasTaken (with_more_vars old (f.vars - old.vars)) new (drop c.args.from f.clauses)) c.formula.ensures
+    c.in_ok-add_clauses.ensures.taken) c.requires.fits
+    (subst (λ (f : Cnf). GoesOn (λ ls. Belongs ls old) (λ ls. Belongs ls new) (l.tells c.args.log.now) (l.tells c.add_clauses.new.log) (l.learnt c.args.log.now)
+    (l.learnt c.add_clauses.new.log)
     (λ lines more. more ≡ map Formula (drop c.args.from f.clauses))) c.formula.ensures c.in_ok-add_clauses.ensures.lines)
     c.in_ok-tell_bounds.ensures.lines c.in_ok-tell_bounds.ensures.learnt)
 
@@ -58,8 +65,10 @@ returns-in_err-add_clauses-clause-leaves g c =
     let k = g.L.LogSink in
     let x = c.args.known.now in
     let old = c.args.solver.now in
-    on_err_anyway _ _ (criterion_begun x.encoded x.told.items x.budget x.room c.args.bounds c.args.from old (k.tells c.args.log.now) (k.tells c.add_clauses.new.log) c.requires.grown
-    (subst (λ (f : Cnf). Leaves (map Formula (drop c.args.from f.clauses)) (λ ls. Belongs ls old) (k.tells c.args.log.now) (k.tells c.add_clauses.new.log)) c.formula.ensures c.in_err-add_clauses.ensures.leaves))
+    on_err_anyway _ _ (criterion_begun x.encoded x.told.items x.budget x.room c.args.bounds c.args.from old (k.tells c.args.log.now)
+    (k.tells c.add_clauses.new.log) c.requires.grown
+    (subst (λ (f : Cnf). Leaves (map Formula (drop c.args.from f.clauses)) (λ ls. Belongs ls old) (k.tells c.args.log.now) (k.tells c.add_clauses.new.log))
+    c.formula.ensures c.in_err-add_clauses.ensures.leaves))
 
 pub returns-in_err-tell_bounds-clause-leaves : goal.returns-in_err-tell_bounds-clause-leaves
 returns-in_err-tell_bounds-clause-leaves g c =
@@ -67,8 +76,10 @@ returns-in_err-tell_bounds-clause-leaves g c =
     let x = c.args.known.now in
     let old = c.args.solver.now in
     let new = c.add_clauses.new.solver in
-    on_err_anyway _ _ (criterion_left x.encoded x.told.items x.budget x.room c.args.bounds c.args.from old new (k.tells c.args.log.now) (k.tells c.add_clauses.new.log) (k.tells c.tell_bounds.new.log) (k.learnt c.args.log.now) (k.learnt c.add_clauses.new.log) c.requires.grown
-    (subst (λ (f : Cnf). GoesOn (λ ls. Belongs ls old) (λ ls. Belongs ls new) (k.tells c.args.log.now) (k.tells c.add_clauses.new.log) (k.learnt c.args.log.now) (k.learnt c.add_clauses.new.log)
+    on_err_anyway _ _ (criterion_left x.encoded x.told.items x.budget x.room c.args.bounds c.args.from old new (k.tells c.args.log.now)
+    (k.tells c.add_clauses.new.log) (k.tells c.tell_bounds.new.log) (k.learnt c.args.log.now) (k.learnt c.add_clauses.new.log) c.requires.grown
+    (subst (λ (f : Cnf). GoesOn (λ ls. Belongs ls old) (λ ls. Belongs ls new) (k.tells c.args.log.now) (k.tells c.add_clauses.new.log) (k.learnt c.args.log.now)
+    (k.learnt c.add_clauses.new.log)
     (λ lines more. more ≡ map Formula (drop c.args.from f.clauses))) c.formula.ensures c.in_ok-add_clauses.ensures.lines) c.in_err-tell_bounds.ensures.leaves)
 
 pub returns-in_err-push-clause-leaves : goal.returns-in_err-push-clause-leaves
@@ -77,7 +88,10 @@ returns-in_err-push-clause-leaves g c =
     let x = c.args.known.now in
     let old = c.args.solver.now in
     let new = c.add_clauses.new.solver in
-    on_err_anyway _ _ (criterion_left x.encoded x.told.items x.budget x.room c.args.bounds c.args.from old new (k.tells c.args.log.now) (k.tells c.add_clauses.new.log) (k.tells c.tell_bounds.new.log) (k.learnt c.args.log.now) (k.learnt c.add_clauses.new.log) c.requires.grown
-    (subst (λ (f : Cnf). GoesOn (λ ls. Belongs ls old) (λ ls. Belongs ls new) (k.tells c.args.log.now) (k.tells c.add_clauses.new.log) (k.learnt c.args.log.now) (k.learnt c.add_clauses.new.log)
+    on_err_anyway _ _ (criterion_left x.encoded x.told.items x.budget x.room c.args.bounds c.args.from old new (k.tells c.args.log.now)
+    (k.tells c.add_clauses.new.log) (k.tells c.tell_bounds.new.log) (k.learnt c.args.log.now) (k.learnt c.add_clauses.new.log) c.requires.grown
+    (subst (λ (f : Cnf). GoesOn (λ ls. Belongs ls old) (λ ls. Belongs ls new) (k.tells c.args.log.now) (k.tells c.add_clauses.new.log) (k.learnt c.args.log.now)
+    (k.learnt c.add_clauses.new.log)
     (λ lines more. more ≡ map Formula (drop c.args.from f.clauses))) c.formula.ensures c.in_ok-add_clauses.ensures.lines)
-    (bounds_all (k.tells c.add_clauses.new.log) (k.tells c.tell_bounds.new.log) c.args.bounds.criterion c.args.bounds.last c.args.bounds.cap c.in_ok-tell_bounds.ensures.lines (g.met.L.LogSink.one_reading c.tell_bounds.new.log)))
+    (bounds_all (k.tells c.add_clauses.new.log) (k.tells c.tell_bounds.new.log) c.args.bounds.criterion c.args.bounds.last c.args.bounds.cap
+    c.in_ok-tell_bounds.ensures.lines (g.met.L.LogSink.one_reading c.tell_bounds.new.log)))

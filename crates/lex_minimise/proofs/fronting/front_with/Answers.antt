@@ -27,7 +27,8 @@ returns-in-Err-Room-clause-lines g c =
     let y = layout c.args.g.now c.args.t.now c.args.grid.now in
     let budget = c.args.limits.now.budget in
     let room = c.args.limits.now.room in
-    nothing_told c.args.solver.now room (k.learnt c.args.log.now) (IsFrontLog (task_of y budget room) c.args.a c.args.b Room) (k.tells c.args.log.now) c.requires.new (no_room_front y budget room c.args.a c.args.b (c.in-Err-Room.ensures.full (ap Err c.in-Err-Room.field-0-is)))
+    nothing_told c.args.solver.now room (k.learnt c.args.log.now) (IsFrontLog (task_of y budget room) c.args.a c.args.b Room) (k.tells c.args.log.now)
+    c.requires.new (no_room_front y budget room c.args.a c.args.b (c.in-Err-Room.ensures.full (ap Err c.in-Err-Room.field-0-is)))
 
 pub front_from-requires-clause-ready : goal.front_from-requires-clause-ready
 front_from-requires-clause-ready g c =
@@ -47,7 +48,8 @@ front_from-requires-clause-ready g c =
       covers = e.covers;
     } in
     subst (λ (bs : List Bound). IsReady c.in-Ok.encoded bs budget room c.add_clauses.new.solver) (sym c.new-2.ensures.items)
-    (first_ready y budget room c.in-Ok.encoded c.formula.result.now c.args.solver.now c.add_clauses.new.solver first c.formula.ensures c.requires.new c.in_ok-add_clauses.ensures.taken)
+    (first_ready y budget room c.in-Ok.encoded c.formula.result.now c.args.solver.now c.add_clauses.new.solver first c.formula.ensures c.requires.new
+    c.in_ok-add_clauses.ensures.taken)
 
 pub front_from-requires-clause-start : goal.front_from-requires-clause-start
 front_from-requires-clause-start g c =
@@ -67,14 +69,17 @@ front_from-requires-clause-start g c =
       vars_fit = e.vars_fit refl;
       covers = e.covers;
     } in
-    subst (λ (bs : List Bound). KnowsLines (layout_of c.in-Ok.encoded) bs budget room c.add_clauses.new.solver (first_lines (task_of (layout_of c.in-Ok.encoded) budget room))) (sym c.new-2.ensures.items)
-    (first_knows y budget room c.in-Ok.encoded c.formula.result.now c.args.solver.now c.add_clauses.new.solver (k.tells c.args.log.now) (k.tells c.add_clauses.new.log) (k.learnt c.args.log.now) (k.learnt c.add_clauses.new.log)
+    subst (λ (bs : List Bound). KnowsLines (layout_of c.in-Ok.encoded) bs budget room c.add_clauses.new.solver
+    (first_lines (task_of (layout_of c.in-Ok.encoded) budget room))) (sym c.new-2.ensures.items)
+    (first_knows y budget room c.in-Ok.encoded c.formula.result.now c.args.solver.now c.add_clauses.new.solver (k.tells c.args.log.now)
+    (k.tells c.add_clauses.new.log) (k.learnt c.args.log.now) (k.learnt c.add_clauses.new.log)
     first c.formula.ensures c.requires.new c.in_ok-add_clauses.ensures.taken c.in_ok-add_clauses.ensures.lines)
 
 pub returns-clause-right : goal.returns-clause-right
 returns-clause-right g c =
     let e = c.in-Ok.ensures in
-    subst (λ (z : Layout). IfOk c.front_from.result (λ r. IsRightFront (IsLawful (task_of z c.args.limits.now.budget c.args.limits.now.room)) c.args.a c.args.b r.pairs r.ending))
+    subst (λ (z : Layout). IfOk c.front_from.result (λ r. IsRightFront (IsLawful (task_of z c.args.limits.now.budget c.args.limits.now.room)) c.args.a c.args.b
+    r.pairs r.ending))
     (layout_is c.in-Ok.encoded c.args.g.now c.args.t.now c.args.grid.now e.graph e.order e.grid) c.front_from.ensures.right
 
 pub returns-clause-lines : goal.returns-clause-lines
@@ -96,14 +101,17 @@ returns-clause-lines g c =
       covers = e.covers;
     } in
     if_ok_from c.front_from.result _ _ c.front_from.ensures.lines
-    (λ r second. whole_told y budget room c.in-Ok.encoded c.formula.result.now (λ z lines. IsFrontLog (task_of z budget room) c.args.a c.args.b r.ending lines) c.args.solver.now c.add_clauses.new.solver c.front_from.new.solver
-    (k.tells c.args.log.now) (k.tells c.add_clauses.new.log) (k.tells c.front_from.new.log) (k.learnt c.args.log.now) (k.learnt c.add_clauses.new.log) (k.learnt c.front_from.new.log)
+    (λ r second. whole_told y budget room c.in-Ok.encoded c.formula.result.now (λ z lines. IsFrontLog (task_of z budget room) c.args.a c.args.b r.ending lines)
+    c.args.solver.now c.add_clauses.new.solver c.front_from.new.solver
+    (k.tells c.args.log.now) (k.tells c.add_clauses.new.log) (k.tells c.front_from.new.log) (k.learnt c.args.log.now) (k.learnt c.add_clauses.new.log)
+    (k.learnt c.front_from.new.log)
     first c.formula.ensures c.requires.new c.in_ok-add_clauses.ensures.lines second)
 
 pub returns-in-Err-Memory-clause-left : goal.returns-in-Err-Memory-clause-left
 returns-in-Err-Memory-clause-left g c =
     let k = g.L.LogSink in
-    λ none lines is. front_unbegun (layout c.args.g.now c.args.t.now c.args.grid.now) c.args.limits.now.budget c.args.limits.now.room c.args.a c.args.b (k.tells c.args.log.now) (g.met.L.LogSink.one_reading c.args.log.now) none lines is
+    λ none lines is. front_unbegun (layout c.args.g.now c.args.t.now c.args.grid.now) c.args.limits.now.budget c.args.limits.now.room c.args.a c.args.b
+    (k.tells c.args.log.now) (g.met.L.LogSink.one_reading c.args.log.now) none lines is
 
 pub returns-in_err-add_clauses-clause-left : goal.returns-in_err-add_clauses-clause-left
 returns-in_err-add_clauses-clause-left g c =
@@ -123,7 +131,8 @@ returns-in_err-add_clauses-clause-left g c =
       vars_fit = e.vars_fit refl;
       covers = e.covers;
     } in
-    on_err_anyway _ _ (front_begun y budget room c.args.a c.args.b c.in-Ok.encoded c.formula.result.now c.args.solver.now (k.tells c.args.log.now) (k.tells c.add_clauses.new.log) first c.formula.ensures c.requires.new c.in_err-add_clauses.ensures.leaves)
+    on_err_anyway _ _ (front_begun y budget room c.args.a c.args.b c.in-Ok.encoded c.formula.result.now c.args.solver.now (k.tells c.args.log.now)
+    (k.tells c.add_clauses.new.log) first c.formula.ensures c.requires.new c.in_err-add_clauses.ensures.leaves)
 
 pub returns-clause-left : goal.returns-clause-left
 returns-clause-left g c =
@@ -143,5 +152,7 @@ returns-clause-left g c =
       vars_fit = e.vars_fit refl;
       covers = e.covers;
     } in
-    on_err_weaker c.front_from.result _ _ (behind_formula_left (λ p lines. IsFrontLeft p c.args.a c.args.b lines) y budget room c.in-Ok.encoded c.formula.result.now c.args.solver.now c.add_clauses.new.solver (k.tells c.args.log.now) (k.tells c.add_clauses.new.log) (k.tells c.front_from.new.log) (k.learnt c.args.log.now) (k.learnt c.add_clauses.new.log)
+    on_err_weaker c.front_from.result _ _ (behind_formula_left (λ p lines. IsFrontLeft p c.args.a c.args.b lines) y budget room c.in-Ok.encoded
+    c.formula.result.now c.args.solver.now c.add_clauses.new.solver (k.tells c.args.log.now) (k.tells c.add_clauses.new.log) (k.tells c.front_from.new.log)
+    (k.learnt c.args.log.now) (k.learnt c.add_clauses.new.log)
     first c.formula.ensures c.requires.new c.in_ok-add_clauses.ensures.lines) c.front_from.ensures.left

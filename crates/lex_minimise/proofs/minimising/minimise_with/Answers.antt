@@ -17,7 +17,8 @@ returns-in-Err-Room-clause-lines g c =
     let y = layout c.args.g.now c.args.t.now c.args.grid.now in
     let budget = c.args.limits.now.budget in
     let room = c.args.limits.now.room in
-    nothing_told c.args.solver.now room (k.learnt c.args.log.now) (IsOutcome (task_of y budget room) c.args.wanted.now (Room None 0)) (k.tells c.args.log.now) c.requires.new (no_room_end y budget room c.args.wanted.now (c.in-Err-Room.ensures.full (ap Err c.in-Err-Room.field-0-is)))
+    nothing_told c.args.solver.now room (k.learnt c.args.log.now) (IsOutcome (task_of y budget room) c.args.wanted.now (Room None 0)) (k.tells c.args.log.now)
+    c.requires.new (no_room_end y budget room c.args.wanted.now (c.in-Err-Room.ensures.full (ap Err c.in-Err-Room.field-0-is)))
 
 pub search_from-requires-clause-ready : goal.search_from-requires-clause-ready
 search_from-requires-clause-ready g c =
@@ -37,7 +38,8 @@ search_from-requires-clause-ready g c =
       covers = e.covers;
     } in
     subst (λ (bs : List Bound). IsReady c.in-Ok.encoded bs budget room c.add_clauses.new.solver) (sym c.new.ensures.items)
-    (first_ready y budget room c.in-Ok.encoded c.formula.result.now c.args.solver.now c.add_clauses.new.solver first c.formula.ensures c.requires.new c.in_ok-add_clauses.ensures.taken)
+    (first_ready y budget room c.in-Ok.encoded c.formula.result.now c.args.solver.now c.add_clauses.new.solver first c.formula.ensures c.requires.new
+    c.in_ok-add_clauses.ensures.taken)
 
 pub search_from-requires-clause-start : goal.search_from-requires-clause-start
 search_from-requires-clause-start g c =
@@ -57,8 +59,10 @@ search_from-requires-clause-start g c =
       vars_fit = e.vars_fit refl;
       covers = e.covers;
     } in
-    subst (λ (bs : List Bound). KnowsLines (layout_of c.in-Ok.encoded) bs budget room c.add_clauses.new.solver (first_lines (task_of (layout_of c.in-Ok.encoded) budget room))) (sym c.new.ensures.items)
-    (first_knows y budget room c.in-Ok.encoded c.formula.result.now c.args.solver.now c.add_clauses.new.solver (k.tells c.args.log.now) (k.tells c.add_clauses.new.log) (k.learnt c.args.log.now) (k.learnt c.add_clauses.new.log)
+    subst (λ (bs : List Bound). KnowsLines (layout_of c.in-Ok.encoded) bs budget room c.add_clauses.new.solver
+    (first_lines (task_of (layout_of c.in-Ok.encoded) budget room))) (sym c.new.ensures.items)
+    (first_knows y budget room c.in-Ok.encoded c.formula.result.now c.args.solver.now c.add_clauses.new.solver (k.tells c.args.log.now)
+    (k.tells c.add_clauses.new.log) (k.learnt c.args.log.now) (k.learnt c.add_clauses.new.log)
     first c.formula.ensures c.requires.new c.in_ok-add_clauses.ensures.taken c.in_ok-add_clauses.ensures.lines)
 
 pub returns-clause-right : goal.returns-clause-right
@@ -86,14 +90,17 @@ returns-clause-lines g c =
       covers = e.covers;
     } in
     if_ok_from c.search_from.result _ _ c.search_from.ensures.lines
-    (λ o second. whole_told y budget room c.in-Ok.encoded c.formula.result.now (λ z lines. IsOutcome (task_of z budget room) c.args.wanted.now o lines) c.args.solver.now c.add_clauses.new.solver c.search_from.new.solver
-    (k.tells c.args.log.now) (k.tells c.add_clauses.new.log) (k.tells c.search_from.new.log) (k.learnt c.args.log.now) (k.learnt c.add_clauses.new.log) (k.learnt c.search_from.new.log)
+    (λ o second. whole_told y budget room c.in-Ok.encoded c.formula.result.now (λ z lines. IsOutcome (task_of z budget room) c.args.wanted.now o lines)
+    c.args.solver.now c.add_clauses.new.solver c.search_from.new.solver
+    (k.tells c.args.log.now) (k.tells c.add_clauses.new.log) (k.tells c.search_from.new.log) (k.learnt c.args.log.now) (k.learnt c.add_clauses.new.log)
+    (k.learnt c.search_from.new.log)
     first c.formula.ensures c.requires.new c.in_ok-add_clauses.ensures.lines second)
 
 pub returns-in-Err-Memory-clause-left : goal.returns-in-Err-Memory-clause-left
 returns-in-Err-Memory-clause-left g c =
     let k = g.L.LogSink in
-    λ none lines is. values_unbegun (layout c.args.g.now c.args.t.now c.args.grid.now) c.args.limits.now.budget c.args.limits.now.room c.args.wanted.now (k.tells c.args.log.now) (g.met.L.LogSink.one_reading c.args.log.now) none lines is
+    λ none lines is. values_unbegun (layout c.args.g.now c.args.t.now c.args.grid.now) c.args.limits.now.budget c.args.limits.now.room c.args.wanted.now
+    (k.tells c.args.log.now) (g.met.L.LogSink.one_reading c.args.log.now) none lines is
 
 pub returns-in_err-add_clauses-clause-left : goal.returns-in_err-add_clauses-clause-left
 returns-in_err-add_clauses-clause-left g c =
@@ -113,7 +120,8 @@ returns-in_err-add_clauses-clause-left g c =
       vars_fit = e.vars_fit refl;
       covers = e.covers;
     } in
-    on_err_anyway _ _ (values_begun y budget room c.args.wanted.now c.in-Ok.encoded c.formula.result.now c.args.solver.now (k.tells c.args.log.now) (k.tells c.add_clauses.new.log) first c.formula.ensures c.requires.new c.in_err-add_clauses.ensures.leaves)
+    on_err_anyway _ _ (values_begun y budget room c.args.wanted.now c.in-Ok.encoded c.formula.result.now c.args.solver.now (k.tells c.args.log.now)
+    (k.tells c.add_clauses.new.log) first c.formula.ensures c.requires.new c.in_err-add_clauses.ensures.leaves)
 
 pub returns-clause-left : goal.returns-clause-left
 returns-clause-left g c =
@@ -134,6 +142,7 @@ returns-clause-left g c =
       covers = e.covers;
     } in
     on_err_weaker c.search_from.result _ _
-    (behind_formula_left (λ p lines. IsLeastLeft p c.args.wanted.now lines) y budget room c.in-Ok.encoded c.formula.result.now c.args.solver.now c.add_clauses.new.solver (k.tells c.args.log.now) (k.tells c.add_clauses.new.log) (k.tells c.search_from.new.log)
+    (behind_formula_left (λ p lines. IsLeastLeft p c.args.wanted.now lines) y budget room c.in-Ok.encoded c.formula.result.now c.args.solver.now
+    c.add_clauses.new.solver (k.tells c.args.log.now) (k.tells c.add_clauses.new.log) (k.tells c.search_from.new.log)
     (k.learnt c.args.log.now) (k.learnt c.add_clauses.new.log) first c.formula.ensures c.requires.new c.in_ok-add_clauses.ensures.lines)
     c.search_from.ensures.left

@@ -16,7 +16,8 @@ loop-number-init g c =
     record {
       from = omega arith;
       taken = taken_none c.args.solver.now (take (c.args.from - c.args.from) (drop c.args.from cs)) c.requires.working none;
-      lines = goes_nothing (λ ls. Belongs ls c.args.solver.now) (k.tells c.args.log.now) (k.learnt c.args.log.now) (map Formula (take (c.args.from - c.args.from) (drop c.args.from cs))) (ap (map Formula) none);
+      lines = goes_nothing (λ ls. Belongs ls c.args.solver.now) (k.tells c.args.log.now) (k.learnt c.args.log.now)
+          (map Formula (take (c.args.from - c.args.from) (drop c.args.from cs))) (ap (map Formula) none);
       later = g.met.L.LogSink.later_same c.args.log.now;
       faults = omega arith;
     }
@@ -29,10 +30,15 @@ loop-number-preserved g c =
     let next = told_next cs c.args.from n c.loop-number.invariant.from (omega arith) in
     record {
       from = (let le = c.loop-number.invariant.from in omega arith);
-      taken = taken_more c.args.solver.now c.loop-number.solver c.tell_clause.new.solver (take (n - c.args.from) (drop c.args.from cs)) (clause_at c.args.formula.now n ∷ []) (take ((n + 1) - c.args.from) (drop c.args.from cs)) c.loop-number.invariant.taken c.in_ok-tell_clause.ensures.taken next;
-      lines = goes_then (λ ls. Belongs ls c.args.solver.now) (λ ls. Belongs ls c.loop-number.solver) (λ ls. Belongs ls c.tell_clause.new.solver) (k.tells c.args.log.now) (k.tells c.loop-number.log) (k.tells c.tell_clause.new.log)
-          (k.learnt c.args.log.now) (k.learnt c.loop-number.log) (k.learnt c.tell_clause.new.log) (map Formula (take (n - c.args.from) (drop c.args.from cs))) (Formula (clause_at c.args.formula.now n) ∷ []) (map Formula (take ((n + 1) - c.args.from) (drop c.args.from cs)))
-          c.loop-number.invariant.lines c.in_ok-tell_clause.ensures.lines (sym (map-append Formula (take (n - c.args.from) (drop c.args.from cs)) (clause_at c.args.formula.now n ∷ [])) ∙ ap (map Formula) next);
+      taken = taken_more c.args.solver.now c.loop-number.solver c.tell_clause.new.solver (take (n - c.args.from) (drop c.args.from cs))
+          (clause_at c.args.formula.now n ∷ []) (take ((n + 1) - c.args.from) (drop c.args.from cs)) c.loop-number.invariant.taken
+          c.in_ok-tell_clause.ensures.taken next;
+      lines = goes_then (λ ls. Belongs ls c.args.solver.now) (λ ls. Belongs ls c.loop-number.solver) (λ ls. Belongs ls c.tell_clause.new.solver)
+          (k.tells c.args.log.now) (k.tells c.loop-number.log) (k.tells c.tell_clause.new.log)
+          (k.learnt c.args.log.now) (k.learnt c.loop-number.log) (k.learnt c.tell_clause.new.log) (map Formula (take (n - c.args.from) (drop c.args.from cs)))
+          (Formula (clause_at c.args.formula.now n) ∷ []) (map Formula (take ((n + 1) - c.args.from) (drop c.args.from cs)))
+          c.loop-number.invariant.lines c.in_ok-tell_clause.ensures.lines (sym (map-append Formula (take (n - c.args.from) (drop c.args.from cs))
+          (clause_at c.args.formula.now n ∷ [])) ∙ ap (map Formula) next);
       later = g.met.L.LogSink.later_more c.args.log.now c.loop-number.log c.tell_clause.new.log c.loop-number.invariant.later c.tell_clause.ensures.later;
       faults = (let a = c.loop-number.invariant.faults in let b = c.tell_clause.ensures.faults in omega arith);
     }
@@ -49,5 +55,7 @@ tell_clause-requires-clause-fits g c =
 pub returns-in_err-tell_clause-clause-leaves : goal.returns-in_err-tell_clause-clause-leaves
 returns-in_err-tell_clause-clause-leaves g c =
     let k = g.L.LogSink in
-    on_err_anyway _ _ (clauses_left (λ ls. Belongs ls c.args.solver.now) (λ ls. Belongs ls c.loop-number.solver) (k.tells c.args.log.now) (k.tells c.loop-number.log) (k.tells c.tell_clause.new.log) (k.learnt c.args.log.now) (k.learnt c.loop-number.log)
-    c.args.formula.now.clauses c.args.from c.loop-number.number c.loop-number.invariant.from (omega arith) c.loop-number.invariant.lines c.in_err-tell_clause.ensures.leaves)
+    on_err_anyway _ _ (clauses_left (λ ls. Belongs ls c.args.solver.now) (λ ls. Belongs ls c.loop-number.solver) (k.tells c.args.log.now)
+    (k.tells c.loop-number.log) (k.tells c.tell_clause.new.log) (k.learnt c.args.log.now) (k.learnt c.loop-number.log)
+    c.args.formula.now.clauses c.args.from c.loop-number.number c.loop-number.invariant.from (omega arith) c.loop-number.invariant.lines
+    c.in_err-tell_clause.ensures.leaves)

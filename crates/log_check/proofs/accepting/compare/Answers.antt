@@ -13,4 +13,5 @@ returns-in-None-behind-clause-compared c = λ e lines a w.
 
 pub returns-in-Some-behind-clause-compared : goal.returns-in-Some-behind-clause-compared
 returns-in-Some-behind-clause-compared c = λ e lines a w.
-    next_comes e lines c.args.line.now c.in-Some.now c.in-Some-behind.more c.if-not-is_clause_line.ensures (subst (AreAwaited e lines) c.in-Some.is w) c.in-Some-behind.ensures.0 c.in-Some-behind.ensures.1
+    next_comes e lines c.args.line.now c.in-Some.now c.in-Some-behind.more c.if-not-is_clause_line.ensures (subst (AreAwaited e lines) c.in-Some.is w)
+    c.in-Some-behind.ensures.0 c.in-Some-behind.ensures.1

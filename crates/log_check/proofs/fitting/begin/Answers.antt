@@ -6,11 +6,13 @@ use Rattle.log_check.proofs.fitting.begin.Goals as goal
 pub loop-i-preserved : goal.loop-i-preserved
 loop-i-preserved c = (
   c.in-Some.ensures.0,
-  awaited_more (awaited_lines c.args.all.now) (awaited_lines c.loop-i.awaited) (awaited_lines c.in-Some.more) c.args.lines.now c.loop-i.i c.get.result.now c.get.ensures.value c.loop-i.invariant.1 c.in-Some.ensures.1,
+  awaited_more (awaited_lines c.args.all.now) (awaited_lines c.loop-i.awaited) (awaited_lines c.in-Some.more) c.args.lines.now c.loop-i.i c.get.result.now
+      c.get.ensures.value c.loop-i.invariant.1 c.in-Some.ensures.1,
 )
 
 pub returns-in-None : goal.returns-in-None
-returns-in-None c = awaited_other (awaited_lines c.args.all.now) (awaited_lines c.loop-i.awaited) c.args.lines.now c.loop-i.i c.get.result.now c.get.ensures.value c.loop-i.invariant.1 c.in-None.ensures
+returns-in-None c = awaited_other (awaited_lines c.args.all.now) (awaited_lines c.loop-i.awaited) c.args.lines.now c.loop-i.i c.get.result.now
+    c.get.ensures.value c.loop-i.invariant.1 c.in-None.ensures
 
 pub returns : goal.returns
 returns c =

@@ -3,7 +3,8 @@ use Rattle.log_check.proofs.FittingLemmas.{room_more, room_missed}
 use Rattle.log_check.proofs.fitting.have_room.Goals as goal
 
 pub loop-i-preserved : goal.loop-i-preserved
-loop-i-preserved c = room_more ROOM c.loop-i.room c.in-Some.left c.args.lines.now c.loop-i.i c.get.result.now c.get.ensures.value c.loop-i.invariant c.in-Some.ensures
+loop-i-preserved c = room_more ROOM c.loop-i.room c.in-Some.left c.args.lines.now c.loop-i.i c.get.result.now c.get.ensures.value c.loop-i.invariant
+    c.in-Some.ensures
 
 pub returns-in-None : goal.returns-in-None
 returns-in-None c = room_missed ROOM c.loop-i.room c.args.lines.now c.loop-i.i c.get.result.now c.get.ensures.value c.loop-i.invariant c.in-None.ensures

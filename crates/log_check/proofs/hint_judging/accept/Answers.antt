@@ -6,4 +6,5 @@ returns-in-Ok c = λ e before h. accepted_next e before c.args.line.now c.args.c
 
 pub returns-in-Err-BadHint : goal.returns-in-Err-BadHint
 returns-in-Err-BadHint c = λ e before h.
-    bad_refused e before c.args.line.now c.args.checker.now c.in-Err-BadHint.field-0-0 h (c.in-Err-BadHint.ensures.bad c.in-Err-BadHint.field-0-0 c.in-Err-BadHint.field-0-is)
+    bad_refused e before c.args.line.now c.args.checker.now c.in-Err-BadHint.field-0-0 h
+    (c.in-Err-BadHint.ensures.bad c.in-Err-BadHint.field-0-0 c.in-Err-BadHint.field-0-is)

@@ -22,12 +22,14 @@ judge_body-requires-clause-begun c =
     let clauses = c.in_ok-checker.ensures.clauses ∙ c.in_ok-formula.ensures ∙ ap (λ (f : Cnf). f.clauses) c.formula.ensures in
     let bounds = c.deref-2.ensures.value ∙ c.in_ok-bounds.ensures ∙ ap bounds_of c.deref.ensures.value in (
       expectation y c.args.order.now cap,
-      begun y c.args.order.now cap e c.args.expected.now.parts.items c.in_ok-checker.checker c.deref-2.result.now w.expecting w.fits c.in_ok-checker.ensures.room clauses c.in_ok-checker.ensures.refuted bounds,
+      begun y c.args.order.now cap e c.args.expected.now.parts.items c.in_ok-checker.checker c.deref-2.result.now w.expecting w.fits
+          c.in_ok-checker.ensures.room clauses c.in_ok-checker.ensures.refuted bounds,
     )
 
 pub returns : goal.returns
 returns c =
     let clauses = c.in_ok-checker.ensures.clauses ∙ c.in_ok-formula.ensures ∙ ap (λ (f : Cnf). f.clauses) c.formula.ensures in
     let bounds = c.deref-2.ensures.value ∙ c.in_ok-bounds.ensures ∙ ap bounds_of c.deref.ensures.value in
-    body_within c.judge_body.result (value_of c.args.greatest.now) c.args.order.now c.args.claim.now c.args.body.now c.args.expected.now.encoded c.args.expected.now.parts.items c.in_ok-checker.checker c.deref-2.result.now c.in_ok-checker.ensures.room clauses
+    body_within c.judge_body.result (value_of c.args.greatest.now) c.args.order.now c.args.claim.now c.args.body.now c.args.expected.now.encoded
+    c.args.expected.now.parts.items c.in_ok-checker.checker c.deref-2.result.now c.in_ok-checker.ensures.room clauses
     c.in_ok-checker.ensures.refuted bounds c.judge_body.ensures

@@ -12,7 +12,8 @@ use Rattle.log_check.proofs.judging.judge_log.Goals as goal
 pub expected_of-requires-clause-within : goal.expected_of-requires-clause-within
 expected_of-requires-clause-within c =
     let counted = c.in_ok-caps.ensures in
-    caps_within (value_of c.greatest_values-greatest.result) (value_of c.in_ok-caps.caps) (limit_of c.args.g.now c.args.grid.now) counted.0 counted.2 c.greatest_values-greatest.ensures
+    caps_within (value_of c.greatest_values-greatest.result) (value_of c.in_ok-caps.caps) (limit_of c.args.g.now c.args.grid.now) counted.0 counted.2
+    c.greatest_values-greatest.ensures
 
 pub judge_text-requires-clause-awaited : goal.judge_text-requires-clause-awaited
 judge_text-requires-clause-awaited c =
@@ -34,11 +35,15 @@ returns-in-Ok c =
     let lines = all.ensures.lines ∙ ap (λ (f : Cnf). lines_from f.clauses c.deref.result.now 0 0) c.formula.ensures
     ∙ ap (λ (ps : List Part). lines_from c.in-Ok.expected.encoded.formula.clauses ps 0 0) c.deref.ensures.value ∙ c.in-Ok.ensures.so_far.lines in
     let counted = c.in_ok-caps.ensures in
-    log_judged c.judge_text.result (layout c.args.g.now c.args.t.now c.args.grid.now) c.args.order.now (value_of c.in_ok-caps.caps) (value_of c.greatest_values-greatest.result) c.args.claim.now c.args.log.now (Some all.result) c.nodes.ensures.station
-    c.requires.order c.width.ensures.is_grid c.greatest_values-greatest.ensures counted.0 counted.1 counted.2 (awaited_begun e all.result c.in-Ok.ensures.fits all.ensures.awaited lines) c.judge_text.ensures
+    log_judged c.judge_text.result (layout c.args.g.now c.args.t.now c.args.grid.now) c.args.order.now (value_of c.in_ok-caps.caps)
+    (value_of c.greatest_values-greatest.result) c.args.claim.now c.args.log.now (Some all.result) c.nodes.ensures.station
+    c.requires.order c.width.ensures.is_grid c.greatest_values-greatest.ensures counted.0 counted.1 counted.2
+    (awaited_begun e all.result c.in-Ok.ensures.fits all.ensures.awaited lines) c.judge_text.ensures
 
 pub returns-in-Err-Room : goal.returns-in-Err-Room
 returns-in-Err-Room c =
     let counted = c.in_ok-caps.ensures in
-    log_judged c.judge_text-in-Err-Room.result (layout c.args.g.now c.args.t.now c.args.grid.now) c.args.order.now (value_of c.in_ok-caps.caps) (value_of c.greatest_values-greatest.result) c.args.claim.now c.args.log.now None c.nodes.ensures.station
-    c.requires.order c.width.ensures.is_grid c.greatest_values-greatest.ensures counted.0 counted.1 counted.2 (c.in-Err-Room.ensures.full (cc)) c.judge_text-in-Err-Room.ensures
+    log_judged c.judge_text-in-Err-Room.result (layout c.args.g.now c.args.t.now c.args.grid.now) c.args.order.now (value_of c.in_ok-caps.caps)
+    (value_of c.greatest_values-greatest.result) c.args.claim.now c.args.log.now None c.nodes.ensures.station
+    c.requires.order c.width.ensures.is_grid c.greatest_values-greatest.ensures counted.0 counted.1 counted.2 (c.in-Err-Room.ensures.full (cc))
+    c.judge_text-in-Err-Room.ensures

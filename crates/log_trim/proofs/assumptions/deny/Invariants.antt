@@ -11,7 +11,8 @@ invariant-loop-l l = record {
   so_far : l.trail.lits ≡ l.fn.trail.lits ++ map negate (take l.l-index l.lits);
   cuts : l.trail.cuts ≡ l.fn.trail.cuts;
   front : l.trail.front ≡ l.fn.trail.front;
-  reasons : (a : Attached) (given : List Literal) → Includes (has given) (has (map negate l.lits)) → HaveReasons a l.fn.trail given → HaveReasons a l.trail given;
+  reasons : (a : Attached) (given : List Literal) → Includes (has given) (has (map negate l.lits)) → HaveReasons a l.fn.trail given →
+      HaveReasons a l.trail given;
   bare : (ls : List Literal) → HaveNoReason l.fn.trail ls → HaveNoReason l.trail (ls ++ map negate (take l.l-index l.lits));
   watched : (a : Attached) → AreWatched a l.fn.trail → AreWatched a l.trail;
 }

@@ -11,4 +11,5 @@ returns-then-not-is_empty c = λ e passes.
 pub returns : goal.returns
 returns c = λ e passes.
     let none : length c.args.wanted.now ≡ 0 = search rules in
-    readied_by_room e c.args.lines.now c.args.wanted.now c.have_room.result (nil_from_length c.args.wanted.now none) (c.if-has_clause_line.ensures) c.have_room.ensures
+    readied_by_room e c.args.lines.now c.args.wanted.now c.have_room.result (nil_from_length c.args.wanted.now none) (c.if-has_clause_line.ensures)
+    c.have_room.ensures

@@ -12,8 +12,10 @@ loop-l-preserved c =
     let v = c.var.ensures in
     let is = c.max-most.ensures in
     let here : IsThere c.max-most.result c.l-item.result = (omega (arith, v.from, v.value), omega (arith, v.value, is)) in
-    let so_far : AreThere c.max-most.result (take c.loop-l.l-index c.args.lits.now) = there_more c.loop-l.most c.max-most.result (take c.loop-l.l-index c.args.lits.now) (omega (arith, is)) inv.there in
-    let all : AreThere c.max-most.result (take c.loop-l.l-index c.args.lits.now ++ c.l-item.result ∷ []) = there_push c.max-most.result (take c.loop-l.l-index c.args.lits.now) c.l-item.result so_far here in
+    let so_far : AreThere c.max-most.result (take c.loop-l.l-index c.args.lits.now) = there_more c.loop-l.most c.max-most.result
+    (take c.loop-l.l-index c.args.lits.now) (omega (arith, is)) inv.there in
+    let all : AreThere c.max-most.result (take c.loop-l.l-index c.args.lits.now ++ c.l-item.result ∷ []) = there_push c.max-most.result
+    (take c.loop-l.l-index c.args.lits.now) c.l-item.result so_far here in
     record {
       there = subst (λ (ls : List Literal). AreThere c.max-most.result ls) (sym (take_more c.args.lits.now c.loop-l.l-index c.l-item.result c.loop-l-test.true))
           (subst (λ (k : Literal). AreThere c.max-most.result (take c.loop-l.l-index c.args.lits.now ++ k ∷ [])) c.l-item.is all);

@@ -7,9 +7,11 @@ loop-i-preserved c =
     let inv = c.loop-i.invariant in
     let g = c.greatest_in.ensures in
     record {
-      within = within_next c.loop-i.most c.greatest_in.result c.max-most.result c.args.lines.now c.loop-i.i c.get.result.now c.get.ensures.value c.max-most.ensures inv.within g.within;
+      within = within_next c.loop-i.most c.greatest_in.result c.max-most.result c.args.lines.now c.loop-i.i c.get.result.now c.get.ensures.value
+          c.max-most.ensures inv.within g.within;
       limit = let low = inv.limit in omega (arith, low, g.limit, c.max-most.ensures);
     }
 
 pub returns-clause-within : goal.returns-clause-within
-returns-clause-within c = let inv = c.loop-i.invariant in within_all c.loop-i.most c.args.lines.now c.loop-i.i (omega (arith, c.loop-i-test.false, c.len-i-end.ensures.value)) inv.within
+returns-clause-within c = let inv = c.loop-i.invariant in within_all c.loop-i.most c.args.lines.now c.loop-i.i
+    (omega (arith, c.loop-i-test.false, c.len-i-end.ensures.value)) inv.within

@@ -17,11 +17,15 @@ pub shorten-requires-clause-total : goal.shorten-requires-clause-total
 shorten-requires-clause-total c =
     let first = given_first c.args.lines.now c.args.wanted.now c.in_ok-hinting.hinting (c.in_ok-hinting.ensures c.args.wanted.now) in
     let inv = c.loop-i.invariant in
-    inv.learnt ∙ hinted_count c.args.lines.now c.args.wanted.now c.loop-i.i c.loop-i.hinting.list inv.hinted ∙ ap (λ n. n + learnt_among c.loop-i.hinting.list) (sym first)
+    inv.learnt ∙ hinted_count c.args.lines.now c.args.wanted.now c.loop-i.i c.loop-i.hinting.list inv.hinted
+    ∙ ap (λ n. n + learnt_among c.loop-i.hinting.list) (sym first)
 
 pub returns : goal.returns
 returns c =
     let first = given_first c.args.lines.now c.args.wanted.now c.in_ok-hinting.hinting (c.in_ok-hinting.ensures c.args.wanted.now) in
     let end : c.loop-i.i ≡ length c.args.lines.now = omega (arith, c.loop-i-test.false, c.loop-i.auto.i-end, c.len-i-end.ensures.value) in
-    let all = hinting_all c.args.lines.now c.args.wanted.now c.loop-i.i c.loop-i.hinting end c.loop-i.invariant in
-    (all.0, trimmed c.args.lines.now c.args.wanted.now c.in_ok-hinting.hinting.learnt c.loop-i.hinting.list c.in_ok-kept.kept c.requires first all.1 c.in_ok-kept.ensures)
+    let all = hinting_all c.args.lines.now c.args.wanted.now c.loop-i.i c.loop-i.hinting end c.loop-i.invariant in (
+      all.0,
+      trimmed c.args.lines.now c.args.wanted.now c.in_ok-hinting.hinting.learnt c.loop-i.hinting.list c.in_ok-kept.kept c.requires first all.1
+          c.in_ok-kept.ensures,
+    )

@@ -16,10 +16,12 @@ loop-i-preserved c =
     elim c.if-v-needed.branch [
       | then-v-needed w ↦ record {
         size = c.if-v-needed.auto.needed ∙ inv.size;
-        rest = λ on x mark. behind_cleared trail c.loop-i.i c.lit.result v x c.loop-i.needed lt lit.value var.value (inv.rest on) (cleared c.loop-i.needed v x w.if-v-needed.true (rw w.needed-is at mark));
+        rest = λ on x mark. behind_cleared trail c.loop-i.i c.lit.result v x c.loop-i.needed lt lit.value var.value (inv.rest on)
+            (cleared c.loop-i.needed v x w.if-v-needed.true (rw w.needed-is at mark));
       }
       | else-v-needed w ↦ record {
         size = c.if-v-needed.auto.needed ∙ inv.size;
-        rest = λ on x mark. behind_cleared trail c.loop-i.i c.lit.result v x c.loop-i.needed lt lit.value var.value (inv.rest on) (uncleared c.loop-i.needed v x w.if-v-needed.false (rw w.needed-is at mark));
+        rest = λ on x mark. behind_cleared trail c.loop-i.i c.lit.result v x c.loop-i.needed lt lit.value var.value (inv.rest on)
+            (uncleared c.loop-i.needed v x w.if-v-needed.false (rw w.needed-is at mark));
       }
     ]

@@ -24,11 +24,13 @@ loop-i-init c =
           let held = clauses.held (numbered all n) known.among in
           let each = needs_clause vars (numbered all n) (attached_at a p) c.args.needed.now c.name.new.needed known.padded held.there (need.size ∙ size) need in
           let marks = c.len-i.ensures.marks in
-          let first = go_first all vars m n (attached_at a p) c.args.needed.now c.name.new.needed marks.distinct known.valid known.padded clash.all_false each c.requires.unneeded (need.size ∙ size) need in
+          let first = go_first all vars m n (attached_at a p) c.args.needed.now c.name.new.needed marks.distinct known.valid known.padded clash.all_false each
+          c.requires.unneeded (need.size ∙ size) need in
           let hints : c.name.new.hints.items ≡ n ∷ [] = c.in_ok-name.ensures.hints ∙ ap (λ (ns : List ℕ). ns ++ n ∷ []) c.requires.none in
           subst (λ (ns : List ℕ). IsFoundFromFront all vars m c.len-i.result c.name.new.needed ns) (sym hints)
           (subst (λ i. IsFoundFromFront all vars m i c.name.new.needed (n ∷ [])) (sym end) first);
-      on_trail = on_trail_more (attached_at a p) m.lits c.args.needed.now c.name.new.needed (clash_on_trail m.lits (attached_at a p) clash.all_false) need (λ x mark. absurd (both_ways (is_needed c.args.needed.now x) (c.requires.unneeded x) mark));
+      on_trail = on_trail_more (attached_at a p) m.lits c.args.needed.now c.name.new.needed (clash_on_trail m.lits (attached_at a p) clash.all_false) need
+          (λ x mark. absurd (both_ways (is_needed c.args.needed.now x) (c.requires.unneeded x) mark));
     }
 
 pub loop-i-preserved : goal.loop-i-preserved

@@ -7,7 +7,8 @@ abbrev pub invariant-loop-i : goal.invariant-loop-i
 invariant-loop-i l = record {
   size : length l.needed ≡ length l.fn.needed;
   within : l.i ≤ length l.trail.lits;
-  goes_on : (vars : ℕ) (all taken : Clauses) → AreClauses vars all taken l.arena l.numbers → length l.fn.needed ≡ vars + 1 → IsFoundFromFront all vars l.trail l.i l.needed l.hints.items;
+  goes_on : (vars : ℕ) (all taken : Clauses) → AreClauses vars all taken l.arena l.numbers → length l.fn.needed ≡ vars + 1 →
+      IsFoundFromFront all vars l.trail l.i l.needed l.hints.items;
   on_trail : AreOnTrail l.needed l.trail.lits;
 }
 

@@ -36,7 +36,8 @@ returns-in_ok-name-in-Some-clause-goes_on c = λ vars all taken clauses size h.
     let p = c.in-Some.c.0 in
     let reason = c.in-Some.ensures.value in
     let marks = c.in-Some.ensures.marks in
-    let here = reason_at a m c.requires.reasons.0 c.args.i c.lit.result c.var-v.result.0 p c.requires.reasons.1 c.requires.within lit.value v.value reason.0 reason.1 in
+    let here = reason_at a m c.requires.reasons.0 c.args.i c.lit.result c.var-v.result.0 p c.requires.reasons.1 c.requires.within lit.value v.value reason.0
+    reason.1 in
     let known = clauses.known p here.place in
     let n = number_of_place c.args.numbers.now p in
     let held = clauses.held (numbered all n) known.among in
@@ -45,7 +46,8 @@ returns-in_ok-name-in-Some-clause-goes_on c = λ vars all taken clauses size h.
     let need = c.name.ensures.needs in
     let each = needs_clause vars (numbered all n) (attached_at a p) c.args.needed.now c.name.new.needed known.padded held.there (need.size ∙ size) need in
     let some = subst (λ x. 1 ≤ get_or m.reasons x 0) v.value reason.1 in
-    let on = go_on all vars m c.args.i c.lit.result n (attached_at a p) c.args.needed.now c.name.new.needed c.args.hints.now.items c.requires.within lit.value marks.distinct known.valid held.distinct known.padded here.unit low each need (need.size ∙ size) mine some h in
+    let on = go_on all vars m c.args.i c.lit.result n (attached_at a p) c.args.needed.now c.name.new.needed c.args.hints.now.items c.requires.within lit.value
+    marks.distinct known.valid held.distinct known.padded here.unit low each need (need.size ∙ size) mine some h in
     subst (λ (ns : List ℕ). IsFoundFromFront all vars m c.args.i c.name.new.needed ns) (sym c.in_ok-name-in-Some.ensures.hints) on
 
 pub returns-in_ok-name-in-Some-clause-on_trail : goal.returns-in_ok-name-in-Some-clause-on_trail
@@ -56,5 +58,7 @@ returns-in_ok-name-in-Some-clause-on_trail c = λ h.
     let lit = c.lit.ensures in
     let p = c.in-Some.c.0 in
     let reason = c.in-Some.ensures.value in
-    let here = reason_at a m c.requires.reasons.0 c.args.i c.lit.result c.var-v.result.0 p c.requires.reasons.1 c.requires.within lit.value v.value reason.0 reason.1 in
-    on_trail_more (attached_at a p) m.lits c.args.needed.now c.name.new.needed (reason_on_trail m.lits c.args.i c.lit.result (attached_at a p) c.requires.within lit.value here.unit.others) c.name.ensures.needs h
+    let here = reason_at a m c.requires.reasons.0 c.args.i c.lit.result c.var-v.result.0 p c.requires.reasons.1 c.requires.within lit.value v.value reason.0
+    reason.1 in
+    on_trail_more (attached_at a p) m.lits c.args.needed.now c.name.new.needed (reason_on_trail m.lits c.args.i c.lit.result (attached_at a p) c.requires.within
+    lit.value here.unit.others) c.name.ensures.needs h

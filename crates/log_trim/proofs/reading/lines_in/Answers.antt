@@ -5,7 +5,7 @@ use Rattle.log_trim.proofs.ReadingLemmas.{read_none, read_next, read_whole, read
 use Rattle.log_trim.proofs.reading.lines_in.Goals as goal
 
 pub returns-in_default : goal.returns-in_default
-returns-in_default c = read_headless c.args.log.now (where_none _ _ c.behind.result c.behind.ensures c.in_default.not-Some)
+returns-in_default c = read_headless c.args.log.now (where_none _ _ c.behind_header.result c.behind_header.ensures c.in_default.not-Some)
 
 pub loop-rest-init : goal.loop-rest-init
 loop-rest-init c = read_none c.args.log.now c.in-Some.body.now c.new-list.result c.new-list.ensures c.in-Some.ensures
@@ -16,11 +16,13 @@ push-requires c = (line_next c.loop-rest.rest.now c.in_ok-line.field-0 c.in-Line
 pub loop-rest-preserved : goal.loop-rest-preserved
 loop-rest-preserved c =
     let next = line_next c.loop-rest.rest.now c.in_ok-line.field-0 c.in-Line.line c.in-Line.more c.in-Line.is c.in_ok-line.ensures in
-    read_next c.args.log.now c.loop-rest.rest.now c.in-Line.more.now c.loop-rest.list c.push.new.self c.in-Line.line next.0 next.1 c.in_ok-push-in-Line.ensures.ok c.loop-rest.invariant
+    read_next c.args.log.now c.loop-rest.rest.now c.in-Line.more.now c.loop-rest.list c.push.new.self c.in-Line.line next.0 next.1
+    c.in_ok-push-in-Line.ensures.ok c.loop-rest.invariant
 
 pub returns-in-Fault : goal.returns-in-Fault
 returns-in-Fault c =
-    read_faulty c.args.log.now c.loop-rest.rest.now c.loop-rest.list c.in-Fault.field-0 c.loop-rest.invariant (fault_next c.loop-rest.rest.now c.in_ok-line.field-0 c.in-Fault.field-0 c.in-Fault.is c.in_ok-line.ensures)
+    read_faulty c.args.log.now c.loop-rest.rest.now c.loop-rest.list c.in-Fault.field-0 c.loop-rest.invariant
+    (fault_next c.loop-rest.rest.now c.in_ok-line.field-0 c.in-Fault.field-0 c.in-Fault.is c.in_ok-line.ensures)
 
 pub returns : goal.returns
 returns c =

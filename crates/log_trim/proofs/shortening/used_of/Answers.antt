@@ -8,14 +8,17 @@ use Rattle.log_trim.proofs.shortening.used_of.Goals as goal
 pub before-n-requires : goal.before-n-requires
 before-n-requires c =
     let inv = c.loop-i.invariant in
-    count_within c.args.list.now (c.loop-i.i - 1) c.loop-i.i c.get-line.result.now c.loop-i.n c.args.given c.args.total (omega (arith, c.loop-i-test.true)) c.get-line.ensures inv.count c.requires.total
+    count_within c.args.list.now (c.loop-i.i - 1) c.loop-i.i c.get-line.result.now c.loop-i.n c.args.given c.args.total (omega (arith, c.loop-i-test.true))
+    c.get-line.ensures inv.count c.requires.total
 
 pub use_line-requires-clause-below : goal.use_line-requires-clause-below
 use_line-requires-clause-below c =
     let inv = c.loop-i.invariant in
     let next : c.loop-i.i ≡ suc (c.loop-i.i - 1) = omega (arith, c.loop-i-test.true) in
-    let count = count_before c.args.list.now (c.loop-i.i - 1) c.loop-i.i c.get-line.result.now c.before-n.result c.loop-i.n c.args.total next c.get-line.ensures inv.count c.before-n.ensures in
-    below_here c.args.list.now (c.loop-i.i - 1) c.loop-i.i c.get-line.result.now c.before-n.result c.args.given next c.get-line.ensures (count ∙ c.requires.total) c.requires.below
+    let count = count_before c.args.list.now (c.loop-i.i - 1) c.loop-i.i c.get-line.result.now c.before-n.result c.loop-i.n c.args.total next
+    c.get-line.ensures inv.count c.before-n.ensures in
+    below_here c.args.list.now (c.loop-i.i - 1) c.loop-i.i c.get-line.result.now c.before-n.result c.args.given next c.get-line.ensures
+    (count ∙ c.requires.total) c.requires.below
 
 pub loop-i-preserved : goal.loop-i-preserved
 loop-i-preserved c =
@@ -39,5 +42,6 @@ loop-i-preserved c =
       within = let was = inv.within in omega (arith, was);
       count = count_before list (c.loop-i.i - 1) c.loop-i.i line c.before-n.result c.loop-i.n c.args.total next c.get-line.ensures inv.count c.before-n.ensures;
       marked = subst (λ (bs : List Bool). IsMarkedFrom bs c.before-n.result (drop (c.loop-i.i - 1) list)) (sym whole)
-          (subst (λ (ls : HintLines). IsMarkedFrom now c.before-n.result ls) (sym (drop_here list (c.loop-i.i - 1) c.loop-i.i line next c.get-line.ensures)) marked);
+          (subst (λ (ls : HintLines). IsMarkedFrom now c.before-n.result ls) (sym (drop_here list (c.loop-i.i - 1) c.loop-i.i line next c.get-line.ensures))
+          marked);
     }

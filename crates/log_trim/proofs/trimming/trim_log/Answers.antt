@@ -21,7 +21,8 @@ pub returns-in_default-2 : goal.returns-in_default-2
 returns-in_default-2 c = λ whole.
     let is : IsSpelledLog c.args.log.now c.in-Some.lines = rw c.in-Some.is at c.in_ok-lines.ensures in
     where_none _ _ c.in_ok-wanted.field-0 c.in_ok-wanted.ensures c.in_default-2.not-Some
-    (certified_by (layout c.args.g.now c.args.t.now c.args.grid.now) c.args.order.now c.args.claim.now c.args.log.now (value_of c.greatest_values-greatest.result) c.in-Some.lines whole is c.greatest_values-greatest.ensures)
+    (certified_by (layout c.args.g.now c.args.t.now c.args.grid.now) c.args.order.now c.args.claim.now c.args.log.now
+    (value_of c.greatest_values-greatest.result) c.in-Some.lines whole is c.greatest_values-greatest.ensures)
 
 pub kept_of-requires-clause-wanted : goal.kept_of-requires-clause-wanted
 kept_of-requires-clause-wanted c =
@@ -34,7 +35,8 @@ pub returns-in_default-3 : goal.returns-in_default-3
 returns-in_default-3 c = λ whole.
     let is : IsSpelledLog c.args.log.now c.in-Some.lines = rw c.in-Some.is at c.in_ok-lines.ensures in
     where_none _ _ c.in_ok-kept.field-0 c.in_ok-kept.ensures c.in_default-3.not-Some
-    (accepted_by (layout c.args.g.now c.args.t.now c.args.grid.now) c.args.order.now c.args.claim.now c.args.log.now (value_of c.greatest_values-greatest.result) (value_of c.in_ok-caps.caps) c.in-Some.lines whole is
+    (accepted_by (layout c.args.g.now c.args.t.now c.args.grid.now) c.args.order.now c.args.claim.now c.args.log.now
+    (value_of c.greatest_values-greatest.result) (value_of c.in_ok-caps.caps) c.in-Some.lines whole is
     c.greatest_values-greatest.ensures c.in_ok-caps.ensures)
 
 pub returns : goal.returns
@@ -54,5 +56,9 @@ returns c =
     let are = subst (λ (ns : List ℕ). AreWanted greatest lines order claim ns) (sym c.deref-2.ensures.value) found in
     let kept : IsKeptOf (expectation y order caps) lines wanted c.in-Some-3.kept = rw c.in-Some-3.is at c.in_ok-kept.ensures in (
       whole_by y order claim log greatest caps lines is same counted kept.accepted (wanted_certify greatest lines order claim wanted are),
-      trimmed_log y order claim log greatest (record { caps = c.in_ok-caps.caps; kept = c.in-Some-3.kept; learnt = c.count_learnt-learnt.result }) lines wanted is same counted are kept c.count_learnt-learnt.ensures,
+      trimmed_log y order claim log greatest (record {
+        caps = c.in_ok-caps.caps;
+        kept = c.in-Some-3.kept;
+        learnt = c.count_learnt-learnt.result;
+      }) lines wanted is same counted are kept c.count_learnt-learnt.ensures,
     )

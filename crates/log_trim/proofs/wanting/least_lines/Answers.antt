@@ -11,7 +11,8 @@ returns-in-None c =
     let is = c.of.ensures in
     let more = c.if-of-gt0.true in
     let positive : 1 ≤ value_of c.args.v.now c.get-c.result = omega (arith, more, is) in
-    not_shown (value_of c.args.greatest.now) c.args.lines.now c.args.order.now c.deref.result.now c.args.v.now c.args.s c.loop-i.i c.get-c.result c.loop-i-test.true c.get-c.ensures (c.deref.ensures.value ∙ c.loop-i.invariant.held) positive
+    not_shown (value_of c.args.greatest.now) c.args.lines.now c.args.order.now c.deref.result.now c.args.v.now c.args.s c.loop-i.i c.get-c.result
+    c.loop-i-test.true c.get-c.ensures (c.deref.ensures.value ∙ c.loop-i.invariant.held) positive
     (rw c.in-None.is at c.in_ok-place.ensures)
 
 pub loop-i-preserved : goal.loop-i-preserved
@@ -24,17 +25,20 @@ loop-i-preserved c =
     let old = c.loop-i.wanted.items in
     let is = c.of.ensures in
     record {
-      held = take_next order i c.get-c.result c.loop-i.earlier.items c.push-in-loop-i.new.self.items c.get-c.ensures c.loop-i.invariant.held c.in_ok-push.ensures.items;
+      held = take_next order i c.get-c.result c.loop-i.earlier.items c.push-in-loop-i.new.self.items c.get-c.ensures c.loop-i.invariant.held
+          c.in_ok-push.ensures.items;
       wanted = elim c.if-of-gt0.branch [
         | then-of-gt0+in_ok-place+in-Some+in_ok-push-in-Some w ↦
             let more = w.if-of-gt0.true in
             let positive : 1 ≤ value_of v c.get-c.result = omega (arith, more, is) in
-            of_shown greatest lines order w.deref.result.now v i w.in-Some.place c.get-c.result old c.if-of-gt0.wanted.items c.get-c.ensures (w.deref.ensures.value ∙ c.loop-i.invariant.held) positive
+            of_shown greatest lines order w.deref.result.now v i w.in-Some.place c.get-c.result old c.if-of-gt0.wanted.items c.get-c.ensures
+            (w.deref.ensures.value ∙ c.loop-i.invariant.held) positive
             (rw w.in-Some.is at w.in_ok-place.ensures) (ap (λ b. b.items) w.wanted-is ∙ w.in_ok-push-in-Some.ensures.items) c.loop-i.invariant.wanted
         | else-of-gt0 w ↦
             let none = w.if-of-gt0.false in
             let zero : value_of v c.get-c.result ≤ 0 = omega (arith, none, is) in
-            subst (λ (ns : List ℕ). AreOfLeast greatest lines order v (i + 1) ns) (sym (ap (λ b. b.items) w.wanted-is)) (of_zero greatest lines order v i c.get-c.result old c.get-c.ensures zero c.loop-i.invariant.wanted)
+            subst (λ (ns : List ℕ). AreOfLeast greatest lines order v (i + 1) ns) (sym (ap (λ b. b.items) w.wanted-is))
+            (of_zero greatest lines order v i c.get-c.result old c.get-c.ensures zero c.loop-i.invariant.wanted)
       ];
     }
 

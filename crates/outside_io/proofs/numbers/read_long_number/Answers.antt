@@ -2,7 +2,8 @@ use Rattle.std.proofs.Common.{◌≡◌, ◌<◌, ◌^◌, arith}
 use Rattle.std.proofs.lemmas.Bool.{false≢true}
 use Rattle.outside_io.proofs.NumberLemmas.{field_begins, one_number}
 use Rattle.outside_io.proofs.numbers.read_long_number.Goals as goal
-use Rattle.outside_io.proofs.numbers.read_long_number.Goals.{else-least-number-via-then-least-number+else-number-greatest, else-least-number-via-else-least-number}
+use Rattle.outside_io.proofs.numbers.read_long_number.Goals.{else-least-number-via-then-least-number+else-number-greatest}
+use Rattle.outside_io.proofs.numbers.read_long_number.Goals.{else-least-number-via-else-least-number}
 
 pub returns-then-not-begins_canonical : goal.returns-then-not-begins_canonical
 returns-then-not-begins_canonical c n h =

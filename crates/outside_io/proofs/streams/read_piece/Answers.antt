@@ -15,7 +15,8 @@ returns-in-Ok-clause-ok g c =
       bytes = take c.in-Ok.came c.read_once.new.buf;
       count = sym read.bound.1;
       within = omega (arith, is_long);
-      added = c.truncate.ensures.items ∙ take-read_in_place c.args.into.now.items c.deref_mut.result.now c.read_once.new.buf _ _ c.len-start.result c.in-Ok.came _ is_start kept read.bound.0 (omega (arith, is_long));
+      added = c.truncate.ensures.items ∙ take-read_in_place c.args.into.now.items c.deref_mut.result.now c.read_once.new.buf _ _ c.len-start.result c.in-Ok.came
+          _ is_start kept read.bound.0 (omega (arith, is_long));
       taken = read.bytes.0;
       at_end = λ none. read.bytes.1 none (omega (arith, is_long));
     }

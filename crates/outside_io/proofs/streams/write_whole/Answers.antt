@@ -11,5 +11,6 @@ loop-rest-preserved g c =
       left = drop-piece _ c.args.bytes.now before.done c.in-Ok.taken before.left;
       written =
           Appends-more _ _ _ c.args.bytes.now before.done c.in-Ok.taken before.written
-          (subst (λ (rest : List ℕ). Appends (g.W.Write.contents c.loop-rest.out) (g.W.Write.contents c.write_once.new.out) (take c.in-Ok.taken rest)) before.left c.in-Ok.ensures.bytes);
+          (subst (λ (rest : List ℕ). Appends (g.W.Write.contents c.loop-rest.out) (g.W.Write.contents c.write_once.new.out) (take c.in-Ok.taken rest))
+          before.left c.in-Ok.ensures.bytes);
     }

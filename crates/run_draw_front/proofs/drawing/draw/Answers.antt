@@ -16,7 +16,8 @@ returns-in-Ok-clause-answer g c =
     let at = g.F.Files.at in
     let traced = told_to {Self = g.row.T.Denot} g.T.LogSink.tells g.T.LogSink.learnt c.args.trace.now c.draw_station.new.trace in
     IfOk-weaker c.draw_station.result _ _ (λ r answer.
-    drawn_on c.args.asked.now c.args.input.now (at c.args.files.now) (at c.station_of.new.files) (at c.draw_station.new.files) traced c.in-Ok.station.graph c.in-Ok.station.order r.status r.text.items
+    drawn_on c.args.asked.now c.args.input.now (at c.args.files.now) (at c.station_of.new.files) (at c.draw_station.new.files) traced c.in-Ok.station.graph
+    c.in-Ok.station.order r.status r.text.items
     c.in-Ok.ensures.station c.in-Ok.ensures.same (c.draw_station.ensures.reads ∙ c.in-Ok.ensures.reads) answer)
     c.draw_station.ensures.answer
 
@@ -28,21 +29,24 @@ returns-in-Ok-clause-leaves g c =
     let at = g.F.Files.at in
     let traced = told_to {Self = g.row.T.Denot} g.T.LogSink.tells g.T.LogSink.learnt c.args.trace.now c.draw_station.new.trace in
     let Refused : Type 0 = IsOkAnd c.draw_station.result (λ r. IsRefused r.status) in
-    leaves_on c.args.asked.now c.args.input.now (at c.args.files.now) (at c.station_of.new.files) (at c.draw_station.new.files) traced c.in-Ok.station.graph c.in-Ok.station.order Refused c.in-Ok.ensures.station
+    leaves_on c.args.asked.now c.args.input.now (at c.args.files.now) (at c.station_of.new.files) (at c.draw_station.new.files) traced c.in-Ok.station.graph
+    c.in-Ok.station.order Refused c.in-Ok.ensures.station
     (c.draw_station.ensures.reads ∙ c.in-Ok.ensures.reads) c.in-Ok.ensures.same c.draw_station.ensures.unrefused c.draw_station.ensures.leaves
 
 pub returns-in-Ok-clause-unwritten : goal.returns-in-Ok-clause-unwritten
 returns-in-Ok-clause-unwritten g c =
     let at = g.F.Files.at in
     let Refused : Type 0 = IsOkAnd c.draw_station.result (λ r. IsRefused r.status) in
-    unwritten_on c.args.asked.now c.args.input.now (at c.args.files.now) (at c.station_of.new.files) (at c.draw_station.new.files) c.in-Ok.station.graph c.in-Ok.station.order Refused c.in-Ok.ensures.station
+    unwritten_on c.args.asked.now c.args.input.now (at c.args.files.now) (at c.station_of.new.files) (at c.draw_station.new.files) c.in-Ok.station.graph
+    c.in-Ok.station.order Refused c.in-Ok.ensures.station
     (c.draw_station.ensures.reads ∙ c.in-Ok.ensures.reads) c.draw_station.ensures.unrefused c.in-Ok.ensures.unwritten c.draw_station.ensures.unwritten
 
 pub returns-in-Ok-clause-untold : goal.returns-in-Ok-clause-untold
 returns-in-Ok-clause-untold g c =
     let at = g.F.Files.at in
     let Refused : Type 0 = IsOkAnd c.draw_station.result (λ r. IsRefused r.status) in
-    untold_on c.args.asked.now c.args.input.now (at c.args.files.now) (at c.draw_station.new.files) c.in-Ok.station.graph c.in-Ok.station.order Refused c.args.trace.now c.draw_station.new.trace c.in-Ok.ensures.station
+    untold_on c.args.asked.now c.args.input.now (at c.args.files.now) (at c.draw_station.new.files) c.in-Ok.station.graph c.in-Ok.station.order Refused
+    c.args.trace.now c.draw_station.new.trace c.in-Ok.ensures.station
     (c.draw_station.ensures.reads ∙ c.in-Ok.ensures.reads) c.draw_station.ensures.unrefused c.draw_station.ensures.untold
 
 pub returns-in_ok-fault_reply-in-Err-Fault-clause-answer : goal.returns-in_ok-fault_reply-in-Err-Fault-clause-answer
@@ -51,7 +55,8 @@ returns-in_ok-fault_reply-in-Err-Fault-clause-answer g c =
     let met = between (at c.args.files.now) (at c.station_of.new.files) in
     let traced = told_to {Self = g.row.T.Denot} g.T.LogSink.tells g.T.LogSink.learnt c.args.trace.now c.args.trace.now in
     let reply = c.in_ok-fault_reply-in-Err-Fault.field-0 in
-    refused_on (IsDrawAnswer c.args.asked.now met traced) c.args.input.now met c.in-Err-Fault.field-0 c.in-Err-Fault.fault reply.status reply.text.items c.in-Err-Fault.ensures.refusal
+    refused_on (IsDrawAnswer c.args.asked.now met traced) c.args.input.now met c.in-Err-Fault.field-0 c.in-Err-Fault.fault reply.status reply.text.items
+    c.in-Err-Fault.ensures.refusal
     c.in-Err-Fault.field-0-is c.in_ok-fault_reply-in-Err-Fault.ensures.told
 
 pub returns-in_err-fault_reply-in-Err-Fault-clause-derives : goal.returns-in_err-fault_reply-in-Err-Fault-clause-derives

@@ -16,7 +16,8 @@ pub returns-in-Ok-clause-derives : goal.returns-in-Ok-clause-derives
 returns-in-Ok-clause-derives g c =
     let k = g.L.LogSink in
     let lines = c.in-Ok.ensures.lines in
-    new_told (k.tells c.args.log.now) (k.tells c.minimise.new.log) lines.0 (g.met.L.LogSink.one_reading c.minimise.new.log) lines.1.behind (searched_of _ _ c.in-Ok.outcome lines.0 lines.2).derives
+    new_told (k.tells c.args.log.now) (k.tells c.minimise.new.log) lines.0 (g.met.L.LogSink.one_reading c.minimise.new.log) lines.1.behind
+    (searched_of _ _ c.in-Ok.outcome lines.0 lines.2).derives
 
 pub returns-in-Err-Log-clause-derives : goal.returns-in-Err-Log-clause-derives
 returns-in-Err-Log-clause-derives g c = λ none lines is. (c.in-Err-Log.ensures.left none lines is).derives

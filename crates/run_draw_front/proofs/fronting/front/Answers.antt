@@ -16,7 +16,8 @@ pub returns-in-Ok-clause-untold : goal.returns-in-Ok-clause-untold
 returns-in-Ok-clause-untold g c =
     let at = g.F.Files.at in
     let Refused : Type 0 = IsOkAnd c.front_station.result (λ r. IsRefused r.status) in
-    untold_here c.args.input.now (at c.args.files.now) (at c.station_of.new.files) c.in-Ok.station.graph c.in-Ok.station.order Refused c.args.trace.now c.front_station.new.log c.in-Ok.ensures.station c.in-Ok.ensures.reads c.front_station.ensures.unrefused
+    untold_here c.args.input.now (at c.args.files.now) (at c.station_of.new.files) c.in-Ok.station.graph c.in-Ok.station.order Refused c.args.trace.now
+    c.front_station.new.log c.in-Ok.ensures.station c.in-Ok.ensures.reads c.front_station.ensures.unrefused
 
 pub returns-in_ok-fault_reply-in-Err-Fault-clause-answer : goal.returns-in_ok-fault_reply-in-Err-Fault-clause-answer
 returns-in_ok-fault_reply-in-Err-Fault-clause-answer g c =
@@ -24,7 +25,8 @@ returns-in_ok-fault_reply-in-Err-Fault-clause-answer g c =
     let met = between (at c.args.files.now) (at c.station_of.new.files) in
     let traced = told_to {Self = g.row.T.Denot} g.T.LogSink.tells g.T.LogSink.learnt c.args.trace.now c.args.trace.now in
     let reply = c.in_ok-fault_reply-in-Err-Fault.field-0 in
-    refused_on (IsFrontAnswer c.args.asked.now traced) c.args.input.now met c.in-Err-Fault.field-0 c.in-Err-Fault.fault reply.status reply.text.items c.in-Err-Fault.ensures.refusal
+    refused_on (IsFrontAnswer c.args.asked.now traced) c.args.input.now met c.in-Err-Fault.field-0 c.in-Err-Fault.fault reply.status reply.text.items
+    c.in-Err-Fault.ensures.refusal
     c.in-Err-Fault.field-0-is c.in_ok-fault_reply-in-Err-Fault.ensures.told
 
 pub returns-in_err-fault_reply-in-Err-Fault-clause-derives : goal.returns-in_err-fault_reply-in-Err-Fault-clause-derives

@@ -6,7 +6,8 @@ use Rattle.run_draw_front.proofs.fronting.front_station.Goals as goal
 pub returns-in_ok-text_of-in-Ok-clause-answer : goal.returns-in_ok-text_of-in-Ok-clause-answer
 returns-in_ok-text_of-in-Ok-clause-answer g c =
     let traced = told_to {Self = g.row.L.Denot} g.L.LogSink.tells g.L.LogSink.learnt c.args.log.now c.front.new.log in
-    fronted c.asked.inside.grid.now c.asked.inside.first c.asked.inside.second c.asked.inside.budget c.args.asked.now traced c.args.station.now.graph c.args.station.now.order c.in-Ok.found.pairs c.in-Ok.found.ending c.status_of.result
+    fronted c.asked.inside.grid.now c.asked.inside.first c.asked.inside.second c.asked.inside.budget c.args.asked.now traced c.args.station.now.graph
+    c.args.station.now.order c.in-Ok.found.pairs c.in-Ok.found.ending c.status_of.result
     c.in_ok-text_of-in-Ok.field-0.items c.asked.view_is c.in-Ok.ensures.right c.in-Ok.ensures.lines c.status_of.ensures c.in_ok-text_of-in-Ok.ensures
 
 pub returns-in_err-text_of-in-Ok-clause-derives : goal.returns-in_err-text_of-in-Ok-clause-derives

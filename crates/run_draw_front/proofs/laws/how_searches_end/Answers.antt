@@ -21,7 +21,8 @@ use Rattle.run_draw_front.proofs.laws.how_searches_end.Goals as goal
 pub returns-clause-full : goal.returns-clause-full
 returns-clause-full c = λ g o asked lines found s ended. full_from (search_of g o asked) asked.order s found lines ended
 
-unfinished : (g : Graph) (o : EdgeOrder) (asked : Job) (outcome : Outcome) (lines : Lines) → IsOutcome (search_of g o asked) asked.order outcome lines → status_of outcome ≡ Unfinished →
+unfinished : (g : Graph) (o : EdgeOrder) (asked : Job) (outcome : Outcome) (lines : Lines) → IsOutcome (search_of g o asked) asked.order outcome lines →
+    status_of outcome ≡ Unfinished →
     ((length (flat_map learnt lines) ≡ asked.budget) × Open lines)
     ⊎ ((found : Option Values) × IsFullLog (problem_of (layout g o asked.grid)) (limit_of g asked.grid) asked.order lines found ROOM)
 unfinished g o asked (outcomes.Best d) lines ended is = absurd (cc)

@@ -8,7 +8,8 @@ pub signal_reply-requires-clause-room : goal.signal_reply-requires-clause-room
 signal_reply-requires-clause-room g c =
     let searched = c.in_ok-outcome.ensures.searched in
     let found = c.args.found.now in
-    found_has_room found.station.graph found.station.order c.args.asked.now found.placed c.in_ok-outcome.outcome searched.lines searched.ended (least_is_need found.placed c.args.asked.now c.requires.least) c.requires.drawn
+    found_has_room found.station.graph found.station.order c.args.asked.now found.placed c.in_ok-outcome.outcome searched.lines searched.ended
+    (least_is_need found.placed c.args.asked.now c.requires.least) c.requires.drawn
 
 pub returns-clause-answer : goal.returns-clause-answer
 returns-clause-answer g c =
@@ -17,5 +18,6 @@ returns-clause-answer g c =
     let met = between (at c.args.files.now) (at c.search_told.new.files) in
     let found = c.args.found.now in
     let reply = c.in_ok-signal_reply.ensures in
-    signalled c.args.asked.now met traced found.station.graph found.station.order found.signals found.placed c.in_ok-outcome.outcome _ _ _ c.requires.least c.requires.unpictured c.in_ok-outcome.ensures.searched reply.read reply.short
+    signalled c.args.asked.now met traced found.station.graph found.station.order found.signals found.placed c.in_ok-outcome.outcome _ _ _ c.requires.least
+    c.requires.unpictured c.in_ok-outcome.ensures.searched reply.read reply.short
     reply.status_is refl reply.spelled

@@ -11,14 +11,16 @@ use Rattle.run_input.proofs.MetLemmas.{reads_one}
 use Rattle.run_draw_front.specs.Drawn.{Job, job}
 use Rattle.run_draw_front.specs.Signalled.{HasReadSignals}
 use Rattle.run_draw_front.proofs.LeavesLemmas.{NamedMay}
-use Rattle.run_draw_front.proofs.SignalledLemmas.{as_many_places, longer_is, signalled_for, signalled_on, signals_refused_on, signals_leave, signals_unwritten, signals_untold}
+use Rattle.run_draw_front.proofs.SignalledLemmas.{as_many_places, longer_is, signalled_for, signalled_on, signals_refused_on, signals_leave, signals_unwritten}
+use Rattle.run_draw_front.proofs.SignalledLemmas.{signals_untold}
 use Rattle.run_draw_front.proofs.DerivesLemmas.{new_unchanged}
 use Rattle.run_draw_front.proofs.signalling.signals.Goals as goal
 
 pub signal_station-requires-clause-same : goal.signal_station-requires-clause-same
 signal_station-requires-clause-same g c =
     let found = c.in-Ok.found in
-    as_many_places c.args.input.now (g.F.Files.at c.args.files.now).contents found.station.graph found.station.order found.signals found.placed c.in-Ok.ensures.station
+    as_many_places c.args.input.now (g.F.Files.at c.args.files.now).contents found.station.graph found.station.order found.signals found.placed
+    c.in-Ok.ensures.station
 
 pub returns-in-Ok-clause-answer : goal.returns-in-Ok-clause-answer
 returns-in-Ok-clause-answer g c =
@@ -33,7 +35,8 @@ returns-in-Ok-clause-answer g c =
     let longer = job c.grid_for-grid.result inside.order inside.budget inside.svg inside.log in
     let same = longer_is found.placed inside asked c.grid_for-grid.result c.asked.view_is c.grid_for-grid.ensures in
     IfOk-weaker c.signal_station.result _ _ (λ r answer.
-    signalled_on asked c.args.input.now old mid new traced found.station.graph found.station.order found.signals found.placed r.status r.text.items c.in-Ok.ensures.station c.in-Ok.ensures.same
+    signalled_on asked c.args.input.now old mid new traced found.station.graph found.station.order found.signals found.placed r.status r.text.items
+    c.in-Ok.ensures.station c.in-Ok.ensures.same
     (c.signal_station.ensures.reads ∙ c.in-Ok.ensures.reads) c.requires.unpictured
     (signalled_for asked longer (between mid new) traced found.station.graph found.station.order found.signals found.placed r.status r.text.items same answer))
     c.signal_station.ensures.answer
@@ -50,7 +53,8 @@ returns-in-Ok-clause-leaves g c =
     let found = c.in-Ok.found in
     let Refused : Type 0 = IsOkAnd c.signal_station.result (λ r. IsRefused r.status) in
     let is_log = ap (λ (j : Job). j.log) c.asked.view_is in
-    signals_leave c.args.asked.now c.args.input.now old mid new found.station.graph found.station.order found.signals found.placed Refused c.in-Ok.ensures.station (c.signal_station.ensures.reads ∙ c.in-Ok.ensures.reads) c.in-Ok.ensures.same
+    signals_leave c.args.asked.now c.args.input.now old mid new found.station.graph found.station.order found.signals found.placed Refused
+    c.in-Ok.ensures.station (c.signal_station.ensures.reads ∙ c.in-Ok.ensures.reads) c.in-Ok.ensures.same
     c.signal_station.ensures.unrefused
     (subst (λ (log : Option (List ℕ)). WhereTold mid.contents new.contents (LeftSo (NamedMay log BeginsLog))) is_log c.signal_station.ensures.leaves)
 
@@ -71,7 +75,8 @@ returns-in-Ok-clause-unwritten g c =
       read = c.signal_station.ensures.reads ∙ c.in-Ok.ensures.reads;
       has = c.in-Ok.ensures.station;
     } in
-    signals_unwritten c.args.asked.now.log c.args.input.now old mid new Refused has c.signal_station.ensures.unrefused c.in-Ok.ensures.unwritten (λ none. c.signal_station.ensures.unwritten (is_log ∙ none))
+    signals_unwritten c.args.asked.now.log c.args.input.now old mid new Refused has c.signal_station.ensures.unrefused c.in-Ok.ensures.unwritten
+    (λ none. c.signal_station.ensures.unwritten (is_log ∙ none))
 
 pub returns-in-Ok-clause-untold : goal.returns-in-Ok-clause-untold
 returns-in-Ok-clause-untold g c =
@@ -89,7 +94,8 @@ returns-in-Ok-clause-untold g c =
       read = c.signal_station.ensures.reads ∙ c.in-Ok.ensures.reads;
       has = c.in-Ok.ensures.station;
     } in
-    signals_untold c.args.asked.now.log c.args.input.now old new Refused c.args.trace.now c.signal_station.new.trace has c.signal_station.ensures.unrefused (λ named. c.signal_station.ensures.untold (λ none. named (sym is_log ∙ none)))
+    signals_untold c.args.asked.now.log c.args.input.now old new Refused c.args.trace.now c.signal_station.new.trace has c.signal_station.ensures.unrefused
+    (λ named. c.signal_station.ensures.untold (λ none. named (sym is_log ∙ none)))
 
 pub returns-in_ok-fault_reply-in-Err-Fault-clause-answer : goal.returns-in_ok-fault_reply-in-Err-Fault-clause-answer
 returns-in_ok-fault_reply-in-Err-Fault-clause-answer g c =
@@ -97,7 +103,8 @@ returns-in_ok-fault_reply-in-Err-Fault-clause-answer g c =
     let met = between (at c.args.files.now) (at c.signals_of.new.files) in
     let traced = told_to {Self = g.row.T.Denot} g.T.LogSink.tells g.T.LogSink.learnt c.args.trace.now c.args.trace.now in
     let reply = c.in_ok-fault_reply-in-Err-Fault.field-0 in
-    signals_refused_on c.args.asked.now traced c.args.input.now met c.in-Err-Fault.field-0 c.in-Err-Fault.fault reply.status reply.text.items c.in-Err-Fault.ensures.refusal c.in-Err-Fault.field-0-is
+    signals_refused_on c.args.asked.now traced c.args.input.now met c.in-Err-Fault.field-0 c.in-Err-Fault.fault reply.status reply.text.items
+    c.in-Err-Fault.ensures.refusal c.in-Err-Fault.field-0-is
     (rw c.in-Err-Fault.field-0-is at c.in_ok-fault_reply-in-Err-Fault.ensures.told)
 
 pub returns-in_err-fault_reply-in-Err-Fault-clause-derives : goal.returns-in_err-fault_reply-in-Err-Fault-clause-derives

@@ -11,7 +11,8 @@ loop-i-preserved c =
     let pairs = c.args.pairs.now in
     let i = c.loop-i.i in
     let pair = c.get.result.now in
-    let one = take_more pairs i pair (slice_get_within pairs i pair c.get.ensures) ∙ ap (λ p. take i pairs ++ p ∷ []) (get_or_from_slice_get pairs i pair pair c.get.ensures) in
+    let one = take_more pairs i pair (slice_get_within pairs i pair c.get.ensures)
+    ∙ ap (λ p. take i pairs ++ p ∷ []) (get_or_from_slice_get pairs i pair pair c.get.ensures) in
     c.in_ok-push_pair.ensures ∙ ap (λ (ls : List ℕ). ls ++ pair_line pair) c.loop-i.invariant
     ∙ append_assoc c.args.into.now.items (flat_map pair_line (take i pairs)) (pair_line pair)
     ∙ ap (λ (ls : List ℕ). c.args.into.now.items ++ ls) (sym (flat_map_last pair_line (take i pairs) pair) ∙ ap (flat_map pair_line) (sym one))

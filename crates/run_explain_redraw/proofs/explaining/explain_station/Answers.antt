@@ -8,14 +8,16 @@ use Rattle.run_explain_redraw.proofs.explaining.explain_station.Goals as goal
 
 pub reply_of-requires : goal.reply_of-requires
 reply_of-requires g c = record {
-  right = subst (λ (j : ExplainJob). IsRightWhy (explain_task c.args.station.now.graph c.args.station.now.order j) c.in-Ok.why) c.asked.view_is c.in-Ok.ensures.right;
+  right = subst (λ (j : ExplainJob). IsRightWhy (explain_task c.args.station.now.graph c.args.station.now.order j) c.in-Ok.why) c.asked.view_is
+      c.in-Ok.ensures.right;
 }
 
 pub returns-in_ok-reply_of-in-Ok-clause-answer : goal.returns-in_ok-reply_of-in-Ok-clause-answer
 returns-in_ok-reply_of-in-Ok-clause-answer g c =
     let traced = told_to {Self = g.row.L.Denot} g.L.LogSink.tells g.L.LogSink.learnt c.args.log.now c.explain.new.log in
     let reply = c.in_ok-reply_of-in-Ok.field-0 in
-    explained c.asked.inside.grid.now c.asked.inside.budget c.args.asked.now traced c.args.station.now.graph c.args.station.now.order c.in-Ok.why reply.status reply.text.items
+    explained c.asked.inside.grid.now c.asked.inside.budget c.args.asked.now traced c.args.station.now.graph c.args.station.now.order c.in-Ok.why reply.status
+    reply.text.items
     c.asked.view_is c.in-Ok.ensures.right c.in-Ok.ensures.lines c.in_ok-reply_of-in-Ok.ensures.status c.in_ok-reply_of-in-Ok.ensures.text
 
 pub returns-in_err-reply_of-in-Ok-clause-derives : goal.returns-in_err-reply_of-in-Ok-clause-derives

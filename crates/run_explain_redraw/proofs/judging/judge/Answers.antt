@@ -13,5 +13,6 @@ returns-in_err-before-clause-rejected c =
 pub returns-in_err-drawing-clause-rejected : goal.returns-in_err-drawing-clause-rejected
 returns-in_err-drawing-clause-rejected c =
     let station = c.in_ok-station.station in
-    let rejected = c.in_err-drawing.ensures.rejected c.args.bytes.now c.args.old.now station.graph station.order c.in_ok-station.ensures.station c.in_ok-before.ensures.station in
+    let rejected = c.in_err-drawing.ensures.rejected c.args.bytes.now c.args.old.now station.graph station.order c.in_ok-station.ensures.station
+    c.in_ok-before.ensures.station in
     search (rules, rejected)

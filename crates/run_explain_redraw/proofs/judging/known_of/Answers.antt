@@ -15,18 +15,25 @@ returns-in-Ok-clause-rejected g c =
     let To = IsAnswerToThree c.args.input.now c.args.former.now c.args.sheet.now met HaveFault in
     IfErr-weaker c.judge.result (RejectsFault c.deref.result.now c.deref-in-Ok.result.now c.deref-in-Ok-2.result.now) _
     (λ r. rejected_weaker (HaveFault c.deref.result.now c.deref-in-Ok.result.now c.deref-in-Ok-2.result.now) To r
-    (λ status text fault. read_three c.args.input.now c.args.former.now c.args.sheet.now met HaveFault t.bytes.items t.old.items t.said.items status text c.in-Ok.ensures.inputs c.in-Ok.ensures.reads
+    (λ status text fault. read_three c.args.input.now c.args.former.now c.args.sheet.now met HaveFault t.bytes.items t.old.items t.said.items status text
+    c.in-Ok.ensures.inputs c.in-Ok.ensures.reads
     (subst (λ (xs : List ℕ). HaveFault t.bytes.items t.old.items xs status text) c.deref-in-Ok-2.ensures.value
     (subst (λ (xs : List ℕ). HaveFault t.bytes.items xs c.deref-in-Ok-2.result.now status text) c.deref-in-Ok.ensures.value
     (subst (λ (xs : List ℕ). HaveFault xs c.deref-in-Ok.result.now c.deref-in-Ok-2.result.now status text) c.deref.ensures.value fault)))))
     c.judge.ensures.rejected
 
 pub returns-in-Ok-clause-reads_err : goal.returns-in-Ok-clause-reads_err
-returns-in-Ok-clause-reads_err g c = on_err_anyway c.judge.result _ (record { number = 3; within = omega arith; once = c.in-Ok.ensures.reads; all = λ h. absurd h })
+returns-in-Ok-clause-reads_err g c = on_err_anyway c.judge.result _ (record {
+  number = 3;
+  within = omega arith;
+  once = c.in-Ok.ensures.reads;
+  all = λ h. absurd h;
+})
 
 pub returns-in_ok-fault_reply-in-Err-Fault-clause-rejected : goal.returns-in_ok-fault_reply-in-Err-Fault-clause-rejected
 returns-in_ok-fault_reply-in-Err-Fault-clause-rejected g c =
     let met = between (g.F.Files.at c.args.files.now) (g.F.Files.at c.read_all.new.files) in
     let reply = c.in_ok-fault_reply-in-Err-Fault.field-0 in
-    unread_answer c.args.input.now c.args.former.now c.args.sheet.now met c.in-Err-Fault.field-0 c.in-Err-Fault.fault reply.status reply.text.items c.in-Err-Fault.field-0-is c.in-Err-Fault.ensures.refusal
+    unread_answer c.args.input.now c.args.former.now c.args.sheet.now met c.in-Err-Fault.field-0 c.in-Err-Fault.fault reply.status reply.text.items
+    c.in-Err-Fault.field-0-is c.in-Err-Fault.ensures.refusal
     c.in_ok-fault_reply-in-Err-Fault.ensures.told

@@ -9,7 +9,8 @@ pub returns-in_err-old-clause-reads_err : goal.returns-in_err-old-clause-reads_e
 returns-in_err-old-clause-reads_err g c =
     let at = g.F.Files.at in
     on_err_anyway c.from_residual-in_err-old.result _
-    (reads_some 2 3 _ _ (omega arith) (λ h. h) (reads_more 1 _ (at c.args.files.now) (at c.bytes_of.new.files) (at c.bytes_of-2.new.files) c.in_ok-bytes.ensures.reads c.in_err-old.ensures.reads_err))
+    (reads_some 2 3 _ _ (omega arith) (λ h. h) (reads_more 1 _ (at c.args.files.now) (at c.bytes_of.new.files) (at c.bytes_of-2.new.files)
+    c.in_ok-bytes.ensures.reads c.in_err-old.ensures.reads_err))
 
 pub returns-in_err-said-clause-refusal : goal.returns-in_err-said-clause-refusal
 returns-in_err-said-clause-refusal g c =
@@ -21,7 +22,8 @@ returns-in_err-said-clause-refusal g c =
     let read : IsRead old mid = record { same = c.in_ok-bytes.ensures.same; later = c.in_ok-bytes.ensures.later; one = c.in_ok-bytes.ensures.reads } in
     let again : IsRead mid late = record { same = c.in_ok-old.ensures.same; later = c.in_ok-old.ensures.later; one = c.in_ok-old.ensures.reads } in
     let unread =
-    third_unread c.args.input.now c.args.former.now c.args.sheet.now c.in_ok-bytes.bytes.items c.in_ok-old.old.items old mid late new c.in_err-said.field-0.0 c.in_ok-bytes.ensures.bytes c.in_ok-old.ensures.bytes read again
+    third_unread c.args.input.now c.args.former.now c.args.sheet.now c.in_ok-bytes.bytes.items c.in_ok-old.old.items old mid late new c.in_err-said.field-0.0
+    c.in_ok-bytes.ensures.bytes c.in_ok-old.ensures.bytes read again
     c.in_err-said.ensures.refusal in
     search (rules, unread)
 
@@ -32,4 +34,5 @@ returns-in_err-said-clause-reads_err g c =
     let mid = at c.bytes_of.new.files in
     let late = at c.bytes_of-2.new.files in
     let new = at c.bytes_of-3.new.files in
-    on_err_anyway c.from_residual-in_err-said.result _ (reads_more 2 _ old mid new c.in_ok-bytes.ensures.reads (reads_more 1 _ mid late new c.in_ok-old.ensures.reads c.in_err-said.ensures.reads_err))
+    on_err_anyway c.from_residual-in_err-said.result _ (reads_more 2 _ old mid new c.in_ok-bytes.ensures.reads
+    (reads_more 1 _ mid late new c.in_ok-old.ensures.reads c.in_err-said.ensures.reads_err))

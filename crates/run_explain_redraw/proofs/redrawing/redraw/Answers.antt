@@ -22,7 +22,8 @@ returns-in-Ok-clause-answer g c =
     let traced = told_to {Self = g.row.T.Denot} g.T.LogSink.tells g.T.LogSink.learnt c.args.trace.now c.redraw_known.new.trace in
     let known = c.in-Ok.known in
     IfOk-weaker c.redraw_known.result _ _ (λ r answer.
-    redrawn_on c.args.input.now c.args.former.now c.args.sheet.now c.args.asked.now (at c.args.files.now) (at c.known_of.new.files) (at c.redraw_known.new.files) traced known.station.graph known.station.order known.former.items
+    redrawn_on c.args.input.now c.args.former.now c.args.sheet.now c.args.asked.now (at c.args.files.now) (at c.known_of.new.files)
+    (at c.redraw_known.new.files) traced known.station.graph known.station.order known.former.items
     r.status r.text.items c.in-Ok.ensures.have c.in-Ok.ensures.same (c.redraw_known.ensures.reads ∙ c.in-Ok.ensures.reads) answer)
     c.redraw_known.ensures.answer
 
@@ -44,7 +45,8 @@ returns-in-Ok-clause-leaves g c =
       points = known.former.items;
       have = c.in-Ok.ensures.have;
     } in
-    redraw_leaves c.args.input.now c.args.former.now c.args.sheet.now c.args.asked.now old mid new Refused has c.in-Ok.ensures.same c.redraw_known.ensures.unrefused c.redraw_known.ensures.leaves
+    redraw_leaves c.args.input.now c.args.former.now c.args.sheet.now c.args.asked.now old mid new Refused has c.in-Ok.ensures.same
+    c.redraw_known.ensures.unrefused c.redraw_known.ensures.leaves
 
 pub returns-in-Ok-clause-unwritten : goal.returns-in-Ok-clause-unwritten
 returns-in-Ok-clause-unwritten g c =
@@ -61,7 +63,8 @@ returns-in-Ok-clause-unwritten g c =
       points = known.former.items;
       have = c.in-Ok.ensures.have;
     } in
-    redraw_unwritten c.args.asked.now.log c.args.input.now c.args.former.now c.args.sheet.now old mid new Refused has c.redraw_known.ensures.unrefused c.in-Ok.ensures.unwritten c.redraw_known.ensures.unwritten
+    redraw_unwritten c.args.asked.now.log c.args.input.now c.args.former.now c.args.sheet.now old mid new Refused has c.redraw_known.ensures.unrefused
+    c.in-Ok.ensures.unwritten c.redraw_known.ensures.unwritten
 
 pub returns-in-Ok-clause-untold : goal.returns-in-Ok-clause-untold
 returns-in-Ok-clause-untold g c =
@@ -77,7 +80,8 @@ returns-in-Ok-clause-untold g c =
       points = known.former.items;
       have = c.in-Ok.ensures.have;
     } in
-    redraw_untold c.args.asked.now.log c.args.input.now c.args.former.now c.args.sheet.now old new Refused c.args.trace.now c.redraw_known.new.trace has c.redraw_known.ensures.unrefused c.redraw_known.ensures.untold
+    redraw_untold c.args.asked.now.log c.args.input.now c.args.former.now c.args.sheet.now old new Refused c.args.trace.now c.redraw_known.new.trace has
+    c.redraw_known.ensures.unrefused c.redraw_known.ensures.untold
 
 pub returns-in-Err-With-clause-answer : goal.returns-in-Err-With-clause-answer
 returns-in-Err-With-clause-answer g c =
@@ -85,7 +89,8 @@ returns-in-Err-With-clause-answer g c =
     let traced = told_to {Self = g.row.T.Denot} g.T.LogSink.tells g.T.LogSink.learnt c.args.trace.now c.args.trace.now in
     let reply = c.in-Err-With.reply in
     let told =
-    rejected_on c.args.input.now c.args.former.now c.args.sheet.now c.args.asked.now met traced reply.status reply.text.items (rw c.in-Err-With.field-0-is at c.in-Err-With.ensures.rejected) in
+    rejected_on c.args.input.now c.args.former.now c.args.sheet.now c.args.asked.now met traced reply.status reply.text.items
+    (rw c.in-Err-With.field-0-is at c.in-Err-With.ensures.rejected) in
     rw (c.in-Err-With.field-0-is) told
 
 pub returns-in-Err-With-clause-derives : goal.returns-in-Err-With-clause-derives

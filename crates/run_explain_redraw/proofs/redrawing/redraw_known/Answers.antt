@@ -16,5 +16,6 @@ returns-clause-answer g c =
     let told = told_to {Self = g.row.T.Denot} g.T.LogSink.tells g.T.LogSink.learnt c.args.trace.now c.search_told.new.trace in
     let known = c.args.known.now in
     let inside = redraw_job c.asked.inside.grid.now c.asked.inside.budget c.asked.inside.log.now in
-    redrawn c.args.asked.now inside (IsRunLog c.args.asked.now.log met told) known.station.graph known.station.order known.former.items c.deref.result.now c.in_ok-outcome.outcome c.status_of.result _ c.asked.view_is c.deref.ensures.value
+    redrawn c.args.asked.now inside (IsRunLog c.args.asked.now.log met told) known.station.graph known.station.order known.former.items c.deref.result.now
+    c.in_ok-outcome.outcome c.status_of.result _ c.asked.view_is c.deref.ensures.value
     c.in_ok-outcome.ensures.searched c.status_of.ensures c.in_ok-text_of.ensures

@@ -15,7 +15,12 @@ returns-in-Ok-clause-searched g c =
     let inside = redraw_job c.asked.inside.grid.now c.asked.inside.budget c.asked.inside.log.now in
     let outcome = c.in-Ok.outcome in
     let lines = c.in-Ok.ensures.lines in
-    let found : HasSearchedMoved station.graph station.order inside c.deref.result.now told outcome = record { right = c.in-Ok.ensures.right; lines = lines.0; told = lines.1; ended = lines.2 } in
+    let found : HasSearchedMoved station.graph station.order inside c.deref.result.now told outcome = record {
+      right = c.in-Ok.ensures.right;
+      lines = lines.0;
+      told = lines.1;
+      ended = lines.2;
+    } in
     subst (λ (asked : RedrawJob). HasSearchedMoved station.graph station.order asked c.args.known.now.former.items told outcome) c.asked.view_is
     (subst (λ (former : Former). HasSearchedMoved station.graph station.order inside former told outcome) c.deref.ensures.value found)
 
@@ -24,7 +29,8 @@ returns-in-Ok-clause-derives g c =
     let k = g.L.LogSink in
     let lines = c.in-Ok.ensures.lines in
     let station = c.args.known.now.station in
-    let derives = moved_derives (layout station.graph station.order c.asked.inside.grid.now) c.deref.result.now c.asked.inside.budget ROOM c.in-Ok.outcome lines.0 lines.2 in
+    let derives = moved_derives (layout station.graph station.order c.asked.inside.grid.now) c.deref.result.now c.asked.inside.budget ROOM c.in-Ok.outcome
+    lines.0 lines.2 in
     new_told (k.tells c.args.log.now) (k.tells c.fewest_moved.new.log) lines.0 (g.met.L.LogSink.one_reading c.fewest_moved.new.log) lines.1.behind derives
 
 pub returns-in-Err-Log-clause-derives : goal.returns-in-Err-Log-clause-derives

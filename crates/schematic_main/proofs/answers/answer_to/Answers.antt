@@ -28,12 +28,14 @@ returns-in-Draw-clause-leaves g c =
     let met = between (g.F.Files.at c.args.files.now) (g.F.Files.at c.draw.new.files) in
     let traced = told_to {Self = g.row.T.Denot} g.T.LogSink.tells g.T.LogSink.learnt c.args.trace.now c.draw.new.trace in
     let Refused : Type 0 = IsOkAnd c.draw.result (λ r. IsRefused r.status) in
-    subst (λ (command : Command). WhereTold old new (LeftSo (λ name bytes. (Refused → ⊥) × MayLeave command met traced name bytes))) (sym c.in-Draw.is) c.draw.ensures.leaves
+    subst (λ (command : Command). WhereTold old new (LeftSo (λ name bytes. (Refused → ⊥) × MayLeave command met traced name bytes))) (sym c.in-Draw.is)
+    c.draw.ensures.leaves
 
 pub returns-in-Draw-clause-unwritten : goal.returns-in-Draw-clause-unwritten
 returns-in-Draw-clause-unwritten g c =
     let met = between (g.F.Files.at c.args.files.now) (g.F.Files.at c.draw.new.files) in
-    subst (λ (command : Command). IsOkAnd c.draw.result (λ r. AnswersAlone command r.status) ⊎ (MayWrite command met → ⊥) → IsUnwritten met) (sym c.in-Draw.is) c.draw.ensures.unwritten
+    subst (λ (command : Command). IsOkAnd c.draw.result (λ r. AnswersAlone command r.status) ⊎ (MayWrite command met → ⊥) → IsUnwritten met) (sym c.in-Draw.is)
+    c.draw.ensures.unwritten
 
 pub returns-in-Draw-clause-untold : goal.returns-in-Draw-clause-untold
 returns-in-Draw-clause-untold g c =
@@ -49,7 +51,8 @@ returns-in_ok-verify-in-Verify-clause-answer g c =
     subst (λ (command : Command). Owes command met traced reply.status reply.text.items) (sym c.in-Verify.is) c.in_ok-verify-in-Verify.ensures.answer
 
 pub returns-in_ok-verify-in-Verify-clause-leaves : goal.returns-in_ok-verify-in-Verify-clause-leaves
-returns-in_ok-verify-in-Verify-clause-leaves g c = leaves_same _ (g.F.Files.at c.args.files.now).contents (g.F.Files.at c.verify.new.files).contents c.in_ok-verify-in-Verify.ensures.same
+returns-in_ok-verify-in-Verify-clause-leaves g c = leaves_same _ (g.F.Files.at c.args.files.now).contents (g.F.Files.at c.verify.new.files).contents
+    c.in_ok-verify-in-Verify.ensures.same
 
 pub returns-in_ok-check-in-Check-clause-answer : goal.returns-in_ok-check-in-Check-clause-answer
 returns-in_ok-check-in-Check-clause-answer g c =
@@ -59,7 +62,8 @@ returns-in_ok-check-in-Check-clause-answer g c =
     subst (λ (command : Command). Owes command met traced reply.status reply.text.items) (sym c.in-Check.is) c.in_ok-check-in-Check.ensures.answer
 
 pub returns-in_ok-check-in-Check-clause-leaves : goal.returns-in_ok-check-in-Check-clause-leaves
-returns-in_ok-check-in-Check-clause-leaves g c = leaves_same _ (g.F.Files.at c.args.files.now).contents (g.F.Files.at c.check.new.files).contents c.in_ok-check-in-Check.ensures.same
+returns-in_ok-check-in-Check-clause-leaves g c = leaves_same _ (g.F.Files.at c.args.files.now).contents (g.F.Files.at c.check.new.files).contents
+    c.in_ok-check-in-Check.ensures.same
 
 pub returns-in-Trial-clause-leaves : goal.returns-in-Trial-clause-leaves
 returns-in-Trial-clause-leaves g c = left_alone _ (g.F.Files.at c.args.files.now).contents
@@ -77,12 +81,14 @@ returns-in-Signals-clause-leaves g c =
     let met = between (g.F.Files.at c.args.files.now) (g.F.Files.at c.signals.new.files) in
     let traced = told_to {Self = g.row.T.Denot} g.T.LogSink.tells g.T.LogSink.learnt c.args.trace.now c.signals.new.trace in
     let Refused : Type 0 = IsOkAnd c.signals.result (λ r. IsRefused r.status) in
-    subst (λ (command : Command). WhereTold old new (LeftSo (λ name bytes. (Refused → ⊥) × MayLeave command met traced name bytes))) (sym c.in-Signals.is) c.signals.ensures.leaves
+    subst (λ (command : Command). WhereTold old new (LeftSo (λ name bytes. (Refused → ⊥) × MayLeave command met traced name bytes))) (sym c.in-Signals.is)
+    c.signals.ensures.leaves
 
 pub returns-in-Signals-clause-unwritten : goal.returns-in-Signals-clause-unwritten
 returns-in-Signals-clause-unwritten g c =
     let met = between (g.F.Files.at c.args.files.now) (g.F.Files.at c.signals.new.files) in
-    subst (λ (command : Command). IsOkAnd c.signals.result (λ r. AnswersAlone command r.status) ⊎ (MayWrite command met → ⊥) → IsUnwritten met) (sym c.in-Signals.is) c.signals.ensures.unwritten
+    subst (λ (command : Command). IsOkAnd c.signals.result (λ r. AnswersAlone command r.status) ⊎ (MayWrite command met → ⊥) → IsUnwritten met)
+    (sym c.in-Signals.is) c.signals.ensures.unwritten
 
 pub returns-in-Signals-clause-untold : goal.returns-in-Signals-clause-untold
 returns-in-Signals-clause-untold g c =
@@ -119,12 +125,14 @@ returns-in-Redraw-clause-leaves g c =
     let met = between (g.F.Files.at c.args.files.now) (g.F.Files.at c.redraw.new.files) in
     let traced = told_to {Self = g.row.T.Denot} g.T.LogSink.tells g.T.LogSink.learnt c.args.trace.now c.redraw.new.trace in
     let Refused : Type 0 = IsOkAnd c.redraw.result (λ r. IsRefused r.status) in
-    subst (λ (command : Command). WhereTold old new (LeftSo (λ name bytes. (Refused → ⊥) × MayLeave command met traced name bytes))) (sym c.in-Redraw.is) c.redraw.ensures.leaves
+    subst (λ (command : Command). WhereTold old new (LeftSo (λ name bytes. (Refused → ⊥) × MayLeave command met traced name bytes))) (sym c.in-Redraw.is)
+    c.redraw.ensures.leaves
 
 pub returns-in-Redraw-clause-unwritten : goal.returns-in-Redraw-clause-unwritten
 returns-in-Redraw-clause-unwritten g c =
     let met = between (g.F.Files.at c.args.files.now) (g.F.Files.at c.redraw.new.files) in
-    subst (λ (command : Command). IsOkAnd c.redraw.result (λ r. AnswersAlone command r.status) ⊎ (MayWrite command met → ⊥) → IsUnwritten met) (sym c.in-Redraw.is) c.redraw.ensures.unwritten
+    subst (λ (command : Command). IsOkAnd c.redraw.result (λ r. AnswersAlone command r.status) ⊎ (MayWrite command met → ⊥) → IsUnwritten met)
+    (sym c.in-Redraw.is) c.redraw.ensures.unwritten
 
 pub returns-in-Redraw-clause-untold : goal.returns-in-Redraw-clause-untold
 returns-in-Redraw-clause-untold g c =
@@ -161,7 +169,8 @@ returns-in-Trim-clause-leaves g c =
     let met = between (g.F.Files.at c.args.files.now) (g.F.Files.at c.trim.new.files) in
     let traced = told_to {Self = g.row.T.Denot} g.T.LogSink.tells g.T.LogSink.learnt c.args.trace.now c.args.trace.now in
     let Refused : Type 0 = IsOkAnd c.trim.result (λ r. IsRefused r.status) in
-    subst (λ (command : Command). WhereTold old new (LeftSo (λ name bytes. (Refused → ⊥) × MayLeave command met traced name bytes))) (sym c.in-Trim.is) c.trim.ensures.leaves
+    subst (λ (command : Command). WhereTold old new (LeftSo (λ name bytes. (Refused → ⊥) × MayLeave command met traced name bytes))) (sym c.in-Trim.is)
+    c.trim.ensures.leaves
 
 pub returns-in-Trim-clause-unwritten : goal.returns-in-Trim-clause-unwritten
 returns-in-Trim-clause-unwritten g c =
@@ -174,7 +183,8 @@ pub returns-in-Trim-clause-cause : goal.returns-in-Trim-clause-cause
 returns-in-Trim-clause-cause g c =
     let met = between (g.F.Files.at c.args.files.now) (g.F.Files.at c.trim.new.files) in
     let one : c.in-Trim.hints ∷ [] ≢ [] = λ e. cc in
-    subst (λ (command : Command). IsErrOf c.trim.result Unwritten → CommandFailsToWrite command met (Rose (g.T.LogSink.faults c.args.trace.now) (g.T.LogSink.faults c.args.trace.now))) (sym c.in-Trim.is)
+    subst (λ (command : Command). IsErrOf c.trim.result Unwritten →
+    CommandFailsToWrite command met (Rose (g.T.LogSink.faults c.args.trace.now) (g.T.LogSink.faults c.args.trace.now))) (sym c.in-Trim.is)
     (λ cut. inl (one, c.trim.ensures.cause cut))
 
 pub returns-in_ok-recheck-in-Recheck-clause-answer : goal.returns-in_ok-recheck-in-Recheck-clause-answer
@@ -185,7 +195,8 @@ returns-in_ok-recheck-in-Recheck-clause-answer g c =
     subst (λ (command : Command). Owes command met traced reply.status reply.text.items) (sym c.in-Recheck.is) c.in_ok-recheck-in-Recheck.ensures.answer
 
 pub returns-in_ok-recheck-in-Recheck-clause-leaves : goal.returns-in_ok-recheck-in-Recheck-clause-leaves
-returns-in_ok-recheck-in-Recheck-clause-leaves g c = leaves_same _ (g.F.Files.at c.args.files.now).contents (g.F.Files.at c.recheck.new.files).contents c.in_ok-recheck-in-Recheck.ensures.same
+returns-in_ok-recheck-in-Recheck-clause-leaves g c = leaves_same _ (g.F.Files.at c.args.files.now).contents (g.F.Files.at c.recheck.new.files).contents
+    c.in_ok-recheck-in-Recheck.ensures.same
 
 pub returns-in_ok-print-in-Graph-clause-derives : goal.returns-in_ok-print-in-Graph-clause-derives
 returns-in_ok-print-in-Graph-clause-derives g c = new_unchanged (g.T.LogSink.tells c.args.trace.now) (g.met.T.LogSink.one_reading c.args.trace.now)

@@ -40,13 +40,18 @@ returns-in-Ok-clause-unwritten g c = λ none.
 
 pub returns-in-Ok-clause-leaves : goal.returns-in-Ok-clause-leaves
 returns-in-Ok-clause-leaves g c =
-    leaves_weaker _ _ (g.F.Files.at c.args.files.now).contents (g.F.Files.at c.answer_to.new.files).contents (λ name bytes may. (may.0, (c.in-Ok.command, c.in-Ok.ensures.value, may.1))) c.answer_to.ensures.leaves
+    leaves_weaker _ _ (g.F.Files.at c.args.files.now).contents (g.F.Files.at c.answer_to.new.files).contents
+    (λ name bytes may. (may.0, (c.in-Ok.command, c.in-Ok.ensures.value, may.1))) c.answer_to.ensures.leaves
 
 pub returns-in-Ok-clause-cause : goal.returns-in-Ok-clause-cause
 returns-in-Ok-clause-cause g c = λ cut. (c.in-Ok.command, c.in-Ok.ensures.value, c.answer_to.ensures.cause cut)
 
 pub returns-in-Ok-clause-untold : goal.returns-in-Ok-clause-untold
-returns-in-Ok-clause-untold g c = λ none. c.answer_to.ensures.untold (elim none [ inl refused ↦ inl refused | inr nothing ↦ inr (nothing c.in-Ok.command c.in-Ok.ensures.value) ])
+returns-in-Ok-clause-untold g c = λ none. c.answer_to.ensures.untold (elim none [
+  | inl refused ↦ inl refused
+  | inr nothing ↦ inr
+      (nothing c.in-Ok.command c.in-Ok.ensures.value)
+])
 
 pub returns-in_err-fault_reply-in-Err-Words-clause-derives : goal.returns-in_err-fault_reply-in-Err-Words-clause-derives
 returns-in_err-fault_reply-in-Err-Words-clause-derives g c = new_unchanged (g.T.LogSink.tells c.args.trace.now) (g.met.T.LogSink.one_reading c.args.trace.now)

@@ -14,7 +14,8 @@ invariant-loop-count g l = let q = g.Q.CountOracle in record {
   one : IsOne (q.task l.fn.questions) l.best;
   later : q.is_later l.fn.questions l.questions;
   faults : q.faults l.fn.questions ≤ q.faults l.questions;
-  lines : Continues q.knows q.log q.learnt l.fn.questions l.questions (IsRunOfDrawings (q.task l.fn.questions) ((q.task l.fn.questions).count l.fn.first) l.count);
+  lines : Continues q.knows q.log q.learnt l.fn.questions l.questions (IsRunOfDrawings (q.task l.fn.questions) ((q.task l.fn.questions).count l.fn.first)
+      l.count);
 }
 
 abbrev pub decreases-loop-count : goal.decreases-loop-count

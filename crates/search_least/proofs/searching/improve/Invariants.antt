@@ -16,6 +16,7 @@ invariant-loop-i g l = let o = g.O.Oracle in record {
   before : AreBefore l.wanted l.i l.held.items;
   later : o.is_later l.fn.oracle l.oracle;
   faults : o.faults l.fn.oracle ≤ o.faults l.oracle;
-  lines : Continues o.knows o.log o.learnt l.fn.oracle l.oracle (λ lines more. SearchState (o.task l.fn.oracle) l.wanted 0 [] l.fn.first (o.caps l.fn.oracle) lines →
+  lines : Continues o.knows o.log o.learnt l.fn.oracle l.oracle (λ lines more. SearchState (o.task l.fn.oracle) l.wanted 0 [] l.fn.first (o.caps l.fn.oracle)
+      lines →
       SearchState (o.task l.fn.oracle) l.wanted l.i l.held.items l.best (o.caps l.oracle) (lines ++ more));
 }

@@ -11,7 +11,8 @@ returns-clause-right g c = let o = g.O.Oracle in
     let a = c.args.oracle.now in
     let e = c.search.new.oracle in
     let p = o.task a in
-    IfOk-weaker c.search.result (λ x. Continues o.knows o.log o.learnt a e (λ lines more. lines ≡ first_lines p → IsOutcome p c.args.wanted.now x (lines ++ more))) (IsRightOutcome p c.args.wanted.now)
+    IfOk-weaker c.search.result (λ x. Continues o.knows o.log o.learnt a e (λ lines more. lines ≡ first_lines p → IsOutcome p c.args.wanted.now x
+    (lines ++ more))) (IsRightOutcome p c.args.wanted.now)
     (λ x run. right_run o.knows o.log o.learnt a e p c.args.wanted.now x c.requires.start run) c.search.ensures.lines
 
 pub returns-clause-lines : goal.returns-clause-lines
@@ -19,8 +20,10 @@ returns-clause-lines g c = let o = g.O.Oracle in
     let a = c.args.oracle.now in
     let e = c.search.new.oracle in
     let p = o.task a in
-    IfOk-weaker c.search.result (λ x. Continues o.knows o.log o.learnt a e (λ lines more. lines ≡ first_lines p → IsOutcome p c.args.wanted.now x (lines ++ more)))
-    (λ x. ToldBehind (o.knows e) (o.log a) (o.log e) (o.learnt a) (o.learnt e) (first_lines p) (λ more. IsOutcome p c.args.wanted.now x (first_lines p ++ more)))
+    IfOk-weaker c.search.result (λ x. Continues o.knows o.log o.learnt a e (λ lines more. lines ≡ first_lines p → IsOutcome p c.args.wanted.now x
+    (lines ++ more)))
+    (λ x. ToldBehind (o.knows e) (o.log a) (o.log e) (o.learnt a) (o.learnt e) (first_lines p)
+    (λ more. IsOutcome p c.args.wanted.now x (first_lines p ++ more)))
     (λ x run. tells_run o.knows o.log o.learnt a e p c.args.wanted.now x c.requires.start run) c.search.ensures.lines
 
 pub returns-clause-left : goal.returns-clause-left

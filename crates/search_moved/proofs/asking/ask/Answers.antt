@@ -32,15 +32,18 @@ returns-clause-lines g c =
     let l = g.L.LogSink in
     let y = layout_of k.encoded in
     let p = moved_task y k.former.now k.budget k.room in
-    goes_weaker (KnowsMoved y k.former.now k.budget k.room c.args.solver.now) (KnowsMoved y k.former.now k.budget k.room c.query.new.solver) (l.tells c.args.log.now) (l.tells c.query.new.log) (l.learnt c.args.log.now) (l.learnt c.query.new.log)
-    (λ lines more. TellsAnswer p lines c.args.limit c.in_ok-answer.answer more) (λ lines more. IsAnswer p lines c.args.limit c.in_ok-reply.reply more) c.in_ok-answer.ensures.lines
+    goes_weaker (KnowsMoved y k.former.now k.budget k.room c.args.solver.now) (KnowsMoved y k.former.now k.budget k.room c.query.new.solver)
+    (l.tells c.args.log.now) (l.tells c.query.new.log) (l.learnt c.args.log.now) (l.learnt c.query.new.log)
+    (λ lines more. TellsAnswer p lines c.args.limit c.in_ok-answer.answer more) (λ lines more. IsAnswer p lines c.args.limit c.in_ok-reply.reply more)
+    c.in_ok-answer.ensures.lines
     (λ lines more. answer_lines p lines c.args.limit c.in_ok-answer.answer c.in_ok-reply.reply more c.in_ok-reply.ensures.of)
 
 pub returns-in_err-assume-clause-leaves : goal.returns-in_err-assume-clause-leaves
 returns-in_err-assume-clause-leaves g c =
     let l = g.L.LogSink in
     let k = c.args.known.now in
-    on_err_anyway _ _ (known_left (layout_of k.encoded) k.former.now k.budget k.room c.args.solver.now (l.tells c.args.log.now) (g.met.L.LogSink.one_reading c.args.log.now))
+    on_err_anyway _ _ (known_left (layout_of k.encoded) k.former.now k.budget k.room c.args.solver.now (l.tells c.args.log.now)
+    (g.met.L.LogSink.one_reading c.args.log.now))
 
 pub returns-in_err-answer-clause-leaves : goal.returns-in_err-answer-clause-leaves
 returns-in_err-answer-clause-leaves g c = on_err_anyway _ _ c.in_err-answer.ensures.leaves
@@ -52,6 +55,7 @@ returns-in_err-reply-clause-leaves g c =
     let y = layout_of k.encoded in
     let old = c.args.solver.now in
     let new = c.query.new.solver in
-    on_err_anyway _ _ (later_left y k.former.now k.budget k.room old new (l.tells c.args.log.now) (l.tells c.query.new.log) (l.tells c.query.new.log) (l.learnt c.args.log.now) (l.learnt c.query.new.log)
+    on_err_anyway _ _ (later_left y k.former.now k.budget k.room old new (l.tells c.args.log.now) (l.tells c.query.new.log) (l.tells c.query.new.log)
+    (l.learnt c.args.log.now) (l.learnt c.query.new.log)
     (λ lines more. TellsAnswer (moved_task y k.former.now k.budget k.room) lines c.args.limit c.in_ok-answer.answer more) c.in_ok-answer.ensures.lines
     (known_left y k.former.now k.budget k.room new (l.tells c.query.new.log) (g.met.L.LogSink.one_reading c.query.new.log)))

@@ -19,7 +19,8 @@ solve-requires-clause-distinct g c = let k = c.args.known.now in
 pub solve-requires-clause-named : goal.solve-requires-clause-named
 solve-requires-clause-named g c = let k = c.args.known.now in
     subst (λ (ls : List Literal). All (λ l. IsNamed c.args.solver.now.clauses l.var) ls) (sym c.requires.assumed)
-    (named (layout_of k.encoded) k.former.now k.budget k.room c.args.solver.now.clauses c.args.limit c.requires.ready.facts c.requires.ready.given.kept c.requires.limit)
+    (named (layout_of k.encoded) k.former.now k.budget k.room c.args.solver.now.clauses c.args.limit c.requires.ready.facts c.requires.ready.given.kept
+    c.requires.limit)
 
 pub returns-in-Ok-clause-answer : goal.returns-in-Ok-clause-answer
 returns-in-Ok-clause-answer g c = let k = c.args.known.now in
@@ -30,7 +31,8 @@ returns-in-Ok-clause-ready g c =
     let k = c.args.known.now in
     let s = c.in-Ok.ensures.searched in
     ready_after k.encoded k.former.now k.budget k.room c.args.solver.now c.solve.new.self c.in-Ok.answer s.learnt (omega arith) c.requires.ready s.kept
-    (subst (λ n. HasSpent c.in-Ok.answer (k.budget - n) (length s.learnt)) c.learnt.ensures s.spent) (c.in-Ok.ensures.given (formula_of (layout_of k.encoded) k.former.now) c.requires.ready.given)
+    (subst (λ n. HasSpent c.in-Ok.answer (k.budget - n) (length s.learnt)) c.learnt.ensures s.spent)
+    (c.in-Ok.ensures.given (formula_of (layout_of k.encoded) k.former.now) c.requires.ready.given)
 
 pub returns-in-Ok-clause-lines : goal.returns-in-Ok-clause-lines
 returns-in-Ok-clause-lines g c =
@@ -40,14 +42,18 @@ returns-in-Ok-clause-lines g c =
     let new = c.solve.new.self in
     let q = query_of (moved_task (layout_of k.encoded) k.former.now k.budget k.room) c.args.limit in
     let f = formula_of (layout_of k.encoded) k.former.now in
-    let s = subst (λ n. HasSolved (l.tells c.args.log.now) (l.tells c.solve.new.log) c.args.assume.now old new c.in-Ok.answer (k.budget - n) (l.learnt c.args.log.now) (l.learnt c.solve.new.log))
+    let s = subst (λ n. HasSolved (l.tells c.args.log.now) (l.tells c.solve.new.log) c.args.assume.now old new c.in-Ok.answer (k.budget - n)
+    (l.learnt c.args.log.now) (l.learnt c.solve.new.log))
     c.learnt.ensures c.in-Ok.ensures.searched in
-    let solved = subst (λ (ls : List Literal). HasSolved (l.tells c.args.log.now) (l.tells c.solve.new.log) ls old new c.in-Ok.answer (k.budget - old.learnt) (l.learnt c.args.log.now) (l.learnt c.solve.new.log)) c.requires.assumed s in
-    let true_answer = subst (λ (ls : List Literal). IsTrueAnswer c.in-Ok.answer f ls new) c.requires.assumed (c.in-Ok.ensures.answer f c.requires.ready.given) in
+    let solved = subst (λ (ls : List Literal). HasSolved (l.tells c.args.log.now) (l.tells c.solve.new.log) ls old new c.in-Ok.answer (k.budget - old.learnt)
+    (l.learnt c.args.log.now) (l.learnt c.solve.new.log)) c.requires.assumed s in
+    let true_answer = subst (λ (ls : List Literal). IsTrueAnswer c.in-Ok.answer f ls new) c.requires.assumed
+    (c.in-Ok.ensures.answer f c.requires.ready.given) in
     let limit = c.words.ensures.limit s.kept.failed in
     let same = s.kept.room in
     let is = c.requires.ready.room_is in
-    search_goes k.encoded k.former.now k.budget k.room old new c.args.limit c.in-Ok.answer (l.tells c.args.log.now) (l.tells c.solve.new.log) (l.learnt c.args.log.now) (l.learnt c.solve.new.log)
+    search_goes k.encoded k.former.now k.budget k.room old new c.args.limit c.in-Ok.answer (l.tells c.args.log.now) (l.tells c.solve.new.log)
+    (l.learnt c.args.log.now) (l.learnt c.solve.new.log)
     (omega arith) c.requires.ready solved true_answer (omega (arith, limit, same, is))
 
 pub returns-in-Err-Log-clause-leaves : goal.returns-in-Err-Log-clause-leaves
@@ -55,7 +61,8 @@ returns-in-Err-Log-clause-leaves g c =
     let l = g.L.LogSink in
     let k = c.args.known.now in
     let old = c.args.solver.now in
-    leaves_known [] (KnowsMoved (layout_of k.encoded) k.former.now k.budget k.room old) (λ ls. Belongs ls old) (l.tells c.args.log.now) (l.tells c.solve.new.log) (λ lines b. b.belongs)
+    leaves_known [] (KnowsMoved (layout_of k.encoded) k.former.now k.budget k.room old) (λ ls. Belongs ls old) (l.tells c.args.log.now)
+    (l.tells c.solve.new.log) (λ lines b. b.belongs)
     (search_left (λ ls. Belongs ls old) (l.tells c.args.log.now) (l.tells c.solve.new.log) c.in-Err-Log.ensures.derives c.in-Err-Log.ensures.gives)
 
 pub returns-in-Err-Memory-clause-leaves : goal.returns-in-Err-Memory-clause-leaves
@@ -63,5 +70,6 @@ returns-in-Err-Memory-clause-leaves g c =
     let l = g.L.LogSink in
     let k = c.args.known.now in
     let old = c.args.solver.now in
-    leaves_known [] (KnowsMoved (layout_of k.encoded) k.former.now k.budget k.room old) (λ ls. Belongs ls old) (l.tells c.args.log.now) (l.tells c.solve.new.log) (λ lines b. b.belongs)
+    leaves_known [] (KnowsMoved (layout_of k.encoded) k.former.now k.budget k.room old) (λ ls. Belongs ls old) (l.tells c.args.log.now)
+    (l.tells c.solve.new.log) (λ lines b. b.belongs)
     (search_left (λ ls. Belongs ls old) (l.tells c.args.log.now) (l.tells c.solve.new.log) c.in-Err-Memory.ensures.derives c.in-Err-Memory.ensures.gives)

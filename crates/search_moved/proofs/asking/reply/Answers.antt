@@ -12,7 +12,8 @@ pub decode-requires-clause-model : goal.decode-requires-clause-model
 decode-requires-clause-model c =
     let k = c.args.known.now in
     let given = formula_of (layout_of k.encoded) k.former.now in
-    let h : HasModel given c.args.assume.now c.args.solver.now = subst (λ (a : Verdict). IsTrueAnswer a given c.args.assume.now c.args.solver.now) c.in-Model.is c.requires.answer in
+    let h : HasModel given c.args.assume.now c.args.solver.now = subst (λ (a : Verdict). IsTrueAnswer a given c.args.assume.now c.args.solver.now) c.in-Model.is
+    c.requires.answer in
     drawing_model k.encoded k.former.now k.budget k.room c.args.solver.now (assignment c.in-Some.model.now) c.requires.ready
     (model_is given c.args.assume.now c.args.solver.now c.in-Some.model.now h c.in-Some.ensures)
 
@@ -20,15 +21,19 @@ pub decode-requires-clause-vars : goal.decode-requires-clause-vars
 decode-requires-clause-vars c =
     let k = c.args.known.now in
     let given = formula_of (layout_of k.encoded) k.former.now in
-    let h : HasModel given c.args.assume.now c.args.solver.now = subst (λ (a : Verdict). IsTrueAnswer a given c.args.assume.now c.args.solver.now) c.in-Model.is c.requires.answer in
-    long_enough k.encoded k.former.now k.budget k.room c.args.solver.now _ c.requires.ready (model_length given c.args.assume.now c.args.solver.now c.in-Some.model.now h c.in-Some.ensures)
+    let h : HasModel given c.args.assume.now c.args.solver.now = subst (λ (a : Verdict). IsTrueAnswer a given c.args.assume.now c.args.solver.now) c.in-Model.is
+    c.requires.answer in
+    long_enough k.encoded k.former.now k.budget k.room c.args.solver.now _ c.requires.ready
+    (model_length given c.args.assume.now c.args.solver.now c.in-Some.model.now h c.in-Some.ensures)
 
 pub returns-in_ok-decode-in-Some-clause-right : goal.returns-in_ok-decode-in-Some-clause-right
 returns-in_ok-decode-in-Some-clause-right c =
     let k = c.args.known.now in
     let given = formula_of (layout_of k.encoded) k.former.now in
-    let h : HasModel given c.args.assume.now c.args.solver.now = subst (λ (a : Verdict). IsTrueAnswer a given c.args.assume.now c.args.solver.now) c.in-Model.is c.requires.answer in
+    let h : HasModel given c.args.assume.now c.args.solver.now = subst (λ (a : Verdict). IsTrueAnswer a given c.args.assume.now c.args.solver.now) c.in-Model.is
+    c.requires.answer in
     let e = c.in_ok-decode-in-Some.ensures in (
       e.lawful,
-      model_below k.encoded k.former.now k.budget k.room c.args.solver.now c.args.limit c.args.assume.now c.in-Some.model.now c.in_ok-decode-in-Some.field-0 c.requires.ready c.requires.limit c.requires.assumed h c.in-Some.ensures e.alone,
+      model_below k.encoded k.former.now k.budget k.room c.args.solver.now c.args.limit c.args.assume.now c.in-Some.model.now c.in_ok-decode-in-Some.field-0
+          c.requires.ready c.requires.limit c.requires.assumed h c.in-Some.ensures e.alone,
     )

@@ -13,5 +13,6 @@ loop-k-preserved c =
     let now = c.in_ok-push.ensures.items in
     record {
       size = (let s = ap length now ∙ length-append c.loop-k.nodes.items (c.node.result ∷ []) in let t = c.loop-k.invariant.size in omega (arith, s, t));
-      each = nodes_more c.args.encoded.now c.loop-k.nodes.items c.push.new.self.items c.node.result c.loop-k.k c.loop-k.invariant.size c.loop-k.invariant.each now c.node.ensures.x c.node.ensures.y;
+      each = nodes_more c.args.encoded.now c.loop-k.nodes.items c.push.new.self.items c.node.result c.loop-k.k c.loop-k.invariant.size c.loop-k.invariant.each
+          now c.node.ensures.x c.node.ensures.y;
     }

@@ -5,6 +5,8 @@ use Rattle.search_moved.proofs.laws.moved_formula_stands_for_drawings.Goals as g
 
 pub returns : goal.returns
 returns c = record {
-  sound = λ g o grid former station order size same. moved_sound g (is_above o) (is_overlap o) grid former station.track_graph size (order_tables g o order) same;
-  covers = λ g o grid former station order size same. moved_covers g (is_above o) (is_overlap o) grid former station.track_graph size (few_variables g grid size station.few_nodes station.few_edges) (order_tables g o order) same;
+  sound = λ g o grid former station order size same. moved_sound g (is_above o) (is_overlap o) grid former station.track_graph size (order_tables g o order)
+      same;
+  covers = λ g o grid former station order size same. moved_covers g (is_above o) (is_overlap o) grid former station.track_graph size
+      (few_variables g grid size station.few_nodes station.few_edges) (order_tables g o order) same;
 }

@@ -27,18 +27,21 @@ further_pairs-requires-clause-caps_second g c =
 pub further_pairs-requires-clause-pair : goal.further_pairs-requires-clause-pair
 further_pairs-requires-clause-pair g c = let o = g.O.Oracle in
     subst (λ (p : Task). IsNextPair (IsLawful p) c.args.a c.args.b None c.in-Pair.first c.in-Pair.second) (sym c.in_ok-first.ensures.task)
-    (next_is (IsLawful (o.task c.args.oracle.now)) c.args.a c.args.b None c.in_ok-first.field-0 (Pair c.in-Pair.first c.in-Pair.second) c.in-Pair.is c.in_ok-first.ensures.next)
+    (next_is (IsLawful (o.task c.args.oracle.now)) c.args.a c.args.b None c.in_ok-first.field-0 (Pair c.in-Pair.first c.in-Pair.second) c.in-Pair.is
+    c.in_ok-first.ensures.next)
 
 pub returns-in-Pair-clause-right : goal.returns-in-Pair-clause-right
 returns-in-Pair-clause-right g c = let o = g.O.Oracle in
-    subst (λ (p : Task). IfOk c.further_pairs.result (λ r. IsRightFront (IsLawful p) c.args.a c.args.b r.pairs r.ending)) c.in_ok-first.ensures.task c.further_pairs.ensures.right
+    subst (λ (p : Task). IfOk c.further_pairs.result (λ r. IsRightFront (IsLawful p) c.args.a c.args.b r.pairs r.ending)) c.in_ok-first.ensures.task
+    c.further_pairs.ensures.right
 
 pub returns-in-Pair-clause-lines : goal.returns-in-Pair-clause-lines
 returns-in-Pair-clause-lines g c = let o = g.O.Oracle in
     let a = c.args.oracle.now in
     let b = c.next_pair.new.oracle in
     let e = c.further_pairs.new.oracle in
-    IfOk-weaker c.further_pairs.result (λ r. Continues o.knows o.log o.learnt b e (AreAsked (o.task b) (stop_behind r.ending))) (λ r. Continues o.knows o.log o.learnt a e (AreAsked (o.task a) (stop_behind r.ending)))
+    IfOk-weaker c.further_pairs.result (λ r. Continues o.knows o.log o.learnt b e (AreAsked (o.task b) (stop_behind r.ending)))
+    (λ r. Continues o.knows o.log o.learnt a e (AreAsked (o.task a) (stop_behind r.ending)))
     (λ r h. asked_then o.knows o.log o.learnt a b e (o.task b) (o.task a) (stop_behind r.ending) c.in_ok-first.ensures.task
     (subst (λ (x : Next). Continues o.knows o.log o.learnt a b (AreAsked (o.task a) (stop_of x))) c.in-Pair.is c.in_ok-first.ensures.lines) h)
     c.further_pairs.ensures.lines
@@ -46,7 +49,8 @@ returns-in-Pair-clause-lines g c = let o = g.O.Oracle in
 pub returns-in-NoMore-clause-right : goal.returns-in-NoMore-clause-right
 returns-in-NoMore-clause-right g c = let o = g.O.Oracle in
     let p = o.task c.args.oracle.now in
-    right_empty (IsLawful p) c.args.a c.args.b c.new.result (next_is (IsLawful p) c.args.a c.args.b None c.in_ok-first.field-0 NoMore c.in-NoMore.is c.in_ok-first.ensures.next) c.new.ensures
+    right_empty (IsLawful p) c.args.a c.args.b c.new.result (next_is (IsLawful p) c.args.a c.args.b None c.in_ok-first.field-0 NoMore c.in-NoMore.is
+    c.in_ok-first.ensures.next) c.new.ensures
 
 pub returns-in-NoMore-clause-lines : goal.returns-in-NoMore-clause-lines
 returns-in-NoMore-clause-lines g c = let o = g.O.Oracle in
@@ -55,13 +59,16 @@ returns-in-NoMore-clause-lines g c = let o = g.O.Oracle in
 
 pub returns-in-Stopped-clause-right : goal.returns-in-Stopped-clause-right
 returns-in-Stopped-clause-right g c = let o = g.O.Oracle in
-    right_stopped_first (IsLawful (o.task c.args.oracle.now)) c.args.a c.args.b c.new-in-Stopped.result c.in-Stopped.stop c.stopped_by.result c.stopped_by.ensures c.new-in-Stopped.ensures
+    right_stopped_first (IsLawful (o.task c.args.oracle.now)) c.args.a c.args.b c.new-in-Stopped.result c.in-Stopped.stop c.stopped_by.result
+    c.stopped_by.ensures c.new-in-Stopped.ensures
 
 pub returns-in-Stopped-clause-lines : goal.returns-in-Stopped-clause-lines
 returns-in-Stopped-clause-lines g c = let o = g.O.Oracle in
     let a = c.args.oracle.now in
-    subst (λ (s : Option Stop). Continues o.knows o.log o.learnt a c.next_pair.new.oracle (AreAsked (o.task a) s)) (sym (stopped_behind c.in-Stopped.stop c.stopped_by.result c.stopped_by.ensures))
-    (subst (λ (x : Next). Continues o.knows o.log o.learnt a c.next_pair.new.oracle (AreAsked (o.task a) (stop_of x))) c.in-Stopped.is c.in_ok-first.ensures.lines)
+    subst (λ (s : Option Stop). Continues o.knows o.log o.learnt a c.next_pair.new.oracle (AreAsked (o.task a) s))
+    (sym (stopped_behind c.in-Stopped.stop c.stopped_by.result c.stopped_by.ensures))
+    (subst (λ (x : Next). Continues o.knows o.log o.learnt a c.next_pair.new.oracle (AreAsked (o.task a) (stop_of x))) c.in-Stopped.is
+    c.in_ok-first.ensures.lines)
 
 pub returns-in_err-first-clause-leaves : goal.returns-in_err-first-clause-leaves
 returns-in_err-first-clause-leaves g c = let o = g.O.Oracle in
@@ -69,4 +76,5 @@ returns-in_err-first-clause-leaves g c = let o = g.O.Oracle in
 
 pub returns-in-Pair-clause-leaves : goal.returns-in-Pair-clause-leaves
 returns-in-Pair-clause-leaves g c = let o = g.O.Oracle in
-    on_err_weaker c.further_pairs.result _ _ (asked_later o.knows o.log o.learnt c.args.oracle.now c.next_pair.new.oracle c.further_pairs.new.oracle (o.task c.args.oracle.now) (stop_of c.in_ok-first.field-0) c.in_ok-first.ensures.lines) c.further_pairs.ensures.leaves
+    on_err_weaker c.further_pairs.result _ _ (asked_later o.knows o.log o.learnt c.args.oracle.now c.next_pair.new.oracle c.further_pairs.new.oracle
+    (o.task c.args.oracle.now) (stop_of c.in_ok-first.field-0) c.in_ok-first.ensures.lines) c.further_pairs.ensures.leaves

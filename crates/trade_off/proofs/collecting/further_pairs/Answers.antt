@@ -19,13 +19,15 @@ use Rattle.outside_io.proofs.Results.{on_err_anyway}
 pub loop-limit-init : goal.loop-limit-init
 loop-limit-init g c = let o = g.O.Oracle in
     let p = o.task c.args.oracle.now in
-    let pairs : c.push.new.self ≡ (c.args.first, c.args.second) ∷ [] = c.in_ok-push.ensures.ok ∙ ap (λ (ps : Pairs). ps ++ (c.args.first, c.args.second) ∷ []) c.new-pairs.ensures in
+    let pairs : c.push.new.self ≡ (c.args.first, c.args.second) ∷ [] = c.in_ok-push.ensures.ok
+    ∙ ap (λ (ps : Pairs). ps ++ (c.args.first, c.args.second) ∷ []) c.new-pairs.ensures in
     record {
       task = refl;
       caps = refl;
       ready = c.requires.ready;
       known = c.requires.known;
-      so_far = subst (λ (ps : Pairs). IsSoFar (IsLawful p) c.args.a c.args.b c.args.second ps) (sym pairs) (first_so_far (IsLawful p) c.args.a c.args.b c.args.first c.args.second c.requires.pair);
+      so_far = subst (λ (ps : Pairs). IsSoFar (IsLawful p) c.args.a c.args.b c.args.second ps) (sym pairs)
+          (first_so_far (IsLawful p) c.args.a c.args.b c.args.first c.args.second c.requires.pair);
       within = attained_within p c.args.a c.args.b c.args.first c.args.second c.requires.pair.attained;
       later = g.met.O.Oracle.later_same c.args.oracle.now;
       faults = omega arith;
@@ -46,7 +48,8 @@ next_pair-requires-clause-limit g c =
 
 pub loop-limit-smaller : goal.loop-limit-smaller
 loop-limit-smaller g c = let o = g.O.Oracle in
-    (next_is (IsLawful (o.task c.loop-limit.oracle)) c.args.a c.args.b (Some c.loop-limit.limit) c.in_ok-n.field-0 (Pair c.in-Pair.n c.in-Pair.m) c.in-Pair.is c.in_ok-n.ensures.next).below
+    (next_is (IsLawful (o.task c.loop-limit.oracle)) c.args.a c.args.b (Some c.loop-limit.limit) c.in_ok-n.field-0 (Pair c.in-Pair.n c.in-Pair.m) c.in-Pair.is
+    c.in_ok-n.ensures.next).below
 
 pub loop-limit-preserved : goal.loop-limit-preserved
 loop-limit-preserved g c = let o = g.O.Oracle in
@@ -55,7 +58,8 @@ loop-limit-preserved g c = let o = g.O.Oracle in
     let e = c.next_pair.new.oracle in
     let p = o.task a in
     let limit = c.loop-limit.limit in
-    let pair : IsNextPair (IsLawful p) c.args.a c.args.b (Some limit) c.in-Pair.n c.in-Pair.m = subst (λ (q : Task). IsNextPair (IsLawful q) c.args.a c.args.b (Some limit) c.in-Pair.n c.in-Pair.m) c.loop-limit.invariant.task
+    let pair : IsNextPair (IsLawful p) c.args.a c.args.b (Some limit) c.in-Pair.n c.in-Pair.m = subst
+    (λ (q : Task). IsNextPair (IsLawful q) c.args.a c.args.b (Some limit) c.in-Pair.n c.in-Pair.m) c.loop-limit.invariant.task
     (next_is (IsLawful (o.task b)) c.args.a c.args.b (Some limit) c.in_ok-n.field-0 (Pair c.in-Pair.n c.in-Pair.m) c.in-Pair.is c.in_ok-n.ensures.next) in
     record {
       task = c.in_ok-n.ensures.task ∙ c.loop-limit.invariant.task;
@@ -75,7 +79,8 @@ pub returns-in-NoMore-clause-right : goal.returns-in-NoMore-clause-right
 returns-in-NoMore-clause-right g c = let o = g.O.Oracle in
     let p = o.task c.args.oracle.now in
     let limit = c.loop-limit.limit in
-    let none : (k l : ℕ) → IsAttained (IsLawful p) c.args.a c.args.b k l → l < limit → ⊥ = subst (λ (q : Task). (k l : ℕ) → IsAttained (IsLawful q) c.args.a c.args.b k l → l < limit → ⊥) c.loop-limit.invariant.task
+    let none : (k l : ℕ) → IsAttained (IsLawful p) c.args.a c.args.b k l → l < limit →
+    ⊥ = subst (λ (q : Task). (k l : ℕ) → IsAttained (IsLawful q) c.args.a c.args.b k l → l < limit → ⊥) c.loop-limit.invariant.task
     (next_is (IsLawful (o.task c.loop-limit.oracle)) c.args.a c.args.b (Some limit) c.in_ok-n.field-0 NoMore c.in-NoMore.is c.in_ok-n.ensures.next) in
     right_whole (IsLawful p) c.args.a c.args.b limit c.loop-limit.pairs c.loop-limit.invariant.so_far none
 
@@ -89,33 +94,40 @@ returns-in-NoMore-clause-lines g c = let o = g.O.Oracle in
 
 pub returns-in-Stopped-clause-right : goal.returns-in-Stopped-clause-right
 returns-in-Stopped-clause-right g c = let o = g.O.Oracle in
-    right_stopped (IsLawful (o.task c.args.oracle.now)) c.args.a c.args.b c.loop-limit.limit c.loop-limit.pairs c.in-Stopped.stop c.stopped_by.result c.stopped_by.ensures c.loop-limit.invariant.so_far
+    right_stopped (IsLawful (o.task c.args.oracle.now)) c.args.a c.args.b c.loop-limit.limit c.loop-limit.pairs c.in-Stopped.stop c.stopped_by.result
+    c.stopped_by.ensures c.loop-limit.invariant.so_far
 
 pub returns-in-Stopped-clause-lines : goal.returns-in-Stopped-clause-lines
 returns-in-Stopped-clause-lines g c = let o = g.O.Oracle in
     let a = c.args.oracle.now in
     let b = c.loop-limit.oracle in
     let e = c.next_pair.new.oracle in
-    subst (λ (s : Option Stop). Continues o.knows o.log o.learnt a e (AreAsked (o.task a) s)) (sym (stopped_behind c.in-Stopped.stop c.stopped_by.result c.stopped_by.ensures))
+    subst (λ (s : Option Stop). Continues o.knows o.log o.learnt a e (AreAsked (o.task a) s))
+    (sym (stopped_behind c.in-Stopped.stop c.stopped_by.result c.stopped_by.ensures))
     (asked_then o.knows o.log o.learnt a b e (o.task b) (o.task a) (Some c.in-Stopped.stop) c.loop-limit.invariant.task c.loop-limit.invariant.lines
     (subst (λ (r : Next). Continues o.knows o.log o.learnt b e (AreAsked (o.task b) (stop_of r))) c.in-Stopped.is c.in_ok-n.ensures.lines))
 
 pub returns-clause-right : goal.returns-clause-right
 returns-clause-right g c = let o = g.O.Oracle in
-    right_whole (IsLawful (o.task c.args.oracle.now)) c.args.a c.args.b c.loop-limit.limit c.loop-limit.pairs c.loop-limit.invariant.so_far (λ k l at lt. absurd (omega (arith, lt)))
+    right_whole (IsLawful (o.task c.args.oracle.now)) c.args.a c.args.b c.loop-limit.limit c.loop-limit.pairs c.loop-limit.invariant.so_far
+    (λ k l at lt. absurd (omega (arith, lt)))
 
 pub returns-clause-lines : goal.returns-clause-lines
 returns-clause-lines g c = c.loop-limit.invariant.lines
 
 pub returns-in_err-push-clause-leaves : goal.returns-in_err-push-clause-leaves
 returns-in_err-push-clause-leaves g c = let o = g.O.Oracle in
-    on_err_anyway _ _ (leaves_same (o.knows c.args.oracle.now) (o.log c.args.oracle.now) (g.met.O.Oracle.derives c.args.oracle.now) (g.met.O.Oracle.one_reading c.args.oracle.now))
+    on_err_anyway _ _ (leaves_same (o.knows c.args.oracle.now) (o.log c.args.oracle.now) (g.met.O.Oracle.derives c.args.oracle.now)
+    (g.met.O.Oracle.one_reading c.args.oracle.now))
 
 pub returns-in_err-n-clause-leaves : goal.returns-in_err-n-clause-leaves
 returns-in_err-n-clause-leaves g c = let o = g.O.Oracle in
-    on_err_anyway _ _ (asked_later o.knows o.log o.learnt c.args.oracle.now c.loop-limit.oracle c.next_pair.new.oracle (o.task c.args.oracle.now) None c.loop-limit.invariant.lines c.in_err-n.ensures.leaves)
+    on_err_anyway _ _ (asked_later o.knows o.log o.learnt c.args.oracle.now c.loop-limit.oracle c.next_pair.new.oracle (o.task c.args.oracle.now) None
+    c.loop-limit.invariant.lines c.in_err-n.ensures.leaves)
 
 pub returns-in_err-push-in-Pair-clause-leaves : goal.returns-in_err-push-in-Pair-clause-leaves
 returns-in_err-push-in-Pair-clause-leaves g c = let o = g.O.Oracle in
-    on_err_anyway _ _ (asked_later o.knows o.log o.learnt c.args.oracle.now c.loop-limit.oracle c.next_pair.new.oracle (o.task c.args.oracle.now) None c.loop-limit.invariant.lines
-    (asked_here o.knows o.log o.learnt c.loop-limit.oracle c.next_pair.new.oracle (o.task c.loop-limit.oracle) (stop_of c.in_ok-n.field-0) c.in_ok-n.ensures.lines (g.met.O.Oracle.derives c.next_pair.new.oracle) (g.met.O.Oracle.one_reading c.next_pair.new.oracle)))
+    on_err_anyway _ _ (asked_later o.knows o.log o.learnt c.args.oracle.now c.loop-limit.oracle c.next_pair.new.oracle (o.task c.args.oracle.now) None
+    c.loop-limit.invariant.lines
+    (asked_here o.knows o.log o.learnt c.loop-limit.oracle c.next_pair.new.oracle (o.task c.loop-limit.oracle) (stop_of c.in_ok-n.field-0)
+    c.in_ok-n.ensures.lines (g.met.O.Oracle.derives c.next_pair.new.oracle) (g.met.O.Oracle.one_reading c.next_pair.new.oracle)))

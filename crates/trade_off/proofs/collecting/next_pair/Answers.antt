@@ -17,7 +17,8 @@ use Rattle.outside_io.proofs.Results.{on_err_anyway}
 
 pub ask-requires-clause-there : goal.ask-requires-clause-there
 ask-requires-clause-there g c = let o = g.O.Oracle in
-    under_within (o.caps c.args.oracle.now) c.args.b (greatest_of (o.task c.args.oracle.now) c.args.b) c.args.limit c.deref.result.now (c.deref.ensures.value ∙ c.in_ok-bounds.ensures) c.requires.second c.requires.limit
+    under_within (o.caps c.args.oracle.now) c.args.b (greatest_of (o.task c.args.oracle.now) c.args.b) c.args.limit c.deref.result.now
+    (c.deref.ensures.value ∙ c.in_ok-bounds.ensures) c.requires.second c.requires.limit
 
 pub ask-requires-clause-once : goal.ask-requires-clause-once
 ask-requires-clause-once g c = under_once c.args.b c.args.limit c.deref.result.now (c.deref.ensures.value ∙ c.in_ok-bounds.ensures)
@@ -25,7 +26,8 @@ ask-requires-clause-once g c = under_once c.args.b c.args.limit c.deref.result.n
 pub pair_from-requires-clause-known : goal.pair_from-requires-clause-known
 pair_from-requires-clause-known g c = let o = g.O.Oracle in
     let a = c.args.oracle.now in
-    known_after o.knows o.log o.learnt a c.ask.new.self (λ lines more. IsReply (o.task a) lines c.deref.result.now c.in_ok-first.field-0 more) c.requires.known c.in_ok-first.ensures.lines
+    known_after o.knows o.log o.learnt a c.ask.new.self (λ lines more. IsReply (o.task a) lines c.deref.result.now c.in_ok-first.field-0 more) c.requires.known
+    c.in_ok-first.ensures.lines
 
 pub pair_from-requires-clause-first : goal.pair_from-requires-clause-first
 pair_from-requires-clause-first g c =
@@ -42,7 +44,8 @@ pair_from-requires-clause-limit g c =
 pub pair_from-requires-clause-lawful : goal.pair_from-requires-clause-lawful
 pair_from-requires-clause-lawful g c = let o = g.O.Oracle in
     let a = c.args.oracle.now in
-    subst (λ (p : Task). IsLawful p c.in-Found.first) (sym c.in_ok-first.ensures.task) (found_fact (o.task a) c.deref.result.now c.in-Found.first c.in_ok-first.field-0 c.in-Found.is c.in_ok-first.ensures.right).0
+    subst (λ (p : Task). IsLawful p c.in-Found.first) (sym c.in_ok-first.ensures.task)
+    (found_fact (o.task a) c.deref.result.now c.in-Found.first c.in_ok-first.field-0 c.in-Found.is c.in_ok-first.ensures.right).0
 
 pub pair_from-requires-clause-met : goal.pair_from-requires-clause-met
 pair_from-requires-clause-met g c = let o = g.O.Oracle in
@@ -52,12 +55,14 @@ pair_from-requires-clause-met g c = let o = g.O.Oracle in
 pub returns-in-Refuted-clause-known : goal.returns-in-Refuted-clause-known
 returns-in-Refuted-clause-known g c = let o = g.O.Oracle in
     let a = c.args.oracle.now in
-    known_after o.knows o.log o.learnt a c.ask.new.self (λ lines more. IsReply (o.task a) lines c.deref.result.now c.in_ok-first.field-0 more) c.requires.known c.in_ok-first.ensures.lines
+    known_after o.knows o.log o.learnt a c.ask.new.self (λ lines more. IsReply (o.task a) lines c.deref.result.now c.in_ok-first.field-0 more) c.requires.known
+    c.in_ok-first.ensures.lines
 
 pub returns-clause-known : goal.returns-clause-known
 returns-clause-known g c = let o = g.O.Oracle in
     let a = c.args.oracle.now in
-    known_after o.knows o.log o.learnt a c.ask.new.self (λ lines more. IsReply (o.task a) lines c.deref.result.now c.in_ok-first.field-0 more) c.requires.known c.in_ok-first.ensures.lines
+    known_after o.knows o.log o.learnt a c.ask.new.self (λ lines more. IsReply (o.task a) lines c.deref.result.now c.in_ok-first.field-0 more) c.requires.known
+    c.in_ok-first.ensures.lines
 
 pub returns-in-Refuted-clause-next : goal.returns-in-Refuted-clause-next
 returns-in-Refuted-clause-next g c = let o = g.O.Oracle in
@@ -72,13 +77,23 @@ pub returns-in-Refuted-clause-lines : goal.returns-in-Refuted-clause-lines
 returns-in-Refuted-clause-lines g c = let o = g.O.Oracle in
     let a = c.args.oracle.now in
     asks_refuted o.knows o.log o.learnt a c.ask.new.self (o.task a) (o.task a) c.deref.result.now c.in_ok-first.field-0
-    (record { same = refl; once = under_once c.args.b c.args.limit c.deref.result.now (c.deref.ensures.value ∙ c.in_ok-bounds.ensures); right = c.in_ok-first.ensures.right }) c.in-Refuted.is c.in_ok-first.ensures.lines
+    (record {
+      same = refl;
+      once = under_once c.args.b c.args.limit c.deref.result.now (c.deref.ensures.value
+          ∙ c.in_ok-bounds.ensures);
+      right = c.in_ok-first.ensures.right;
+    }) c.in-Refuted.is c.in_ok-first.ensures.lines
 
 pub returns-clause-lines : goal.returns-clause-lines
 returns-clause-lines g c = let o = g.O.Oracle in
     let a = c.args.oracle.now in
     asks_stopped o.knows o.log o.learnt a c.ask.new.self (o.task a) (o.task a) c.deref.result.now c.in_ok-first.field-0 c.in-Stopped.stop
-    (record { same = refl; once = under_once c.args.b c.args.limit c.deref.result.now (c.deref.ensures.value ∙ c.in_ok-bounds.ensures); right = c.in_ok-first.ensures.right }) c.in-Stopped.is c.in_ok-first.ensures.lines
+    (record {
+      same = refl;
+      once = under_once c.args.b c.args.limit c.deref.result.now (c.deref.ensures.value
+          ∙ c.in_ok-bounds.ensures);
+      right = c.in_ok-first.ensures.right;
+    }) c.in-Stopped.is c.in_ok-first.ensures.lines
 
 pub returns-in-Found-clause-next : goal.returns-in-Found-clause-next
 returns-in-Found-clause-next g c = let o = g.O.Oracle in
@@ -90,15 +105,22 @@ returns-in-Found-clause-lines g c = let o = g.O.Oracle in
     let a = c.args.oracle.now in
     let b = c.ask.new.self in
     let e = c.pair_from.new.oracle in
-    IfOk-weaker c.pair_from.result (λ r. Continues o.knows o.log o.learnt b e (AreAsked (o.task b) (stop_of r))) (λ r. Continues o.knows o.log o.learnt a e (AreAsked (o.task a) (stop_of r)))
+    IfOk-weaker c.pair_from.result (λ r. Continues o.knows o.log o.learnt b e (AreAsked (o.task b) (stop_of r)))
+    (λ r. Continues o.knows o.log o.learnt a e (AreAsked (o.task a) (stop_of r)))
     (λ r h. asked_then o.knows o.log o.learnt a b e (o.task b) (o.task a) (stop_of r) c.in_ok-first.ensures.task
     (asks_found o.knows o.log o.learnt a b (o.task a) (o.task a) c.deref.result.now c.in_ok-first.field-0 c.in-Found.first
-    (record { same = refl; once = under_once c.args.b c.args.limit c.deref.result.now (c.deref.ensures.value ∙ c.in_ok-bounds.ensures); right = c.in_ok-first.ensures.right }) c.in-Found.is c.in_ok-first.ensures.lines) h)
+    (record {
+      same = refl;
+      once = under_once c.args.b c.args.limit c.deref.result.now (c.deref.ensures.value
+          ∙ c.in_ok-bounds.ensures);
+      right = c.in_ok-first.ensures.right;
+    }) c.in-Found.is c.in_ok-first.ensures.lines) h)
     c.pair_from.ensures.lines
 
 pub returns-in_err-bounds-clause-leaves : goal.returns-in_err-bounds-clause-leaves
 returns-in_err-bounds-clause-leaves g c = let o = g.O.Oracle in
-    on_err_anyway _ _ (leaves_same (o.knows c.args.oracle.now) (o.log c.args.oracle.now) (g.met.O.Oracle.derives c.args.oracle.now) (g.met.O.Oracle.one_reading c.args.oracle.now))
+    on_err_anyway _ _ (leaves_same (o.knows c.args.oracle.now) (o.log c.args.oracle.now) (g.met.O.Oracle.derives c.args.oracle.now)
+    (g.met.O.Oracle.one_reading c.args.oracle.now))
 
 pub returns-in_err-first-clause-leaves : goal.returns-in_err-first-clause-leaves
 returns-in_err-first-clause-leaves g c = let o = g.O.Oracle in
@@ -106,4 +128,5 @@ returns-in_err-first-clause-leaves g c = let o = g.O.Oracle in
 
 pub returns-in-Found-clause-leaves : goal.returns-in-Found-clause-leaves
 returns-in-Found-clause-leaves g c = let o = g.O.Oracle in
-    on_err_weaker c.pair_from.result _ _ (replied_later o.knows o.log o.learnt c.args.oracle.now c.ask.new.self c.pair_from.new.oracle (o.task c.args.oracle.now) c.deref.result.now c.in_ok-first.field-0 c.in_ok-first.ensures.lines) c.pair_from.ensures.leaves
+    on_err_weaker c.pair_from.result _ _ (replied_later o.knows o.log o.learnt c.args.oracle.now c.ask.new.self c.pair_from.new.oracle
+    (o.task c.args.oracle.now) c.deref.result.now c.in_ok-first.field-0 c.in_ok-first.ensures.lines) c.pair_from.ensures.leaves

@@ -18,13 +18,16 @@ use Rattle.outside_io.proofs.Results.{on_err_anyway}
 
 pub lower-requires-clause-held : goal.lower-requires-clause-held
 lower-requires-clause-held g c = let o = g.O.Oracle in
-    under_within (o.caps c.args.oracle.now) c.args.b (greatest_of (o.task c.args.oracle.now) c.args.b) c.args.limit c.deref.result.now (c.deref.ensures.value ∙ c.in_ok-held.ensures) c.requires.second c.requires.limit
+    under_within (o.caps c.args.oracle.now) c.args.b (greatest_of (o.task c.args.oracle.now) c.args.b) c.args.limit c.deref.result.now
+    (c.deref.ensures.value ∙ c.in_ok-held.ensures) c.requires.second c.requires.limit
 
 pub lower-requires-clause-beside : goal.lower-requires-clause-beside
-lower-requires-clause-beside g c = under_beside c.args.a c.args.b c.args.limit c.deref.result.now (c.deref.ensures.value ∙ c.in_ok-held.ensures) c.requires.apart
+lower-requires-clause-beside g c = under_beside c.args.a c.args.b c.args.limit c.deref.result.now
+    (c.deref.ensures.value ∙ c.in_ok-held.ensures) c.requires.apart
 
 pub lower-requires-clause-met : goal.lower-requires-clause-met
-lower-requires-clause-met g c = subst (λ (bs : List Below). AreMet (values_of c.args.first) bs) (sym (c.deref.ensures.value ∙ c.in_ok-held.ensures)) c.requires.met
+lower-requires-clause-met g c = subst (λ (bs : List Below). AreMet (values_of c.args.first) bs)
+    (sym (c.deref.ensures.value ∙ c.in_ok-held.ensures)) c.requires.met
 
 pub second_from-requires-clause-first : goal.second_from-requires-clause-first
 second_from-requires-clause-first g c = let o = g.O.Oracle in
@@ -40,14 +43,16 @@ second_from-requires-clause-lawful g c = let o = g.O.Oracle in
 
 pub returns-in-Some-clause-lines : goal.returns-in-Some-clause-lines
 returns-in-Some-clause-lines g c = let o = g.O.Oracle in
-    subst (λ (s : Option Stop). Continues o.knows o.log o.learnt c.args.oracle.now c.lower.new.oracle (AreAsked (o.task c.args.oracle.now) s)) c.in-Some.is c.in_ok-lowered.ensures.lines
+    subst (λ (s : Option Stop). Continues o.knows o.log o.learnt c.args.oracle.now c.lower.new.oracle (AreAsked (o.task c.args.oracle.now) s)) c.in-Some.is
+    c.in_ok-lowered.ensures.lines
 
 pub returns-clause-lines : goal.returns-clause-lines
 returns-clause-lines g c = let o = g.O.Oracle in
     let a = c.args.oracle.now in
     let b = c.lower.new.oracle in
     let e = c.second_from.new.oracle in
-    IfOk-weaker c.second_from.result (λ r. Continues o.knows o.log o.learnt b e (AreAsked (o.task b) (stop_of r))) (λ r. Continues o.knows o.log o.learnt a e (AreAsked (o.task a) (stop_of r)))
+    IfOk-weaker c.second_from.result (λ r. Continues o.knows o.log o.learnt b e (AreAsked (o.task b) (stop_of r)))
+    (λ r. Continues o.knows o.log o.learnt a e (AreAsked (o.task a) (stop_of r)))
     (λ r h. asked_then o.knows o.log o.learnt a b e (o.task b) (o.task a) (stop_of r) c.lower.ensures.task
     (subst (λ (s : Option Stop). Continues o.knows o.log o.learnt a b (AreAsked (o.task a) s)) c.in-None.is c.in_ok-lowered.ensures.lines) h)
     c.second_from.ensures.lines
@@ -58,13 +63,15 @@ returns-clause-next g c = let o = g.O.Oracle in
     let p = o.task a in
     let d = c.in_ok-lowered.lowered.least in
     IfOk-weaker c.second_from.result (IsSecondOf (o.task c.lower.new.oracle) c.args.a c.args.b d) (IsNext (IsLawful p) c.args.a c.args.b c.args.limit)
-    (λ r h. next_from p c.args.a c.args.b c.args.limit c.deref.result.now d r (c.deref.ensures.value ∙ c.in_ok-held.ensures) c.in_ok-lowered.ensures.lawful c.in_ok-lowered.ensures.met (c.in_ok-lowered.ensures.least c.in-None.is)
+    (λ r h. next_from p c.args.a c.args.b c.args.limit c.deref.result.now d r (c.deref.ensures.value ∙ c.in_ok-held.ensures) c.in_ok-lowered.ensures.lawful
+    c.in_ok-lowered.ensures.met (c.in_ok-lowered.ensures.least c.in-None.is)
     (subst (λ (q : Task). IsSecondOf q c.args.a c.args.b d r) c.lower.ensures.task h))
     c.second_from.ensures.next
 
 pub returns-in_err-held-clause-leaves : goal.returns-in_err-held-clause-leaves
 returns-in_err-held-clause-leaves g c = let o = g.O.Oracle in
-    on_err_anyway _ _ (leaves_same (o.knows c.args.oracle.now) (o.log c.args.oracle.now) (g.met.O.Oracle.derives c.args.oracle.now) (g.met.O.Oracle.one_reading c.args.oracle.now))
+    on_err_anyway _ _ (leaves_same (o.knows c.args.oracle.now) (o.log c.args.oracle.now) (g.met.O.Oracle.derives c.args.oracle.now)
+    (g.met.O.Oracle.one_reading c.args.oracle.now))
 
 pub returns-in_err-lowered-clause-leaves : goal.returns-in_err-lowered-clause-leaves
 returns-in_err-lowered-clause-leaves g c = let o = g.O.Oracle in
@@ -72,4 +79,5 @@ returns-in_err-lowered-clause-leaves g c = let o = g.O.Oracle in
 
 pub returns-clause-leaves : goal.returns-clause-leaves
 returns-clause-leaves g c = let o = g.O.Oracle in
-    on_err_weaker c.second_from.result _ _ (asked_later o.knows o.log o.learnt c.args.oracle.now c.lower.new.oracle c.second_from.new.oracle (o.task c.args.oracle.now) c.in_ok-lowered.lowered.stop c.in_ok-lowered.ensures.lines) c.second_from.ensures.leaves
+    on_err_weaker c.second_from.result _ _ (asked_later o.knows o.log o.learnt c.args.oracle.now c.lower.new.oracle c.second_from.new.oracle
+    (o.task c.args.oracle.now) c.in_ok-lowered.lowered.stop c.in_ok-lowered.ensures.lines) c.second_from.ensures.leaves

@@ -25,7 +25,14 @@ returns-in-NoRoom-clause-lines g c = let o = g.O.Oracle in
     let e = c.build_both.new.oracle in
     tells_no_room o.knows o.log o.learnt s e (o.task s) c.args.a c.args.b c.in_ok-build_both.field-0 c.in-NoRoom.is
     (laws_at o.knows e (o.task e) (o.task s) c.build_both.ensures.task
-    (record { covers = g.met.O.Oracle.covers e; formed = g.met.O.Oracle.formed e; derives = g.met.O.Oracle.derives e; due = g.met.O.Oracle.due e; fits = g.met.O.Oracle.fits e; within = g.met.O.Oracle.within e }))
+    (record {
+      covers = g.met.O.Oracle.covers e;
+      formed = g.met.O.Oracle.formed e;
+      derives = g.met.O.Oracle.derives e;
+      due = g.met.O.Oracle.due e;
+      fits = g.met.O.Oracle.fits e;
+      within = g.met.O.Oracle.within e;
+    }))
     c.requires.start c.in_ok-build_both.ensures.lines
 
 pub collect-requires-clause-ready : goal.collect-requires-clause-ready
@@ -35,17 +42,21 @@ pub collect-requires-clause-known : goal.collect-requires-clause-known
 collect-requires-clause-known g c = let o = g.O.Oracle in
     let s = c.args.oracle.now in
     let p = o.task s in
-    known_after o.knows o.log o.learnt s c.build_both.new.oracle (λ lines more. lines ≡ first_lines p → IsBuiltFront p c.args.a c.args.b c.in_ok-build_both.field-0 (lines ++ more)) (first_lines p, c.requires.start) c.in_ok-build_both.ensures.lines
+    known_after o.knows o.log o.learnt s c.build_both.new.oracle (λ lines more. lines ≡ first_lines p → IsBuiltFront p c.args.a c.args.b
+    c.in_ok-build_both.field-0 (lines ++ more)) (first_lines p, c.requires.start) c.in_ok-build_both.ensures.lines
 
 pub collect-requires-clause-caps_first : goal.collect-requires-clause-caps_first
-collect-requires-clause-caps_first g c = c.in_ok-build_both.ensures.first c.in-Whole.is ∙ sym (ap (λ (p : Task). greatest_of p c.args.a) c.build_both.ensures.task)
+collect-requires-clause-caps_first g c = c.in_ok-build_both.ensures.first c.in-Whole.is
+    ∙ sym (ap (λ (p : Task). greatest_of p c.args.a) c.build_both.ensures.task)
 
 pub collect-requires-clause-caps_second : goal.collect-requires-clause-caps_second
-collect-requires-clause-caps_second g c = c.in_ok-build_both.ensures.second c.in-Whole.is ∙ sym (ap (λ (p : Task). greatest_of p c.args.b) c.build_both.ensures.task)
+collect-requires-clause-caps_second g c = c.in_ok-build_both.ensures.second c.in-Whole.is
+    ∙ sym (ap (λ (p : Task). greatest_of p c.args.b) c.build_both.ensures.task)
 
 pub returns-in-Whole-clause-right : goal.returns-in-Whole-clause-right
 returns-in-Whole-clause-right g c =
-    subst (λ (p : Task). IfOk c.collect.result (λ r. IsRightFront (IsLawful p) c.args.a c.args.b r.pairs r.ending)) c.build_both.ensures.task c.collect.ensures.right
+    subst (λ (p : Task). IfOk c.collect.result (λ r. IsRightFront (IsLawful p) c.args.a c.args.b r.pairs r.ending)) c.build_both.ensures.task
+    c.collect.ensures.right
 
 pub returns-in-Whole-clause-lines : goal.returns-in-Whole-clause-lines
 returns-in-Whole-clause-lines g c = let o = g.O.Oracle in
@@ -54,20 +65,30 @@ returns-in-Whole-clause-lines g c = let o = g.O.Oracle in
     let e = c.collect.new.oracle in
     let p = o.task s in
     IfOk-weaker c.collect.result (λ r. Continues o.knows o.log o.learnt t e (AreAsked (o.task t) (stop_behind r.ending)))
-    (λ r. ToldBehind (o.knows e) (o.log s) (o.log e) (o.learnt s) (o.learnt e) (first_lines p) (λ more. IsFrontLog p c.args.a c.args.b r.ending (first_lines p ++ more)))
+    (λ r. ToldBehind (o.knows e) (o.log s) (o.log e) (o.learnt s) (o.learnt e) (first_lines p)
+    (λ more. IsFrontLog p c.args.a c.args.b r.ending (first_lines p ++ more)))
     (λ r h. tells_front o.knows o.log o.learnt s t e (o.task t) p c.args.a c.args.b c.in_ok-build_both.field-0 r.ending c.build_both.ensures.task c.in-Whole.is
     (laws_at o.knows e (o.task e) p (c.collect.ensures.task ∙ c.build_both.ensures.task)
-    (record { covers = g.met.O.Oracle.covers e; formed = g.met.O.Oracle.formed e; derives = g.met.O.Oracle.derives e; due = g.met.O.Oracle.due e; fits = g.met.O.Oracle.fits e; within = g.met.O.Oracle.within e }))
+    (record {
+      covers = g.met.O.Oracle.covers e;
+      formed = g.met.O.Oracle.formed e;
+      derives = g.met.O.Oracle.derives e;
+      due = g.met.O.Oracle.due e;
+      fits = g.met.O.Oracle.fits e;
+      within = g.met.O.Oracle.within e;
+    }))
     c.requires.start c.in_ok-build_both.ensures.lines h)
     c.collect.ensures.lines
 
 pub returns-in_err-build_both-clause-left : goal.returns-in_err-build_both-clause-left
 returns-in_err-build_both-clause-left g c = let o = g.O.Oracle in
     let s = c.args.oracle.now in
-    on_err_anyway _ _ (build_left o.knows o.log s c.build_both.new.oracle (o.task s) c.args.a c.args.b (o.vars s) c.requires.fresh.vars_are c.requires.start c.in_err-build_both.ensures.leaves)
+    on_err_anyway _ _ (build_left o.knows o.log s c.build_both.new.oracle (o.task s) c.args.a c.args.b (o.vars s) c.requires.fresh.vars_are c.requires.start
+    c.in_err-build_both.ensures.leaves)
 
 pub returns-in-Whole-clause-left : goal.returns-in-Whole-clause-left
 returns-in-Whole-clause-left g c = let o = g.O.Oracle in
     let s = c.args.oracle.now in
     let t = c.build_both.new.oracle in
-    on_err_weaker c.collect.result _ _ (collect_left o.knows o.log o.learnt s t c.collect.new.oracle (o.task s) c.args.a c.args.b c.in_ok-build_both.field-0 c.in-Whole.is c.requires.start c.in_ok-build_both.ensures.lines) c.collect.ensures.leaves
+    on_err_weaker c.collect.result _ _ (collect_left o.knows o.log o.learnt s t c.collect.new.oracle (o.task s) c.args.a c.args.b c.in_ok-build_both.field-0
+    c.in-Whole.is c.requires.start c.in_ok-build_both.ensures.lines) c.collect.ensures.leaves

@@ -10,7 +10,8 @@ put-requires-else-lits-lt2-clause-there c = there_more c.args.self.now.vars (c.a
 pub returns-in_ok-put-clause-finder : goal.returns-in_ok-put-clause-finder
 returns-in_ok-put-clause-finder c = λ all taken h valid is.
     let lits = c.args.lits.now in
-    let d : IsPadded c.args.self.now.vars lits c.deref.result.now = subst (λ (ls : List Literal). IsPadded c.args.self.now.vars lits ls) (sym c.deref.ensures.value) c.in_ok-all.ensures.padded in
+    let d : IsPadded c.args.self.now.vars lits c.deref.result.now = subst (λ (ls : List Literal). IsPadded c.args.self.now.vars lits ls)
+    (sym c.deref.ensures.value) c.in_ok-all.ensures.padded in
     c.in_ok-put.ensures.finder all taken lits h (record { valid = valid; is = is; padded = d; there = c.requires.there; distinct = c.requires.distinct })
 
 pub returns-in_ok-put-2-clause-finder : goal.returns-in_ok-put-2-clause-finder

@@ -12,10 +12,12 @@ pub returns-in-None-clause-finder : goal.returns-in-None-clause-finder
 returns-in-None-clause-finder c = λ all taken h. c.take_back.ensures.finder all taken c.args.lits.now (c.suppose.ensures.supposing all taken h)
 
 pub returns-in-None-clause-found : goal.returns-in-None-clause-found
-returns-in-None-clause-found c = λ all taken h rup. never_follows taken c.args.lits.now (has c.suppose.new.self.trail.lits) (c.suppose.ensures.ends c.in-None.is all taken h) rup
+returns-in-None-clause-found c = λ all taken h rup. never_follows taken c.args.lits.now (has c.suppose.new.self.trail.lits)
+    (c.suppose.ensures.ends c.in-None.is all taken h) rup
 
 pub returns-in_ok-hints-in-Some-clause-finder : goal.returns-in_ok-hints-in-Some-clause-finder
-returns-in_ok-hints-in-Some-clause-finder c = λ all taken h. c.in_ok-hints-in-Some.ensures.finder all taken c.args.lits.now (c.suppose.ensures.supposing all taken h)
+returns-in_ok-hints-in-Some-clause-finder c = λ all taken h. c.in_ok-hints-in-Some.ensures.finder all taken c.args.lits.now
+    (c.suppose.ensures.supposing all taken h)
 
 pub returns-in_ok-hints-in-Some-clause-found : goal.returns-in_ok-hints-in-Some-clause-found
 returns-in_ok-hints-in-Some-clause-found c = λ all taken h.

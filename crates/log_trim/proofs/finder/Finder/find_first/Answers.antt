@@ -16,21 +16,26 @@ pub hints_to-requires-clause-supposing : goal.hints_to-requires-clause-supposing
 hints_to-requires-clause-supposing c = let s = c.requires.supposing in (s.0, s.1, c.args.first ∷ s.2, c.suppose_first.ensures.supposing s.0 s.1 s.2 s.3)
 
 pub returns-in-Some-clause-found : goal.returns-in-Some-clause-found
-returns-in-Some-clause-found c = λ all taken others h still rup. by all taken others h still rup c.in-Some.field-0 (subst (IsValue c.args.self.now.trail.lits c.args.first) c.in-Some.is c.value.ensures)
+returns-in-Some-clause-found c = λ all taken others h still rup. by all taken others h still rup c.in-Some.field-0
+    (subst (IsValue c.args.self.now.trail.lits c.args.first) c.in-Some.is c.value.ensures)
   where
-    by : (all taken : Clauses) (others : List Literal) → IsSupposing all taken others c.args.self.now → IsUnfalsifiedEnd taken others (has c.args.self.now.trail.lits) → Rup taken (c.args.first ∷ others) → (b : Bool) →
+    by : (all taken : Clauses) (others : List Literal) → IsSupposing all taken others c.args.self.now →
+        IsUnfalsifiedEnd taken others (has c.args.self.now.trail.lits) → Rup taken (c.args.first ∷ others) → (b : Bool) →
         IsValue c.args.self.now.trail.lits c.args.first (Some b) → Falsifies taken (negations others) ⊎ Closure taken (negations others) c.args.first
     by all taken others h still rup true here =
         let old = c.args.self.now in
         inr (trail_follows old.vars all taken old.arena old.numbers.items others old.trail h.clauses h.denying.reasons c.args.first here c.requires.there.1)
-    by all taken others h still rup false here = absurd (never_follows taken (c.args.first ∷ others) (has c.args.self.now.trail.lits) (ends_with_first taken c.args.first others (has c.args.self.now.trail.lits) here still) rup)
+    by all taken others h still rup false here = absurd (never_follows taken (c.args.first ∷ others) (has c.args.self.now.trail.lits)
+        (ends_with_first taken c.args.first others (has c.args.self.now.trail.lits) here still) rup)
 
 pub returns-in-None-suppose_first-clause-finder : goal.returns-in-None-suppose_first-clause-finder
-returns-in-None-suppose_first-clause-finder c = λ all taken others h. c.take_back-in-None-suppose_first.ensures.finder all taken (c.args.first ∷ others) (c.suppose_first.ensures.supposing all taken others h)
+returns-in-None-suppose_first-clause-finder c = λ all taken others h. c.take_back-in-None-suppose_first.ensures.finder all taken (c.args.first ∷ others)
+    (c.suppose_first.ensures.supposing all taken others h)
 
 pub returns-in-None-suppose_first-clause-found : goal.returns-in-None-suppose_first-clause-found
 returns-in-None-suppose_first-clause-found c = λ all taken others h still rup.
-    absurd (never_follows taken (c.args.first ∷ others) (has c.suppose_first.new.self.trail.lits) (c.suppose_first.ensures.ends c.in-None-suppose_first.is all taken others h) rup)
+    absurd (never_follows taken (c.args.first ∷ others) (has c.suppose_first.new.self.trail.lits)
+    (c.suppose_first.ensures.ends c.in-None-suppose_first.is all taken others h) rup)
 
 pub returns-in_ok-hints-in-Some-suppose_first-clause-finder :
     goal.returns-in_ok-hints-in-Some-suppose_first-clause-finder

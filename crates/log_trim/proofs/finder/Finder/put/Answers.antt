@@ -17,8 +17,10 @@ returns-clause-finder c = λ all taken clause h this.
     let text = c.in_ok-c.ensures in
     let left = c.make_way.ensures.idle old.arena old.vars h.idle in
     record {
-      clauses = clauses_more old.vars all taken old.arena c.attach.new.arena old.numbers.items c.number.new.numbers.items clause d p c.args.n h.clauses text.places text.clause text.others text.attached this.padded this.there this.distinct this.valid this.is c.in_ok-number.ensures;
-      idle = idle_more old.arena c.attach.new.arena old.vars p c.make_way.new.trail left text.others text.places (text.watched c.make_way.new.trail (left_watched old.arena old.vars c.make_way.new.trail left) c.make_way.ensures.open_);
+      clauses = clauses_more old.vars all taken old.arena c.attach.new.arena old.numbers.items c.number.new.numbers.items clause d p c.args.n h.clauses
+          text.places text.clause text.others text.attached this.padded this.there this.distinct this.valid this.is c.in_ok-number.ensures;
+      idle = idle_more old.arena c.attach.new.arena old.vars p c.make_way.new.trail left text.others text.places
+          (text.watched c.make_way.new.trail (left_watched old.arena old.vars c.make_way.new.trail left) c.make_way.ensures.open_);
       size = h.size;
       unneeded = h.unneeded;
     }

@@ -24,7 +24,8 @@ returns-clause-supposing c = λ all taken others h.
     let p = c.propagate.ensures in
     record {
       clauses = clauses_same old.vars all taken old.arena c.propagate.new.self old.numbers.items h.clauses p.text;
-      denying = assuming_grown old.arena c.propagate.new.self old.vars (c.args.first ∷ others) c.assume_first.new.trail c.propagate.new.trail (c.assume_first.ensures old.arena old.vars others h.denying) p.text p.longer p.reasons p.because p.front p.watched;
+      denying = assuming_grown old.arena c.propagate.new.self old.vars (c.args.first ∷ others) c.assume_first.new.trail c.propagate.new.trail
+          (c.assume_first.ensures old.arena old.vars others h.denying) p.text p.longer p.reasons p.because p.front p.watched;
       size = h.size;
       unneeded = h.unneeded;
     }
@@ -33,4 +34,5 @@ pub returns-clause-ends : goal.returns-clause-ends
 returns-clause-ends c = λ none all taken others h.
     let old = c.args.self.now in
     let start = c.assume_first.ensures old.arena old.vars others h.denying in
-    ends_unfalsified old.vars all taken old.arena old.numbers.items (c.args.first ∷ others) c.assume_first.new.trail.lits c.propagate.new.trail.lits h.clauses start.whole (c.propagate.ensures.closes none)
+    ends_unfalsified old.vars all taken old.arena old.numbers.items (c.args.first ∷ others) c.assume_first.new.trail.lits c.propagate.new.trail.lits h.clauses
+    start.whole (c.propagate.ensures.closes none)

@@ -11,4 +11,5 @@ overflow_cast-learnt c = let le = given_few c.args.lines.now in let is = c.count
 pub returns : goal.returns
 returns c wanted =
     let f = c.in_ok-finder.ensures in
-    hinting_none c.args.lines.now wanted _ (f.finder (flat_map given c.args.lines.now)) (subst (λ n. All (IsLineWithin n) c.args.lines.now) (sym f.vars) c.requires.within) refl c.count_given-learnt.ensures c.new-2.ensures
+    hinting_none c.args.lines.now wanted _ (f.finder (flat_map given c.args.lines.now))
+    (subst (λ n. All (IsLineWithin n) c.args.lines.now) (sym f.vars) c.requires.within) refl c.count_given-learnt.ensures c.new-2.ensures

@@ -30,7 +30,8 @@ returns-in_ok-add-in-Formula c =
     let lits = c.as_slice.result.now in
     let f : slice_get c.args.lines.now c.args.i ≡ Some (Formula lits) = e ∙ ap (λ (k : List Literal). Some (Formula k)) (sym c.as_slice.ensures.value) in
     let t = c.in_ok-add-in-Formula.ensures in
-    took_formula c.args.lines.now c.args.wanted.now c.args.i (c.args.self.now.formula + 1) lits c.args.self.now _ f c.requires.wanted c.requires.timely c.requires.hinting t.vars t.finder refl refl refl refl
+    took_formula c.args.lines.now c.args.wanted.now c.args.i (c.args.self.now.formula + 1) lits c.args.self.now _ f c.requires.wanted c.requires.timely
+    c.requires.hinting t.vars t.finder refl refl refl refl
 
 pub find_new-requires-clause-there : goal.find_new-requires-clause-there
 find_new-requires-clause-there c =
@@ -44,7 +45,8 @@ returns-in-None c =
     let e : slice_get c.args.lines.now c.args.i ≡ Some (Learnt c.in-Learnt.c) = rw c.in-Learnt.is at c.get.ensures.value in
     let lits = c.as_slice-lits.result.now in
     let f : slice_get c.args.lines.now c.args.i ≡ Some (Learnt lits) = e ∙ ap (λ (k : List Literal). Some (Learnt k)) (sym c.as_slice-lits.ensures.value) in
-    learnt_fails c.args.lines.now c.args.wanted.now c.args.i lits c.in_ok-find_new-in-Learnt.field-0 c.args.self.now f c.requires.hinting c.in_ok-find_new-in-Learnt.ensures.found c.in-None.is
+    learnt_fails c.args.lines.now c.args.wanted.now c.args.i lits c.in_ok-find_new-in-Learnt.field-0 c.args.self.now f c.requires.hinting
+    c.in_ok-find_new-in-Learnt.ensures.found c.in-None.is
 
 pub overflow_add-self-in-Some : goal.overflow_add-self-in-Some
 overflow_add-self-in-Some c =
@@ -71,7 +73,8 @@ pub find-requires-clause-there : goal.find-requires-clause-there
 find-requires-clause-there c =
     let e : slice_get c.args.lines.now c.args.i ≡ Some (Refuted c.in-Refuted.c) = rw c.in-Refuted.is at c.get.ensures.value in
     let lits = c.as_slice-lits-in-Refuted.result.now in
-    let f : slice_get c.args.lines.now c.args.i ≡ Some (Refuted lits) = e ∙ ap (λ (k : List Literal). Some (Refuted k)) (sym c.as_slice-lits-in-Refuted.ensures.value) in
+    let f : slice_get c.args.lines.now c.args.i ≡ Some (Refuted lits) = e ∙ ap (λ (k : List Literal). Some (Refuted k))
+    (sym c.as_slice-lits-in-Refuted.ensures.value) in
     within_at c.args.self.now.finder.vars c.args.lines.now c.args.i (Refuted lits) c.requires.hinting.within f
 
 pub returns-in_ok-add_learnt-in-Some : goal.returns-in_ok-add_learnt-in-Some
@@ -79,41 +82,56 @@ returns-in_ok-add_learnt-in-Some c =
     let e : slice_get c.args.lines.now c.args.i ≡ Some (Learnt c.in-Learnt.c) = rw c.in-Learnt.is at c.get.ensures.value in
     let lits = c.as_slice-lits.result.now in
     let f : slice_get c.args.lines.now c.args.i ≡ Some (Learnt lits) = e ∙ ap (λ (k : List Literal). Some (Learnt k)) (sym c.as_slice-lits.ensures.value) in
-    let some : 1 ≤ length lits = subst (λ (ls : List Literal). 1 ≤ length ls) (sym c.as_slice-lits.ensures.value) (let told : MayBeTold (Learnt c.in-Learnt.c) = rw c.in-Learnt.is at c.get.ensures.told in told.formed.1) in
+    let some : 1 ≤ length lits = subst (λ (ls : List Literal). 1 ≤ length ls) (sym c.as_slice-lits.ensures.value)
+    (let told : MayBeTold (Learnt c.in-Learnt.c) = rw c.in-Learnt.is at c.get.ensures.told in told.formed.1) in
     let t = c.in_ok-find_new-in-Learnt.ensures in
     let a = c.in_ok-add-in-Some.ensures in
-    took_learnt c.args.lines.now c.args.wanted.now c.args.i (c.args.self.now.learnt + 1) lits c.in_ok-find_new-in-Learnt.field-0 c.in-Some.hints c.args.self.now _ c.find_new.new.self f some c.requires.timely c.requires.hinting t.found c.in-Some.is t.finder (a.vars ∙ t.vars) a.finder refl refl refl c.in_ok-add_learnt-in-Some.ensures
+    took_learnt c.args.lines.now c.args.wanted.now c.args.i (c.args.self.now.learnt + 1) lits c.in_ok-find_new-in-Learnt.field-0 c.in-Some.hints c.args.self.now
+    _ c.find_new.new.self f some c.requires.timely c.requires.hinting t.found c.in-Some.is t.finder (a.vars ∙ t.vars) a.finder refl refl refl
+    c.in_ok-add_learnt-in-Some.ensures
 
 pub returns-in-None-2 : goal.returns-in-None-2
 returns-in-None-2 c =
     let e : slice_get c.args.lines.now c.args.i ≡ Some (Refuted c.in-Refuted.c) = rw c.in-Refuted.is at c.get.ensures.value in
     let lits = c.as_slice-lits-in-Refuted.result.now in
-    let f : slice_get c.args.lines.now c.args.i ≡ Some (Refuted lits) = e ∙ ap (λ (k : List Literal). Some (Refuted k)) (sym c.as_slice-lits-in-Refuted.ensures.value) in
-    refuted_fails c.args.lines.now c.args.wanted.now c.args.i lits c.in_ok-find-in-Refuted.field-0 c.args.self.now f c.requires.hinting c.in_ok-find-in-Refuted.ensures.found c.in-None-2.is
+    let f : slice_get c.args.lines.now c.args.i ≡ Some (Refuted lits) = e ∙ ap (λ (k : List Literal). Some (Refuted k))
+    (sym c.as_slice-lits-in-Refuted.ensures.value) in
+    refuted_fails c.args.lines.now c.args.wanted.now c.args.i lits c.in_ok-find-in-Refuted.field-0 c.args.self.now f c.requires.hinting
+    c.in_ok-find-in-Refuted.ensures.found c.in-None-2.is
 
 pub returns-in_ok-add_refuted-in-Some-2 : goal.returns-in_ok-add_refuted-in-Some-2
 returns-in_ok-add_refuted-in-Some-2 c =
     let e : slice_get c.args.lines.now c.args.i ≡ Some (Refuted c.in-Refuted.c) = rw c.in-Refuted.is at c.get.ensures.value in
     let lits = c.as_slice-lits-in-Refuted.result.now in
-    let f : slice_get c.args.lines.now c.args.i ≡ Some (Refuted lits) = e ∙ ap (λ (k : List Literal). Some (Refuted k)) (sym c.as_slice-lits-in-Refuted.ensures.value) in
+    let f : slice_get c.args.lines.now c.args.i ≡ Some (Refuted lits) = e ∙ ap (λ (k : List Literal). Some (Refuted k))
+    (sym c.as_slice-lits-in-Refuted.ensures.value) in
     let old = c.requires.hinting in
     let t = c.in_ok-find-in-Refuted.ensures in
-    took_refuted c.args.lines.now c.args.wanted.now c.args.i lits c.in_ok-find-in-Refuted.field-0 c.in-Some-2.hints c.args.self.now _ f c.requires.timely c.requires.hinting t.found c.in-Some-2.is t.finder t.vars refl refl (λ good. hinted_refuted c.args.lines.now c.args.wanted.now c.args.i c.args.self.now.list c.add_refuted.new.list lits c.in-Some-2.hints (c.is_wanted.ensures.0 c.if-is_wanted.true) f old.hinted good c.in_ok-add_refuted-in-Some-2.ensures)
+    took_refuted c.args.lines.now c.args.wanted.now c.args.i lits c.in_ok-find-in-Refuted.field-0 c.in-Some-2.hints c.args.self.now _ f c.requires.timely
+    c.requires.hinting t.found c.in-Some-2.is t.finder t.vars refl refl (λ good. hinted_refuted c.args.lines.now c.args.wanted.now c.args.i
+    c.args.self.now.list c.add_refuted.new.list lits c.in-Some-2.hints (c.is_wanted.ensures.0 c.if-is_wanted.true) f old.hinted good
+    c.in_ok-add_refuted-in-Some-2.ensures)
 
 pub returns-else-is_wanted : goal.returns-else-is_wanted
 returns-else-is_wanted c =
     let e : slice_get c.args.lines.now c.args.i ≡ Some (Refuted c.in-Refuted.c) = rw c.in-Refuted.is at c.get.ensures.value in
     let lits = c.as_slice-lits-in-Refuted.result.now in
-    let f : slice_get c.args.lines.now c.args.i ≡ Some (Refuted lits) = e ∙ ap (λ (k : List Literal). Some (Refuted k)) (sym c.as_slice-lits-in-Refuted.ensures.value) in
+    let f : slice_get c.args.lines.now c.args.i ≡ Some (Refuted lits) = e ∙ ap (λ (k : List Literal). Some (Refuted k))
+    (sym c.as_slice-lits-in-Refuted.ensures.value) in
     let old = c.requires.hinting in
     let t = c.in_ok-find-in-Refuted.ensures in
-    took_refuted c.args.lines.now c.args.wanted.now c.args.i lits c.in_ok-find-in-Refuted.field-0 c.in-Some-2.hints c.args.self.now _ f c.requires.timely c.requires.hinting t.found c.in-Some-2.is t.finder t.vars refl refl (λ good. hinted_past c.args.lines.now c.args.wanted.now c.args.i c.args.self.now.list (Refuted lits) f refl (λ m. both_ways c.is_wanted.result c.if-is_wanted.false (c.is_wanted.ensures.1 m)) old.hinted)
+    took_refuted c.args.lines.now c.args.wanted.now c.args.i lits c.in_ok-find-in-Refuted.field-0 c.in-Some-2.hints c.args.self.now _ f c.requires.timely
+    c.requires.hinting t.found c.in-Some-2.is t.finder t.vars refl refl (λ good. hinted_past c.args.lines.now c.args.wanted.now c.args.i
+    c.args.self.now.list (Refuted lits) f refl (λ m. both_ways c.is_wanted.result c.if-is_wanted.false (c.is_wanted.ensures.1 m)) old.hinted)
 
 pub returns-in-Bound : goal.returns-in-Bound
-returns-in-Bound c = took_other c.args.lines.now c.args.wanted.now c.args.i c.get.result.now c.args.self.now (rw c.in-Bound.is refl) c.get.ensures.value c.requires.wanted c.requires.timely c.requires.hinting
+returns-in-Bound c = took_other c.args.lines.now c.args.wanted.now c.args.i c.get.result.now c.args.self.now (rw c.in-Bound.is refl) c.get.ensures.value
+    c.requires.wanted c.requires.timely c.requires.hinting
 
 pub returns-in-Query : goal.returns-in-Query
-returns-in-Query c = took_other c.args.lines.now c.args.wanted.now c.args.i c.get.result.now c.args.self.now (rw c.in-Query.is refl) c.get.ensures.value c.requires.wanted c.requires.timely c.requires.hinting
+returns-in-Query c = took_other c.args.lines.now c.args.wanted.now c.args.i c.get.result.now c.args.self.now (rw c.in-Query.is refl) c.get.ensures.value
+    c.requires.wanted c.requires.timely c.requires.hinting
 
 pub returns-in-Model : goal.returns-in-Model
-returns-in-Model c = took_other c.args.lines.now c.args.wanted.now c.args.i c.get.result.now c.args.self.now (rw c.in-Model.is refl) c.get.ensures.value c.requires.wanted c.requires.timely c.requires.hinting
+returns-in-Model c = took_other c.args.lines.now c.args.wanted.now c.args.i c.get.result.now c.args.self.now (rw c.in-Model.is refl) c.get.ensures.value
+    c.requires.wanted c.requires.timely c.requires.hinting
