@@ -1,6 +1,6 @@
 -- What front answers to a station: the front of two criteria, pairs of values of which no lawful drawing has less of
 -- one without more of the other, and how the search for them ended.
-use Rattle.std.specs.Prelude.{◌≡◌, ℕ, List}
+use Rattle.std.specs.Prelude.{◌≡◌, ◌⊎◌, ℕ, List, []}
 use Rattle.plan_core.specs.declared.criterion.Criterion.{Criterion}
 use Rattle.plan_core.specs.Grid.{GridSize}
 use Rattle.plan_core.specs.Graph.{Graph}
@@ -11,11 +11,13 @@ use Rattle.search_least.specs.Task.{Task, IsLawful}
 use Rattle.trade_off.specs.declared.outcome.FrontEnd.{FrontEnd}
 use Rattle.trade_off.specs.declared.outcome.FrontEnd.TheVariants.{Whole, Empty, Conflicts, Room}
 use Rattle.trade_off.specs.Front.{Pairs}
-use Rattle.trade_off.specs.Outcome.{IsRightFront, IsFrontLog}
+use Rattle.trade_off.specs.Outcome.{IsRightFront, IsFrontLog, IsFrontLeft}
 use Rattle.drawing_cnf.specs.Layout.{layout}
 use Rattle.lex_minimise.specs.Task.{task_of}
 use Rattle.run_input.specs.declared.status.Status.{Status}
 use Rattle.run_input.specs.declared.status.Status.TheVariants as statuses
+use Rattle.run_input.specs.Met.{Met}
+use Rattle.run_input.specs.Answer.{IsReadStation}
 use Rattle.run_draw_front.specs.FrontText.{front_text}
 
 -- what is asked: the grid of the drawings, the two criteria, and with how many learnt clauses the search gives up
@@ -52,3 +54,13 @@ pub record IsFrontAnswer (asked : FrontJob) (IsTold : Lines → Type 0) (g : Gra
   pub log : IsFrontLog (front_task g o asked) asked.first asked.second ending lines
   pub status_is : status ≡ status_of_front ending
   pub spelled : text ≡ front_text asked.first asked.second pairs ending
+
+-- what is left of such a search for the station after an error
+abbrev pub IsLeftOfFront : FrontJob → Graph → EdgeOrder → Lines → Type 0
+IsLeftOfFront asked g o lines = IsFrontLeft (front_task g o asked) asked.first asked.second lines
+
+-- what a run may leave after an error in a log that had no line: nothing, or what is left of a search for the station
+-- that was read
+abbrev pub FrontMayLeave : FrontJob → (input : List ℕ) → Met → Lines → Type 0
+FrontMayLeave asked input met lines =
+    (lines ≡ []) ⊎ ((g : Graph) × (o : EdgeOrder) × IsReadStation input met g o × IsLeftOfFront asked g o lines)

@@ -1,14 +1,15 @@
 // What front answers: the file's station is read, the front is searched for, and its lines go to the trace.
-ghost use Rattle.std.specs.Prelude.{◌≡◌, ◌≢◌, ◌≤◌, ◌⊎◌, IfOk, IsOkAnd, IsErrOf};
+ghost use Rattle.std.specs.Prelude.{◌≡◌, ◌≢◌, ◌≤◌, ◌⊎◌, [], IfOk, OnErr, IsOkAnd, IsErrOf};
 ghost use Rattle.outside_io.specs.Contents.{WhereTold, SameFiles};
 ghost use Rattle.outside_io.specs.Counts.{Rose};
 ghost use Rattle.track_order.specs.Order.{IsOrderOf};
+ghost use Rattle.refute_log.specs.Told.{Lines};
 ghost use Rattle.refute_log.specs.ToldTo.{told_to};
 ghost use Rattle.run_input.specs.Status.{IsAnswered, IsRefused};
 ghost use Rattle.run_input.specs.Met.{between, ReadsInputs, IsUnwritten};
 ghost use Rattle.run_input.specs.Answer.{IsFileJudged, IsAnswerToFile, HasReadStation};
 ghost use Rattle.run_draw_front.specs.SearchLog.{DerivesIfNew};
-ghost use Rattle.run_draw_front.specs.Fronted.{IsFrontAnswer, status_of_front};
+ghost use Rattle.run_draw_front.specs.Fronted.{IsFrontAnswer, status_of_front, IsLeftOfFront, FrontMayLeave};
 
 use crate::writing::text_of;
 use cnf_core::ROOM;
@@ -66,6 +67,8 @@ fn front_station<L: LogSink>(
         IfOk result (λ r. IsFrontAnswer asked.now told station.now.graph station.now.order r.status r.text.items) }
     ensures unrefused { IsOkAnd result (λ r. IsRefused r.status) → ⊥ }
     ensures derives { DerivesIfNew (L.tells log.old) (L.tells log.new) }
+    ensures left { OnErr result (L.tells log.old [] → (lines : Lines) → L.tells log.new lines →
+        IsLeftOfFront asked.now station.now.graph station.now.order lines) }
     ensures later { L.is_later log.old log.new }
     ensures cause { IsErrOf result Cut.Unwritten → Rose (L.faults log.old) (L.faults log.new) }
 {
@@ -90,7 +93,7 @@ fn front_station<L: LogSink>(
     }
 }
 
-/// What `front` answers.
+/// What `front` answers. After an error a trace that had no line has the first of the lines that are expected, or none.
 pub fn front<F: Files, T: LogSink>(
     alloc: Global,
     input: &Text,
@@ -109,6 +112,9 @@ pub fn front<F: Files, T: LogSink>(
     ensures cause { IsErrOf result Cut.Unwritten → Rose (T.faults trace.old) (T.faults trace.new) }
     ensures later { (F.at files.old).read_faults ≤ (F.at files.new).read_faults }
     ensures derives { DerivesIfNew (T.tells trace.old) (T.tells trace.new) }
+    ensures left { let met = between (F.at files.old) (F.at files.new) in
+        OnErr result (T.tells trace.old [] → (lines : Lines) → T.tells trace.new lines →
+        FrontMayLeave asked.now input.now met lines) }
     ensures traced { T.is_later trace.old trace.new }
     ensures untold { let met = between (F.at files.old) (F.at files.new) in
         IsOkAnd result (λ r. IsRefused r.status) ⊎ (HasReadStation input.now met → ⊥) → trace.new ≡ trace.old }

@@ -1,5 +1,6 @@
+use Rattle.outside_io.proofs.Results.{on_err_anyway}
 use Rattle.refute_log.specs.ToldTo.{told_to}
-use Rattle.run_draw_front.proofs.FrontedLemmas.{fronted}
+use Rattle.run_draw_front.proofs.FrontedLemmas.{fronted, left_of_parts, told_front_left}
 use Rattle.run_draw_front.proofs.DerivesLemmas.{new_told}
 use Rattle.run_draw_front.proofs.fronting.front_station.Goals as goal
 
@@ -27,3 +28,19 @@ returns-in-Err-Log-clause-derives g c = λ none lines is. (c.in-Err-Log.ensures.
 
 pub returns-in-Err-Memory-clause-derives : goal.returns-in-Err-Memory-clause-derives
 returns-in-Err-Memory-clause-derives g c = λ none lines is. (c.in-Err-Memory.ensures.left none lines is).derives
+
+pub returns-in_err-text_of-in-Ok-clause-left : goal.returns-in_err-text_of-in-Ok-clause-left
+returns-in_err-text_of-in-Ok-clause-left g c =
+    let k = g.L.LogSink in
+    let lines = c.in-Ok.ensures.lines in
+    on_err_anyway _ _ (told_front_left c.asked.inside.grid.now c.asked.inside.first c.asked.inside.second c.asked.inside.budget c.args.asked.now
+    c.args.station.now.graph c.args.station.now.order c.in-Ok.found.ending lines.0 (k.tells c.args.log.now) (k.tells c.front.new.log)
+    c.asked.view_is lines.2 (g.met.L.LogSink.one_reading c.front.new.log) lines.1.behind)
+
+pub returns-in-Err-Log-clause-left : goal.returns-in-Err-Log-clause-left
+returns-in-Err-Log-clause-left g c = λ none lines is. left_of_parts c.asked.inside.grid.now c.asked.inside.first c.asked.inside.second c.asked.inside.budget
+    c.args.asked.now c.args.station.now.graph c.args.station.now.order lines c.asked.view_is (c.in-Err-Log.ensures.left none lines is)
+
+pub returns-in-Err-Memory-clause-left : goal.returns-in-Err-Memory-clause-left
+returns-in-Err-Memory-clause-left g c = λ none lines is. left_of_parts c.asked.inside.grid.now c.asked.inside.first c.asked.inside.second c.asked.inside.budget
+    c.args.asked.now c.args.station.now.graph c.args.station.now.order lines c.asked.view_is (c.in-Err-Memory.ensures.left none lines is)
