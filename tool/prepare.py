@@ -16,6 +16,7 @@ from tool import files, railml, words
 from tool.places import of_byte
 from tool.railml import Element
 from tool.saying import called, end, say, why, write_error
+from tool.topology_faults import lacks
 
 MARK = "prepared by railplan; no part of what is proved"
 TAG = re.compile(rb"<[^\s/>]+(?:\s+[^\s=<>]+\s*=\s*(?:\"[^\"]*\"|'[^']*'))*\s*/?>")
@@ -174,23 +175,6 @@ def mend_numbers(it: Prepared) -> None:
 # ---- mileages
 
 
-def known_mileage(document: railml.Document, begin: Element) -> tuple[Element, str] | None:
-    """the point that a begin is joined to, with its mileage where the file says it"""
-    by_id = railml.by_id(document)
-    for connection in begin.named("connection"):
-        other = by_id.get(connection.attributes.get("ref", ""))
-        owner = other.parent if other else None
-        metres = railml.mileage(owner) if owner else None
-        if metres is not None:
-            return owner, as_read(str(metres))
-    return None
-
-
-def begins_without(document: railml.Document) -> list[Element]:
-    begins = (railml.end_of(track, "trackBegin") for track in document.tracks())
-    return [it for it in begins if it is not None and "absPos" not in it.attributes]
-
-
 def metres_of(element: Element, name: str) -> Decimal | None:
     written = as_read(element.attributes.get(name, ""))
     return Decimal(written) if written else None
@@ -215,21 +199,27 @@ def mend_mileages(it: Prepared) -> None:
     """writes what the file says, as long as that says more"""
     while True:
         document, edits = railml.read(it.data), []
-        lacking = begins_without(document)
-        for begin in lacking:
-            known = known_mileage(document, begin)
-            if known:
-                if known[1]:
-                    doubt_end(it, begin, Decimal(known[1]))
+        for begin in (element for element, name in railml.lacking(document) if name == "absPos"):
+            known = railml.joined_mileage(document, begin)
+            mileage = as_read(str(known[1])) if known else ""
+            if known and mileage:
+                doubt_end(it, begin, Decimal(mileage))
                 place = begin.place + len("<trackBegin")
-                edits.append((place, place, f' absPos="{known[1]}"'.encode()))
-                it.changes.append(f"{it.at(begin.place)}: absPos=\"{known[1]}\" is written at {railml.what(begin)}, as "
+                edits.append((place, place, f' absPos="{mileage}"'.encode()))
+                it.changes.append(f"{it.at(begin.place)}: absPos=\"{mileage}\" is written at {railml.what(begin)}, as "
                                   f"{railml.what(known[0])} has, to which it is joined")
         if not edits:
-            break
+            return
         it.replace(edits)
-    it.guesses += [f"{it.at(begin.place)}: nothing in the file says the mileage of {railml.what(begin)}. Write its absPos"
-                   for begin in lacking]
+
+
+def note_lacking(it: Prepared) -> None:
+    """what elements must have and the file doesn't say"""
+    for element, name in railml.lacking(railml.read(it.data)):
+        said = lacks(element, name) if name != "absPos" else \
+            f"{railml.what(element)} has no absPos, and is joined to no point whose mileage the file says. It isn't counted back " \
+            "from other points of its track, as a mileage may jump. Write its absPos"
+        it.guesses.append(f"{it.at(element.place)}: {said}")
 
 
 # ---- the file
@@ -263,6 +253,7 @@ def mended(name: str, data: bytes) -> Prepared:
         mend_prefix(it)
         mend_numbers(it)
         mend_mileages(it)
+        note_lacking(it)
     except Guess as guess:
         it.guesses.append(str(guess))
     return it
@@ -277,7 +268,7 @@ def refuse_other(out: str, source: str) -> None:
         kind = "a link" if os.path.islink(out) else "a folder" if os.path.isdir(out) else "no plain file"
         end(2, f"{out} is {kind}, and prepare replaces none. Name another file")
     if files.is_one_file(out, source):
-        end(2, f"{source} and {out} are one file. Name another one for what is mended")
+        end(2, f"{files.one_twice(source, out)}. Name another one for what is mended")
     try:
         with open(out, "rb") as file:
             begun = file.read(400)
@@ -309,6 +300,7 @@ def run(line: words.Line) -> int:
             data = file.read(files.MOST_BYTES["railml"] * 4)
     except OSError as error:
         end(5, f"{source}: {why(error)}")
+    files.refuse_hyphen([words.File(out, "railml", True)])
     refuse_other(out, source)
     it = mended(source, data)
     write_error("".join(f"railplan: {said}\n" for said in it.changes + it.guesses + it.doubts))
@@ -319,6 +311,6 @@ def run(line: words.Line) -> int:
         count = f"{len(it.changes)} {'change' if len(it.changes) == 1 else 'changes'}"
         say(f"{out} is written: {count}. This is no part of what is proved. {called()} draw {quote(out)} says whether more is wrong")
     else:
-        say(f"{out} is written as {source} is: nothing in it is of a kind that prepare mends. {called()} draw {quote(source)} says what "
-            f"is wrong")
+        say(f"{out} is a copy of {source}, as nothing in it is of a kind that prepare mends. {called()} draw {quote(source)} says whether "
+            "something is wrong")
     return 0
