@@ -141,13 +141,9 @@ def whole(source: Path, target: Path) -> None:
             part.unlink()
 
 
-def explained(station: Path, given: list[str], status: int, output: bytes, program: str) -> str:
+def explained(given: list[str], ran: running.Ran, program: str, picture: str) -> str:
     """what the launcher would say of such an end"""
-    line, ran = words.read(given), running.Ran(status, output, 0)
-    try:
-        said = telling.of_answer(program, line, ran)
-    except (ValueError, IndexError, KeyError, OSError):
-        said = []
+    said = telling.of_end(program, words.read(given), ran) + advice.odd_picture(picture, ran.lines)
     return "".join(notes.plain(it) for it in said)
 
 
@@ -206,7 +202,8 @@ class Drawing:
             record.values = next(([int(it) for it in line.split()[1:]] for line in lines if line.startswith("values ")), [])
             if self.setting.certifies:
                 record.certified = self.certify()
-        record.said = explained(self.station, given, status, output, self.setting.program)
+        record.said = explained(given, running.Ran(status, output, 0), self.setting.program,
+                                str(self.setting.out / (self.name + ENDINGS["picture"])))
         if record.is_refused():
             record.status = 8
             record.said += f"railplan: the certificate of {self.station} was refused: {record.certified}\n"
