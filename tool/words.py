@@ -164,7 +164,7 @@ OWN = {it.word: it for it in (
             "writes a file anew as railplan reads it, where the file itself says what is missing",
             "It mends the encoding, a prefix of elements, how numbers of metres are written, and the absPos of a begin that is joined "
             "to a point whose mileage the file says. It says each change. Where it would have to guess it writes nothing, and lists "
-            "all that lacks. It is no part of what is proved.",
+            "all that the file lacks. It is no part of what is proved.",
             "prepare export.xml mended.xml"),
     Command("install", (Name("[PREFIX]", "a folder, without it ~/.local", "folder"),), (),
             "links railplan into PREFIX/bin, with its manual page and completions", "", "install ~/.local"),
