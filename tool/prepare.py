@@ -261,14 +261,15 @@ def mended(name: str, data: bytes) -> Prepared:
 
 def refuse_other(out: str, source: str) -> None:
     """no file but one that prepare wrote is written over, and no link, pipe, device or folder"""
-    there = files.state_of(out)
-    if there is None and not os.path.islink(out):
-        return
-    if os.path.islink(out) or not os.path.isfile(out):
-        kind = "a link" if os.path.islink(out) else "a folder" if os.path.isdir(out) else "no plain file"
-        end(2, f"{out} is {kind}, and prepare replaces none. Name another file")
+    written = words.File(out, "railml", is_written=True)
+    files.refuse_hyphen([written])
+    files.refuse_replaced(written)
     if files.is_one_file(out, source):
         end(2, f"{files.one_twice(source, out)}. Name another one for what is mended")
+    files.refuse_unwritable([written])
+    there = files.state_of(out)
+    if there is None:
+        return
     try:
         with open(out, "rb") as file:
             begun = file.read(400)
@@ -300,7 +301,6 @@ def run(line: words.Line) -> int:
             data = file.read(files.MOST_BYTES["railml"] * 4)
     except OSError as error:
         end(5, f"{source}: {why(error)}")
-    files.refuse_hyphen([words.File(out, "railml", True)])
     refuse_other(out, source)
     it = mended(source, data)
     write_error("".join(f"railplan: {said}\n" for said in it.changes + it.guesses + it.doubts))

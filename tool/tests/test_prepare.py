@@ -167,14 +167,16 @@ class Written(InClone):
         (self.top / "open.xml").symlink_to("nosuch.xml")
         os.mkfifo(self.top / "pipe.xml")
         (self.top / "folder.xml").mkdir()
-        for out, said in (("link.xml", "is a link"), ("open.xml", "is a link"), ("pipe.xml", "is no plain file"),
-                          ("/dev/null", "is no plain file"), ("folder.xml", "is a folder"), ("s.xml", "s.xml is named twice. Name"),
-                          ("./s.xml", "s.xml and ./s.xml are one file. Name"),
-                          ("-", "`-` is no name of a file that is written"),
-                          ("other.xml", "is there, and prepare didn't write it")):
+        for out, due, said in (("link.xml", 2, "is a link, and isn't replaced"), ("open.xml", 2, "is a link, and isn't replaced"),
+                               ("pipe.xml", 2, "is no plain file"), ("/dev/null", 2, "is no plain file"),
+                               ("folder.xml", 6, "it is a folder. Name a file in it"),
+                               ("none/s.xml", 6, "none isn't there. Make the folder"),
+                               ("s.xml", 2, "s.xml is named twice. Name"), ("./s.xml", 2, "s.xml and ./s.xml are one file. Name"),
+                               ("-", 2, "`-` is no name of a file that is written"),
+                               ("other.xml", 2, "is there, and prepare didn't write it")):
             with self.subTest(out):
                 status, printed, err = self.prepare(out)
-                self.assertEqual((status, printed), (2, ""))
+                self.assertEqual((status, printed, err.count("\n")), (due, "", 1))
                 self.assertIn(said, err)
         self.assertEqual((self.top / "other.xml").read_text(), "mine")
         self.assertTrue((self.top / "link.xml").is_symlink())
