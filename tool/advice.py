@@ -149,9 +149,10 @@ def measured(values: list[str], order: list[str]) -> str:
 
 
 def best(said: list[str]) -> str:
-    """the values of the best drawing; nothing of another answer"""
+    """the values of the best drawing of a sheet; nothing of another answer, as redraw's, which has no order"""
     fields = {it.split(" ")[0]: it.split(" ")[1:] for it in said}
-    return f"the best drawing: {measured(fields['values'], fields['order'])}" if "end best" in said and "values" in fields else ""
+    is_best = "end best" in said and {"order", "values"} <= {*fields}
+    return f"the best drawing: {measured(fields['values'], fields['order'])}" if is_best else ""
 
 
 def lawful(values: list[str]) -> str:

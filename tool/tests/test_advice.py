@@ -27,7 +27,8 @@ class Answers(unittest.TestCase):
                                  ("height bends", "end conflicts 1", ""), ("height bends", "end room 0", "")):
             with self.subTest(order=order, end=end):
                 self.assertEqual(advice.best(["railplan 2", f"order {order}", "values 2 4 3 7", end, "signals 0"]), said)
-        self.assertEqual(advice.best(["railplan 2", "order height", "end none"]), "")
+        for other in (["railplan 2", "order height", "end none"], ["railplan-moved 1", "moved 3 of 4", "values 1 2 2 7", "end best"], []):
+            self.assertEqual(advice.best(other), "")
 
     def test_a_lawful_drawing_by_its_values(self):
         self.assertEqual(advice.lawful(["2", "4", "3", "7"]), "the drawing keeps all seven laws: height 2, bends 4, diagonal 3, "
