@@ -38,6 +38,19 @@ def reread(name: str) -> bytes | None:
         return None
 
 
+def write_whole(name: str, data: bytes) -> None:
+    """writes a file beside what is there and then in its place: it is there whole or as it was"""
+    folder, base = os.path.split(name)
+    part = os.path.join(folder, f".{base}.{os.getpid()}")
+    try:
+        with open(part, "xb") as file:
+            file.write(data)
+        os.replace(part, name)
+    finally:
+        if os.path.exists(part):
+            os.unlink(part)
+
+
 def is_plain(name: str) -> bool:
     """whether a file can be read again"""
     there = state_of(name)

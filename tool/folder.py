@@ -9,7 +9,7 @@ from pathlib import Path
 from typing import NoReturn
 
 from tool import built, files, folder_index, running, words
-from tool.folder_station import ENDINGS, RECORDS, Jobs, Record, Setting, draw, read_record, whole
+from tool.folder_station import ENDINGS, RECORDS, Jobs, Record, Setting, draw, read_record
 from tool.progress import bar
 from tool.saying import called, end, is_terminal, say, why, write_error
 
@@ -225,14 +225,10 @@ def draw_all(drawn: Drawn, clone: built.Clone, asked: argparse.Namespace) -> Non
 
 
 def write_index(out: Path, title: str, records: list[Record]) -> None:
-    part = out / f".index.{os.getpid()}"
     try:
-        part.write_text(folder_index.text(title, records), encoding="utf-8", errors="replace")
-        whole(part, out / "index.html")
+        files.write_whole(str(out / "index.html"), folder_index.text(title, records).encode("utf-8", "replace"))
     except OSError as error:
         end(6, f"{out / 'index.html'} couldn't be written: {why(error)}")
-    finally:
-        part.unlink(missing_ok=True)
 
 
 def join(out: Path, listed: dict[str, Path]) -> list[Record]:

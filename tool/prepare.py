@@ -6,7 +6,6 @@ are joined to a point whose mileage the file says. All else stays to the byte. W
 from __future__ import annotations
 
 import codecs
-import os
 import re
 from decimal import Decimal, InvalidOperation
 from shlex import quote
@@ -279,19 +278,6 @@ def refuse_other(out: str, source: str) -> None:
         end(2, f"{out} is there, and prepare didn't write it. Name another file, or delete it")
 
 
-def write(out: str, data: bytes) -> None:
-    part = f"{out}.{os.getpid()}.part"
-    try:
-        with open(part, "xb") as file:
-            file.write(data)
-        os.replace(part, out)
-    except OSError as error:
-        end(6, f"{out} couldn't be written: {why(error)}")
-    finally:
-        if os.path.exists(part):
-            os.unlink(part)
-
-
 def run(line: words.Line) -> int:
     if len(line.words) != 3:
         end(2, f"prepare takes a file and a name for what is mended: {called()} prepare IN OUT")
@@ -306,7 +292,10 @@ def run(line: words.Line) -> int:
     write_error("".join(f"railplan: {said}\n" for said in it.changes + it.guesses + it.doubts))
     if it.guesses:
         end(1, f"nothing is written: {len(it.guesses)} {'thing' if len(it.guesses) == 1 else 'things'} would have to be guessed")
-    write(out, with_mark(it.data) if it.changes else it.data)
+    try:
+        files.write_whole(out, with_mark(it.data) if it.changes else it.data)
+    except OSError as error:
+        end(6, f"{out} couldn't be written: {why(error)}")
     if it.changes:
         count = f"{len(it.changes)} {'change' if len(it.changes) == 1 else 'changes'}"
         say(f"{out} is written: {count}. This is no part of what is proved. {called()} draw {quote(out)} says whether more is wrong")

@@ -59,6 +59,16 @@ class Looked(unittest.TestCase):
                 self.assertTrue(said.endswith("one that is called so is ./-"), said)
         self.assertEqual(self.look_at("draw", "-"), (0, ""))
 
+    def test_a_file_is_written_whole_or_stays_as_it_was(self):
+        name = self.top / "one"
+        for data in (b"first", b"second"):
+            files.write_whole(str(name), data)
+            self.assertEqual(name.read_bytes(), data)
+        with mock.patch("os.replace", side_effect=OSError(28, "No space left on device")), self.assertRaises(OSError):
+            files.write_whole(str(name), b"third")
+        self.assertEqual(name.read_bytes(), b"second")
+        self.assertEqual([it.name for it in self.top.iterdir()], ["one"])
+
 
 if __name__ == "__main__":
     unittest.main()
