@@ -302,5 +302,5 @@ def run(clone: built.Clone, given: list[str]) -> int:
         done = drawn.stop()
         say("stopped; the page isn't written" if asked.join else
             f"stopped; of {folder_index.stations(len(drawn.listed))} {done} {'is' if done == 1 else 'are'} done. The same line goes "
-            "on from there")
+            "on from there" + ("" if asked.shard[1] > 1 else ", and writes index.html at its end"))
         return 130

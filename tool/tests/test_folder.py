@@ -295,7 +295,8 @@ class Folders(InClone):
             time.sleep(0.01)
         err = job.communicate(timeout=20)[1]
         self.assertEqual(job.returncode, 130)
-        self.assertEqual(err, "railplan: stopped; of 2 stations 1 is done. The same line goes on from there\n")
+        self.assertEqual(err, "railplan: stopped; of 2 stations 1 is done. The same line goes on from there, and writes "
+                              "index.html at its end\n")
         self.drawn()
         self.stations("slow2")
         (self.top / "in/slow.xml").rename(self.top / "in/quick.xml")

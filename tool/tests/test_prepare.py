@@ -27,6 +27,7 @@ class Mended(unittest.TestCase):
         text, changes, guesses = mended(TRACK)
         self.assertEqual(text, TRACK.replace('<trackBegin id="bb"', '<trackBegin absPos="120" id="bb"'))
         self.assertEqual((len(changes), guesses), (1, []))
+        self.assertIn("is written at the begin of track b, as switch w has, to which it is joined", changes[0])
 
     def test_an_end_that_speaks_against_the_joined_begin_is_doubted(self):
         for end_, doubts in (("129", 0), ("111", 0), ("128.5", 0), ("900", 1)):
