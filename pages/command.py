@@ -20,9 +20,9 @@ from pages.files import Input, Output, Refused, hashed, read_once
 from pages.kinds import ANSWERED, INPUTS, Run, Settings
 from pages.texts import Graph, NoPage
 from pages.whole import page_text
-from tool import built, files, running, telling
+from tool import advice, built, files, running, telling
 from tool import words as table
-from tool.saying import Ended, say
+from tool.saying import Ended, is_terminal, say
 from tool.version import VERSION
 
 USE = "a page is asked for by --html FILE and the words of draw, signals, front, explain, redraw or verify"
@@ -236,6 +236,9 @@ def run_asked(launcher: str, asked: Asked, folder: Path, outputs: dict[str, Outp
         return 6
     if has_laws and run.page:
         say(f"{run.page} has all of it, with a drawing without each of the laws")
+    elif run.page and not ended and is_terminal():
+        best = advice.best(run.output.splitlines())
+        say(f"{best}. Open {run.page}" if best else f"open {run.page}")
     if ended:
         say(unwritten(outputs))
     return ended or status

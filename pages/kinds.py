@@ -181,8 +181,21 @@ def grid_of(run: Run) -> tuple[int, ...]:
     return tuple(int(run.options.get(name, usual)) for name, usual in (("--width", 40), ("--height", 8), ("--least", 1)))
 
 
+def is_largest(grid: tuple[int, ...]) -> bool:
+    return grid[:2] == (advice.WIDEST, advice.HIGHEST)
+
+
+def beside_page(run: Run, name: str) -> str:
+    """the name of a file beside the page, as the page's own was typed"""
+    folder, sign, _ = run.page.rpartition("/")
+    return folder + sign + name
+
+
 def sheet_name(run: Run) -> str:
-    return run.sheet_beside or (run.file.rsplit("/", 1)[-1].removesuffix(".xml") or "station") + ".sheet"
+    """the sheet beside the page, or the name by which it is to be saved where the run was started"""
+    if run.sheet_beside:
+        return beside_page(run, run.sheet_beside)
+    return (run.file.rsplit("/", 1)[-1].removesuffix(".xml") or "station") + ".sheet"
 
 
 def add_sheet(page: Page, run: Run) -> None:
@@ -192,10 +205,11 @@ def add_sheet(page: Page, run: Run) -> None:
     content = page.sheet.encode("utf-8")
     page.provenance.files.insert(len(run.inputs), ("Sheet", FileFacts(sheet_name(run), hashlib.sha256(content).hexdigest(),
                                                                       len(content))))
-    page.provenance.needs = f"{sheet_name(run)} is the sheet that this page holds; " + \
-        ("it is beside the page." if run.sheet_beside else "save it first.")
+    page.provenance.needs = f"{sheet_name(run)} is the sheet that this page holds." if run.sheet_beside else \
+        f"Save this page's sheet first, as {sheet_name(run)} in the folder where you type this."
     if run.hints_beside:
-        page.provenance.check = ["./railplan", "recheck", run.file, sheet_name(run), run.hints_beside]
+        page.provenance.check = ["./railplan", "recheck", run.file, sheet_name(run), beside_page(run, run.hints_beside)]
+        page.provenance.needs += " Hand over the three files of this line with the page."
     elif run.log and run.log.sha256:
         page.provenance.check = ["./railplan", "check", run.file, sheet_name(run), run.log.name]
     else:
@@ -269,7 +283,8 @@ def marked(parties: list[texts.Party], kind: str, marks: Optional[Marks] = None)
 def explain_page(run: Run) -> Page:
     why = texts.read_why(run.output)
     page = page_of(run, "Why there is no drawing")
-    page.fact("Grid", sentences.sentence(sentences.grid_in_words(grid_of(run))))
+    page.fact("Grid", sentences.sentence(sentences.grid_in_words(grid_of(run))), "All that is said here is of this grid." +
+              ("" if is_largest(grid_of(run)) else " On a larger one there may be a drawing."))
     page.provenance.check = ["./railplan", *run.words]
     if why.ending:
         page.lead = [{"drawing exists": "A lawful drawing exists on this grid.",

@@ -13,7 +13,6 @@ from tool.saying import called
 from tool.track_graph import TrackGraph
 
 WIDEST, HIGHEST = words.OPTIONS["--width"].high, words.OPTIONS["--height"].high
-LARGEST = {"--width": str(WIDEST), "--height": str(HIGHEST)}
 MOST = words.OPTIONS["--conflicts"].high
 SLIPS = {"doubleSwitchCrossing": "a double slip", "simpleSwitchCrossing": "a single slip"}
 # from how many signals on one piece of track on it is said why each edge takes so many columns
@@ -62,13 +61,8 @@ def graph_of(program: str, name: str) -> list[str]:
     """the lines of a file's track graph, as the program has it; none where that can't be had"""
     if not files.is_plain(name):
         return []
-    ran = subprocess.run([program, "graph", name], stdin=subprocess.DEVNULL, capture_output=True, text=True)
+    ran = subprocess.run([program, "graph", name], stdin=subprocess.DEVNULL, capture_output=True, encoding="utf-8", errors="replace")
     return ran.stdout.splitlines() if ran.returncode == 0 else []
-
-
-def chain_of(program: str, name: str) -> int:
-    """the longest chain of a file's edges; 0 where that can't be had"""
-    return longest_chain(graph_of(program, name))
 
 
 def grid_of(line: words.Line, said: list[str]) -> tuple[int, int, int]:
@@ -91,7 +85,7 @@ def no_drawing(program: str, line: words.Line, said: list[str]) -> list[Note]:
         text += f". A piece of track takes {need} columns or more" if chain == 1 else \
             f". {chain} pieces of track lie one behind another{each}, which takes {need} columns"
         if need > WIDEST:
-            return [Note(f"{text}, and a grid has at most {WIDEST}. {shorter(line, least)}")]
+            return [Note(f"{text}, and a grid has at most {WIDEST}. {shorter(line, chain, least)}")]
     if stack > height + 1:
         text += f". {stack} ends, switches or crossings are at {mileage} m and lie one above another, which takes rows 0 to {stack - 1}"
         if stack > HIGHEST + 1:
@@ -109,27 +103,35 @@ def no_drawing(program: str, line: words.Line, said: list[str]) -> list[Note]:
 def larger(program: str, line: words.Line, said: list[str]) -> Note:
     """after an explanation, that a larger grid may do"""
     width, height, least = grid_of(line, said)
-    need = chain_of(program, line.names[0]) * least
+    chain = longest_chain(graph_of(program, line.names[0]))
+    need, larger_one = chain * least, f"{called()} draw {shlex.quote(line.names[0])} {grid_words(WIDEST, HIGHEST, least)}"
+    if need > WIDEST:
+        return Note(f"the pieces of track that lie one behind another take {need} columns, and a grid has at most {WIDEST}. "
+                    f"{shorter(line, chain, least)}")
+    if width == WIDEST and height == HIGHEST:
+        return Note("no grid is larger. Look at the places that these laws name")
     if need > width:
-        return Note(f"the pieces of track that lie one behind another need columns 0 to {need} at least, and this grid ends at "
-                    f"column {width}")
-    if width < WIDEST or height < HIGHEST:
-        options = ["--width", str(WIDEST), "--height", str(HIGHEST)] + (["--least", str(least)] if least > 1 else [])
-        return Note(f"this speaks of the grid that was asked for, and need be no fault of the file. A larger grid may do: {called()} "
-                    f"draw {shlex.join([line.names[0], *options])}. Where none lies there either, look at the places that these laws name")
-    return Note("no grid is larger. Look at the places that these laws name")
+        return Note(f"the pieces of track that lie one behind another take {need} columns, and this grid ends at column {width}. A larger "
+                    f"grid may do: {larger_one}")
+    return Note(f"this is of the grid that was asked for, columns 0 to {width} and rows 0 to {height}: it need be no fault of the file. A "
+                f"larger grid may do: {larger_one}. Where no drawing lies there either, look at the places that are named here")
 
 
-def shorter(line: words.Line, least: int) -> str:
+def shorter(line: words.Line, chain: int, least: int) -> str:
+    """what to do where no grid is wide enough"""
     if line.command == "signals":
         return "Leave out signals of the piece that has most, or draw a part of the station"
-    return "A smaller --least helps" if least > 1 else "Draw a part of the station"
+    return "A smaller --least takes fewer" if least > 1 and chain <= WIDEST else "Draw a part of the station"
+
+
+def grid_words(width: int, height: int, least: int) -> str:
+    """the options that ask for a grid"""
+    return f"--width {width} --height {height}" + (f" --least {least}" if least > 1 else "")
 
 
 def explaining(line: words.Line, width: int, height: int, least: int) -> str:
     """the line that explains why there is no drawing"""
-    options = ["--width", str(width), "--height", str(height)] + (["--least", str(least)] if least > 1 else [])
-    return f"{called()} --html why.html explain {shlex.join([line.names[0], *options])}"
+    return f"{called()} --html why.html explain {shlex.quote(line.names[0])} {grid_words(width, height, least)}"
 
 
 def drawing(line: words.Line) -> str:
@@ -137,7 +139,26 @@ def drawing(line: words.Line) -> str:
     return f"{called()} {shlex.join(['draw', *line.words[1:]])}"
 
 
-# ---- certificates
+# ---- what an answer means
+
+
+def measured(values: list[str], order: list[str]) -> str:
+    """the values of a drawing by name, in this order"""
+    named = dict(zip(words.CRITERIA, values))
+    return ", ".join(f"{it} {named[it]}" for it in order)
+
+
+def best(said: list[str]) -> str:
+    """the values of the best drawing of a sheet; nothing of another answer, as redraw's, which has no order"""
+    fields = {it.split(" ")[0]: it.split(" ")[1:] for it in said}
+    is_best = "end best" in said and {"order", "values"} <= {*fields}
+    return f"the best drawing: {measured(fields['values'], fields['order'])}" if is_best else ""
+
+
+def lawful(values: list[str]) -> str:
+    """what `lawful` and its values mean; only a terminal is told so"""
+    return f"the drawing keeps all seven laws: {measured(values, [*words.CRITERIA])}. Whether a better one exists, only check and " \
+        "recheck say"
 
 
 def certified(line: words.Line, fields: list[str]) -> list[str]:
@@ -276,14 +297,14 @@ def fullest_piece(document: Document, count: int) -> str:
     return graph.piece_in_words(fullest[0]) if fullest else ""
 
 
-def odd_picture(line: words.Line, said: list[str]) -> list[Note]:
+def odd_picture(picture: str, said: list[str]) -> list[Note]:
     """ids that the program's picture has as they are, though XML has no such characters"""
     ids = {it.split(" ")[2] for it in said if it.startswith(("node ", "edge "))}
     odd = sorted(it for it in ids if "\ufffe" in it or "\uffff" in it)
-    if not odd or "--svg" not in line.options:
+    if not odd or not picture:
         return []
     shown = ", ".join(it.replace("\ufffe", "<U+FFFE>").replace("\uffff", "<U+FFFF>") for it in odd)
-    return [Note(f"{line.options['--svg']} is no XML, and other programs may refuse it: XML has no such character as in the id "
+    return [Note(f"{picture} is no XML, and other programs may refuse it: XML has no such character as in the id "
                  f"{shown}. Give it another id, or ask for a page by --html")]
 
 
@@ -302,7 +323,7 @@ def notes(program: str, line: words.Line, ran: running.Ran) -> list[Note]:
         data = files.reread(line.names[0])
         found += [Note(it) for it in not_shown(data, line, said)] if data is not None else []
     if command == "draw":
-        found += odd_picture(line, said)
+        found += odd_picture(line.options.get("--svg", ""), said)
     if ran.status == 0 and command == "explain" and any(it.startswith("laws ") for it in said):
         from tool import explained
         found += explained.laws(program, line, said) + [larger(program, line, said)]
@@ -310,6 +331,8 @@ def notes(program: str, line: words.Line, ran: running.Ran) -> list[Note]:
         found.append(Note(f"a lawful drawing lies on this grid: {drawing(line)}"))
     if ran.status == 0 and command in ("check", "trim", "recheck"):
         found += [Note(it) for it in certified(line, said[-1].split())]
+    if ran.status == 0 and command == "verify":
+        found.append(Note(lawful(said[-1].split()[1:])))
     if ran.status == 3 and command in ("draw", "signals", "redraw", "front"):
         found += no_drawing(program, line, said)
     if ran.status == 4 and command in ("draw", "signals", "redraw", "front", "explain"):

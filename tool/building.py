@@ -10,11 +10,12 @@ import signal
 import subprocess
 
 from tool import built
-from tool.running import leave_alone
+from tool.running import leave_alone, processors
 from tool.saying import end, say, why
 
-NO_RT = ("the Rattle toolchain's command rt isn't on the PATH. It comes with the Rattle kit: unpack the kit, and add its folder "
-         "with rt to the PATH; README.md names the kit that this version was proved with")
+NO_RT = ("the program must be built, and the Rattle toolchain's command rt isn't on the PATH. It comes with "
+         "the Rattle kit: unpack the kit, and add its folder with rt to the PATH; README.md names the kit that this version was "
+         "proved with")
 
 
 def need_rt() -> str:
@@ -83,7 +84,7 @@ def prove_and_build(clone: built.Clone, rt: str, log: str) -> None:
     ends with 2, and says so itself: only whether it was built counts"""
     total, seen = len(built.crates_of(clone)), 0
     with open(log, "wb") as out:
-        for words in (["all", "check", "--jobs", str(os.cpu_count() or 2)], ["run"]):
+        for words in (["all", "check", "--jobs", str(processors())], ["run"]):
             try:
                 job = subprocess.Popen([rt, *words], cwd=clone.crate, stdin=subprocess.DEVNULL, stdout=out, stderr=out,
                                        start_new_session=True)
@@ -101,15 +102,23 @@ def prove_and_build(clone: built.Clone, rt: str, log: str) -> None:
         end(10, f"the program couldn't be built; {log} says why")
 
 
-def build(clone: built.Clone, reason: str) -> built.Built:
-    """builds the program, where no other run has by then, and lists what it was built from: the sources as they were before"""
+def announce(reason: str, quick: str) -> None:
+    """says what is done, how long it takes as far as that is known, and what needn't wait for it"""
+    doing = f"{reason}. Proving and building the program anew" if reason else "proving and building the program"
+    say(f"{doing}: from nothing that takes most of an hour on four processors, and here are {processors()}")
+    if quick:
+        say(f"a first look without the proofs begins in about a minute: {quick}")
+
+
+def build(clone: built.Clone, reason: str, quick: str = "") -> built.Built:
+    """builds the program, where no other run has by then, and lists what it was built from: the sources as they were before.
+    `quick` is the line that runs the same without proofs"""
     rt = need_rt()
     with one_at_a_time(clone):
         found = built.find(clone)
         if found.is_fresh:
             return found
-        doing = f"{reason}. Building it anew" if reason else "proving and building the program"
-        say(f"{doing}: some tens of minutes the first time")
+        announce(reason, quick)
         with contextlib.suppress(OSError):
             os.unlink(clone.built_list)
         states = built.look(clone)

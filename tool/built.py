@@ -10,6 +10,8 @@ from __future__ import annotations
 
 import os
 
+from tool import files
+
 TITLE = "railplan-built 1"
 PROGRAM = "crates/railplan_main/out/railplan_main"
 
@@ -108,14 +110,10 @@ def look(clone: Clone) -> dict[str, tuple[str, str]]:
 def write_list(clone: Clone, listed: Listed) -> None:
     """writes the list whole or leaves it as it is"""
     lines = [TITLE, f"kit {listed.kit}"] + [f"{path}\t{state}\t{known}" for path, (state, known) in listed.states.items()]
-    part = f"{clone.built_list}.{os.getpid()}"
     try:
-        with open(part, "w", encoding="utf-8", errors="surrogateescape") as it:
-            it.write("\n".join(lines) + "\n")
-        os.replace(part, clone.built_list)
+        files.write_whole(clone.built_list, ("\n".join(lines) + "\n").encode("utf-8", "surrogateescape"))
     except OSError:
-        if os.path.exists(part):
-            os.unlink(part)
+        pass
 
 
 def read_list(clone: Clone) -> Listed | None:

@@ -54,11 +54,7 @@ MARK = "# completions of railplan, made by railplan install"
 
 def options_of(word: str) -> list[words.Option]:
     """the options of a command, those of pages among them"""
-    listed = manual.all_commands()[word].options
-    if word == "folder":
-        listed = (*listed, *(it for it in words.COMMANDS["draw"].options if not words.OPTIONS[it].is_file))
-    own = [words.OPTIONS.get(it) or words.OWN_OPTIONS[it] for it in listed]
-    return own + ([*words.PAGE_WORDS.values()] if word in words.PAGED else [])
+    return manual.options_of(word) + ([*words.PAGE_WORDS.values()] if word in words.PAGED else [])
 
 
 def all_options() -> list[words.Option]:

@@ -1,9 +1,7 @@
 """What explain answers, with names in place of numbers, and the switch or crossing from which an order comes."""
 from __future__ import annotations
 
-import subprocess
-
-from tool import files, law_words, railml, words
+from tool import advice, files, law_words, railml, words
 from tool.graph_faults import hand
 from tool.notes import Note
 from tool.track_graph import TrackGraph
@@ -14,9 +12,8 @@ LAWS = {5: "{0} and {1} lie apart", 6: "{0} lies above {1}", 7: "{0} and {1} don
 class Named:
     """The names of a track graph's nodes and edges, as the program numbers them."""
 
-    def __init__(self, program: str, name: str):
-        ran = subprocess.run([program, "graph", name], stdin=subprocess.DEVNULL, capture_output=True, text=True, errors="replace")
-        fields = [line.split() for line in ran.stdout.splitlines()]
+    def __init__(self, graph: list[str]):
+        fields = [line.split() for line in graph]
         self.fields = {it[1]: it[2:] for it in fields if it[0] == "node"}
         self.nodes = {number: it[0] for number, it in self.fields.items()}
         self.edges = {it[1]: it[2:5] for it in fields if it[0] == "edge"}
@@ -54,7 +51,7 @@ def laws(program: str, line: words.Line, said: list[str]) -> list[Note]:
     data = files.reread(line.names[0])
     if data is None:
         return []
-    named, graph = Named(program, line.names[0]), TrackGraph(railml.read(data))
+    named, graph = Named(advice.graph_of(program, line.names[0])), TrackGraph(railml.read(data))
     found = []
     for fields in listed:
         parties = list(zip(fields[2::2], fields[3::2]))

@@ -9,9 +9,12 @@ from tool.saying import end, why
 
 # how a file of each kind begins, in small letters, and what a kind is called
 BEGINS = {"log": b"railplan-log", "picture": b"<svg", "hints": b"railplan-hints", "page": b"<!doctype html",
-          "dxf": b"0\r\nsection", "csv": b"km,kind,name,id"}
+          "dxf": b"0\r\nsection", "csv": b"km,kind,name,id", "sheet": b"railplan "}
 CALLED = {"log": "a log", "picture": "a picture", "hints": "hinted lines", "page": "a page", "dxf": "a CAD drawing",
           "csv": "a table", "railml": "a railML file", "sheet": "a sheet"}
+
+# what is asked of the name of a file that a run writes
+OWN_NAME = "a file that is written needs a name of its own"
 
 MOST_BYTES = {"railml": 4194304, "sheet": 4194304, "log": 536870912, "hints": 536870912}
 
@@ -35,6 +38,19 @@ def reread(name: str) -> bytes | None:
         return None
 
 
+def write_whole(name: str, data: bytes) -> None:
+    """writes a file beside what is there and then in its place: it is there whole or as it was"""
+    folder, base = os.path.split(name)
+    part = os.path.join(folder, f".{base}.{os.getpid()}")
+    try:
+        with open(part, "xb") as file:
+            file.write(data)
+        os.replace(part, name)
+    finally:
+        if os.path.exists(part):
+            os.unlink(part)
+
+
 def is_plain(name: str) -> bool:
     """whether a file can be read again"""
     there = state_of(name)
@@ -53,8 +69,19 @@ def refuse_one_file(read: list[words.File], written: list[words.File]) -> None:
     for number, it in enumerate(written):
         for other in read + written[:number]:
             if (it.word != other.word or it.at < 0) and is_one_file(other.word, it.word):
-                end(2, f"{other.word} and {it.word} are one file" if it.word != other.word else
-                    f"{it.word} is named twice; a file that is written needs a name of its own")
+                end(2, f"{one_twice(other.word, it.word)}: {OWN_NAME}")
+
+
+def one_twice(one: str, other: str, kind: str = "file") -> str:
+    """that two names are of one file or folder, or are one name"""
+    return f"{one} is named twice" if one == other else f"{one} and {other} are one {kind}"
+
+
+def refuse_hyphen(written: list[words.File]) -> None:
+    """`-` is standard output for other programs, and here it would be a file of this name"""
+    if any(it.word == "-" for it in written):
+        end(2, "`-` is no name of a file that is written: standard output has the answer and nothing else. Name a file; one that is "
+               "called so is ./-")
 
 
 def refuse_output(named: list[words.File]) -> None:
@@ -192,6 +219,7 @@ def look(line: words.Line) -> None:
     """refuses with 2 what would be written over, and with 6 what couldn't be written. Of words with a fault only pages are made"""
     has_fault = words.fault(line.words) is not None
     written = [it for it in line.files_written if it.at < 0 or not has_fault]
+    refuse_hyphen(written)
     refuse_one_file(line.files_read, written)
     refuse_output(written if has_fault else line.files_read + written)
     refuse_other_kinds(written)

@@ -9,16 +9,15 @@ from pathlib import Path
 from typing import NoReturn
 
 from tool import built, files, folder_index, running, words
-from tool.folder_station import ENDINGS, RECORDS, Jobs, Record, Setting, draw, read_record, whole
+from tool.folder_station import ENDINGS, RECORDS, Jobs, Record, Setting, draw, read_record
 from tool.progress import bar
 from tool.saying import called, end, is_terminal, say, why, write_error
 
-DRAW_OPTIONS = [it for it in words.COMMANDS["draw"].options if not words.OPTIONS[it].is_file]
+DRAW_OPTIONS = [it for it in words.OWN["folder"].options if it in words.OPTIONS]
 FORM = "folder IN OUT [-j N] [--certify] [--shard I/N] [--join] [options of draw]"
 ENDINGS_READ = (".xml", ".railml")
-# of so many files it is said that they are passed over
+# so many names are said at the most
 LISTED = 5
-BEGINS = {"page": b"<!doctype html", "picture": b"<svg", "sheet": b"railplan ", "hints": b"railplan-hints"}
 
 
 class Words(argparse.ArgumentParser):
@@ -45,15 +44,11 @@ def jobs(text: str) -> int:
     return int(text)
 
 
-def processors() -> int:
-    return len(os.sched_getaffinity(0)) if hasattr(os, "sched_getaffinity") else os.cpu_count() or 1
-
-
 def read_words(given: list[str]) -> argparse.Namespace:
     parser = Words(prog=called(), add_help=False, allow_abbrev=False)
     parser.add_argument("IN")
     parser.add_argument("OUT")
-    parser.add_argument("-j", type=jobs, default=processors())
+    parser.add_argument("-j", type=jobs, default=running.processors())
     parser.add_argument("--certify", action="store_true")
     parser.add_argument("--shard", type=shard, default=(1, 1))
     parser.add_argument("--join", action="store_true")
@@ -87,8 +82,12 @@ def passed_over(folder: Path) -> str:
     """the files of a folder that aren't drawn, as their names don't end as those of railML files"""
     found = sorted(it.name for it in folder.iterdir()
                    if it.is_file() and it.suffix.lower() not in ENDINGS_READ and not it.name.startswith("."))
-    more = f" and {len(found) - LISTED} more" if len(found) > LISTED else ""
-    return f"passed over, as they don't end in .xml or .railml: {', '.join(found[:LISTED])}{more}" if found else ""
+    return f"passed over, as they don't end in .xml or .railml: {some(found)}" if found else ""
+
+
+def some(names: list[str]) -> str:
+    """the first of some names, and how many more there are"""
+    return ", ".join(names[:LISTED]) + (f" and {len(names) - LISTED} more" if len(names) > LISTED else "")
 
 
 def of_shard(names: list[str], part: tuple[int, int]) -> list[str]:
@@ -97,28 +96,28 @@ def of_shard(names: list[str], part: tuple[int, int]) -> list[str]:
 
 def refuse_others(out: Path, names: list[str]) -> None:
     """nothing that is something else is written over"""
-    listed = [(out / f"{name}{ending}", BEGINS[kind]) for name in names for kind, ending in ENDINGS.items()]
-    for path, begins in [*listed, (out / "index.html", BEGINS["page"])]:
-        if os.path.lexists(path) and not may_replace(path, begins):
+    listed = [(out / f"{name}{ending}", kind) for name in names for kind, ending in ENDINGS.items()]
+    for path, kind in [*listed, (out / "index.html", "page")]:
+        if os.path.lexists(path) and not may_replace(path, kind):
             end(2, f"{path} is there, and railplan didn't make it. Name another folder, or delete it")
 
 
-def may_replace(path: Path, begins: bytes) -> bool:
-    """whether a file that is there is empty, or begins as what is to be written"""
+def may_replace(path: Path, kind: str) -> bool:
+    """whether a file that is there is empty, or begins as one of its kind"""
     if path.is_symlink() or not path.is_file():
         return False
     try:
         with path.open("rb") as text:
-            front = text.read(32).lower()
+            front = text.read(32)
     except OSError as error:
         end(6, f"{path} can't be read: {why(error)}")
-    return not front or front.startswith(begins)
+    return not front or files.begins_as(front, kind)
 
 
 def refuse_one_folder(asked: argparse.Namespace) -> None:
     """what is drawn isn't put between the files that are read"""
     if files.is_one_file(asked.IN, asked.OUT):
-        end(2, f"{asked.IN} and {asked.OUT} are one folder. Name another one for what is drawn, as {Path(asked.IN) / 'drawn'}")
+        end(2, f"{files.one_twice(asked.IN, asked.OUT, 'folder')}. Name another one for what is drawn, as {Path(asked.IN) / 'drawn'}")
 
 
 def make_folder(out: Path) -> None:
@@ -135,21 +134,37 @@ def make_folder(out: Path) -> None:
 # ---- the run
 
 
-class Shown:
-    """How far the run is, on a terminal, and each fault as it is found"""
+def is_fault(record: Record) -> bool:
+    return record.status not in (0, 3, 4)
 
-    def __init__(self, total: int):
-        self.total, self.done, self.faults, self.began = total, 0, 0, time.monotonic()
+
+class Shown:
+    """How far the run is, on a terminal, and the faults in the order of the stations, as soon as those before are done"""
+
+    def __init__(self, names: list[str]):
+        self.total, self.done, self.faults, self.began = len(names), 0, 0, time.monotonic()
+        self.left, self.ended = names, {}
 
     def seconds(self) -> float:
         return time.monotonic() - self.began
 
     def take(self, record: Record) -> None:
         self.done += 1
-        if record.status not in (0, 3, 4):
-            self.faults += 1
+        self.ended[record.name] = record
+        self.faults += is_fault(record)
+        while self.left and self.left[0] in self.ended:
+            self.say(self.ended.pop(self.left.pop(0)))
+
+    def say(self, record: Record) -> None:
+        if is_fault(record):
             self.clear()
             write_error(record.said or f"railplan: {record.name} ended with {record.status}\n")
+
+    def say_rest(self) -> None:
+        """those that are done behind one that isn't"""
+        for name in self.left:
+            if name in self.ended:
+                self.say(self.ended.pop(name))
 
     def show(self) -> None:
         if is_terminal():
@@ -167,7 +182,7 @@ class Drawn:
 
     def __init__(self, listed: dict[str, Path]):
         self.listed, self.found = listed, []
-        self.jobs, self.shown = Jobs(), Shown(len(listed))
+        self.jobs, self.shown = Jobs(), Shown(list(listed))
         self.pool: ThreadPoolExecutor | None = None
         self.left: list[Future[Record]] = []
 
@@ -190,6 +205,7 @@ class Drawn:
         self.jobs.stop()
         if self.pool:
             self.pool.shutdown(wait=True, cancel_futures=True)
+        self.shown.say_rest()
         self.shown.clear()
         return len(self.found) + sum(it.done() and not it.cancelled() and not it.exception()
                                      and it.result() not in self.found for it in self.left)
@@ -209,14 +225,10 @@ def draw_all(drawn: Drawn, clone: built.Clone, asked: argparse.Namespace) -> Non
 
 
 def write_index(out: Path, title: str, records: list[Record]) -> None:
-    part = out / f".index.{os.getpid()}"
     try:
-        part.write_text(folder_index.text(title, records), encoding="utf-8", errors="replace")
-        whole(part, out / "index.html")
+        files.write_whole(str(out / "index.html"), folder_index.text(title, records).encode("utf-8", "replace"))
     except OSError as error:
         end(6, f"{out / 'index.html'} couldn't be written: {why(error)}")
-    finally:
-        part.unlink(missing_ok=True)
 
 
 def join(out: Path, listed: dict[str, Path]) -> list[Record]:
@@ -241,11 +253,16 @@ def words_behind(given: list[str]) -> list[str]:
 
 
 def summary(records: list[Record]) -> str:
-    """how many stations ended how, how many of them on a larger grid, and how many with a certificate"""
-    larger, certified = sum(bool(it.values) and it.is_larger for it in records), folder_index.certified(records)
-    said = f"{folder_index.stations(len(records))}: {folder_index.counts(records)}"
-    said += f" ({larger} of them on a larger grid)" if larger else ""
-    return said + (f", {certified} with a certificate" if certified else "")
+    """how many stations ended how, and how many have a certificate"""
+    certified = folder_index.certified(records)
+    return f"{folder_index.stations(len(records))}: {folder_index.counts(records)}" + \
+        (f", {certified} with a certificate" if certified else "")
+
+
+def left_over(out: Path, names: list[str]) -> list[str]:
+    """the stations of former runs of which there are files still, and no railML file any more"""
+    former = {it.stem: read_record(out, it.stem) for it in sorted((out / RECORDS).glob("*.json")) if it.stem not in names}
+    return [name for name, record in former.items() if record and any((out / it).exists() for it in record.files)]
 
 
 def make(clone: built.Clone, asked: argparse.Namespace, all_: dict[str, Path], drawn: Drawn) -> int:
@@ -266,6 +283,9 @@ def make(clone: built.Clone, asked: argparse.Namespace, all_: dict[str, Path], d
         return folder_index.worst(drawn.found)
     records = join(out, all_)
     write_index(out, f"Stations of {Path(asked.IN).name or asked.IN}", records)
+    former = left_over(out, list(all_))
+    if former:
+        say(f"left in {out} from former runs, as {asked.IN} has no such station any more: {some(former)}")
     say(f"{summary(records)}, in {time.monotonic() - began:.0f} s. Open {out / 'index.html'}")
     return folder_index.worst(records)
 
@@ -282,5 +302,5 @@ def run(clone: built.Clone, given: list[str]) -> int:
         done = drawn.stop()
         say("stopped; the page isn't written" if asked.join else
             f"stopped; of {folder_index.stations(len(drawn.listed))} {done} {'is' if done == 1 else 'are'} done. The same line goes "
-            "on from there")
+            "on from there" + ("" if asked.shard[1] > 1 else ", and writes index.html at its end"))
         return 130

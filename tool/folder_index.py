@@ -4,7 +4,7 @@ from __future__ import annotations
 from itertools import groupby
 
 from pages.markup import Element, document, element
-from tool.folder_station import Record
+from tool.folder_station import ENDINGS, Record
 
 # statuses from the best to the worst; and what a run that ended so is called
 WORST = (0, 3, 4, 8, 5, 1, 2, 7, 6, 10)
@@ -49,9 +49,16 @@ def in_order(records: list[Record]) -> list[Record]:
     return sorted(records, key=lambda it: (-rank(it.status), it.name))
 
 
-def link(record: Record) -> Element | str:
-    page = f"{record.name}.html"
-    return element("a", record.name, href=page) if page in record.files else record.name
+def link(record: Record, text: str, ending: str) -> Element | str:
+    """a link to a file of the station; the bare text where there is none"""
+    name = record.name + ending
+    return element("a", text, href=name) if name in record.files else text
+
+
+def links(record: Record) -> list[Element | str]:
+    """the station's name, which leads to its page, and its sheet"""
+    sheet = link(record, "sheet", ENDINGS["sheet"])
+    return [link(record, record.name, ENDINGS["page"])] + ([element("br"), sheet] if isinstance(sheet, Element) else [])
 
 
 def badge(record: Record) -> Element | str:
@@ -64,8 +71,8 @@ def badge(record: Record) -> Element | str:
     elif count == "0":
         return "claims nothing"
     else:
-        text = f"certified: {count} of {len(record.order)}"
-    return element("a", text, href=f"{record.name}.hints", class_="badge",
+        text = f"certified: {', '.join(record.order[:int(count)])}"
+    return element("a", text, href=record.name + ENDINGS["hints"], class_="badge",
                    title="what is left of the search's log was checked again")
 
 
@@ -84,7 +91,7 @@ def said(text: str) -> list[Element]:
 
 def shown(record: Record) -> list[Element]:
     """the small drawing, and what is said of the run"""
-    picture = f"{record.name}.svg"
+    picture = record.name + ENDINGS["picture"]
     found = [element("img", src=picture, alt=f"the drawing of {record.name}", loading="lazy")] if picture in record.files else []
     return found + said(record.said)
 
@@ -99,18 +106,26 @@ def row(record: Record) -> Element:
     kind = {0: "good", 3: "open", 4: "open"}.get(record.status, "fault")
     grid = f"columns 0 to {record.grid[0]}, rows 0 to {record.grid[1]}" if kind != "fault" and record.grid else ""
     grid += ", larger than asked for" if grid and record.is_larger else ""
-    cells = [element("td", link(record)), element("td", *shown(record), class_="drawing"), element("td", *ended(record)),
+    cells = [element("td", *links(record)), element("td", *shown(record), class_="drawing"), element("td", *ended(record)),
              element("td", ", ".join(map(str, record.values)), class_="number"), element("td", grid, class_="number"),
              element("td", badge(record)), element("td", f"{record.seconds:.1f} s" if record.seconds else "", class_="number")]
     return element("tr", *cells, class_=kind)
 
 
 def counts(records: list[Record]) -> str:
-    """how many stations ended how, as 47 best, 3 refused"""
-    kinds: dict[str, int] = {}
+    """how many stations ended how, and how many of these on a larger grid, as 47 best (2 of them on a larger grid than asked for),
+    3 refused"""
+    kinds: dict[str, list[Record]] = {}
     for it in sorted(records, key=lambda it: rank(it.status)):
-        kinds[called(it)] = kinds.get(called(it), 0) + 1
-    return ", ".join(f"{count} {kind}" for kind, count in kinds.items())
+        kinds.setdefault(called(it), []).append(it)
+    return ", ".join(f"{len(found)} {kind}{larger(found)}" for kind, found in kinds.items())
+
+
+def larger(records: list[Record]) -> str:
+    """how many of these have a drawing on a larger grid"""
+    count = sum(it.is_larger and bool(it.values) for it in records)
+    of_them = f"{count} of them " if count < len(records) else ""
+    return f" ({of_them}on a larger grid than asked for)" if count else ""
 
 
 def certified(records: list[Record]) -> int:

@@ -5,7 +5,6 @@ import contextlib
 import hashlib
 import json
 import os
-import shutil
 import signal
 import subprocess
 import sys
@@ -16,7 +15,7 @@ from functools import cache
 from pathlib import Path
 
 from tool import advice, notes, running, telling, words
-from tool.files import state_of
+from tool.files import state_of, write_whole
 from tool.version import VERSION
 
 # the files that are left of a station, by their kinds
@@ -130,24 +129,9 @@ def grids(setting: Setting, chain: int) -> list[tuple[int, int]]:
     return [it for it in listed if chain * least <= it[0]] or listed[:1]
 
 
-def whole(source: Path, target: Path) -> None:
-    """a file is there whole or as it was"""
-    part = target.with_name(f".{target.name}.{os.getpid()}")
-    try:
-        shutil.copyfile(source, part)
-        os.replace(part, target)
-    finally:
-        with contextlib.suppress(FileNotFoundError):
-            part.unlink()
-
-
-def explained(station: Path, given: list[str], status: int, output: bytes, program: str) -> str:
+def explained(given: list[str], ran: running.Ran, program: str, picture: str) -> str:
     """what the launcher would say of such an end"""
-    line, ran = words.read(given), running.Ran(status, output, 0)
-    try:
-        said = telling.of_answer(program, line, ran)
-    except (ValueError, IndexError, KeyError, OSError):
-        said = []
+    said = telling.of_end(program, words.read(given), ran) + advice.odd_picture(picture, ran.lines)
     return "".join(notes.plain(it) for it in said)
 
 
@@ -206,7 +190,8 @@ class Drawing:
             record.values = next(([int(it) for it in line.split()[1:]] for line in lines if line.startswith("values ")), [])
             if self.setting.certifies:
                 record.certified = self.certify()
-        record.said = explained(self.station, given, status, output, self.setting.program)
+        record.said = explained(given, running.Ran(status, output, 0), self.setting.program,
+                                str(self.setting.out / (self.name + ENDINGS["picture"])))
         if record.is_refused():
             record.status = 8
             record.said += f"railplan: the certificate of {self.station} was refused: {record.certified}\n"
@@ -236,11 +221,9 @@ def draw(station: Path, name: str, setting: Setting, jobs: Jobs) -> Record:
             source, target = drawing.path(kind), setting.out / f"{name}{ending}"
             if source.exists() and (kind != "page" or written(source) != page):
                 if source != target:
-                    whole(source, target)
+                    write_whole(str(target), source.read_bytes())
                 record.files.append(target.name)
             elif known and target.name in known.files:
                 target.unlink(missing_ok=True)
-        kept = Path(folder, "record")
-        kept.write_text(json.dumps(asdict(record), indent=1), encoding="utf-8")
-        whole(kept, record_path(setting.out, name))
+        write_whole(str(record_path(setting.out, name)), json.dumps(asdict(record), indent=1).encode())
     return record

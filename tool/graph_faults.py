@@ -47,36 +47,36 @@ def side_mismatch(station: Station, tells: list[str]) -> list[Note]:
     said = {"switch": mismatch_of_switch, "crossing": mismatch_of_crossing}.get(it.name, mismatch_of_joint)(station, it)
     graph = TrackGraph(station.document)
     joined = [graph.other(c) for c in it.named("connection")]
-    return [Note(said, station.place(it))] + [Note(f"it is joined to {railml.what(o.parent)}{at(o.parent)}, which is here",
+    return [Note(said, station.place(it))] + [Note(f"it is joined to {railml.what(o.parent)}{at(o.parent) or ','} which is here",
                                                    station.place(o.parent)) for o in joined if o and o.parent]
 
 
 def at(it: Element) -> str:
     metres = railml.mileage(it)
-    return "" if metres is None else f", at {metres} m"
+    return "" if metres is None else f", at {metres} m,"
 
 
 def mismatch_of_switch(station: Station, it: Element) -> str:
     way = next((c.attributes.get("orientation", "") for c in it.named("connection")), "")
-    other = {"outgoing": "incoming", "incoming": "outgoing"}.get(way, "the other")
+    other = {"outgoing": "incoming", "incoming": "outgoing"}.get(way, "")
     ends = [railml.mileage(e) for e in (railml.end_of(it.above("track"), name) for name in railml.ENDS) if e]
     falls = None not in ends and len(ends) == 2 and ends[1] < ends[0]
-    lacks = "the switch lacks an absPos, which it needs as its track's mileage falls; " if falls and "absPos" not in it.attributes else ""
-    return f"at the switch {it.id}{at(it)} both legs don't lie on one side and the trunk on the other. Either {lacks}" \
-           f"orientation=\"{way}\" is to be {other}; or the branching track's mileage (absPos) is counted otherwise than this " \
-           "track's: one file has one mileage"
+    ways = ["give it an absPos, which it needs as its track's mileage falls"] if falls and "absPos" not in it.attributes else []
+    ways += [f"write orientation=\"{other}\" in place of {way}" if other else "mend its orientation",
+             "count the branching track's mileage (absPos) as this track's: one file has one mileage"]
+    return f"the switch {it.id}{at(it)} must have its two legs on one side and its trunk on the other, and hasn't. Either " + \
+        "; or ".join(ways)
 
 
 def mismatch_of_crossing(station: Station, it: Element) -> str:
-    return f"at the crossing {it.id}{at(it)} a path doesn't have one piece of track on each side, or its outgoing piece is on " \
-        f"the " \
-           "wrong one. Either incoming and outgoing are exchanged, or a track's mileage (absPos) is counted otherwise than the " \
-           "other's: one file has one mileage"
+    return f"the crossing {it.id}{at(it)} must have one piece of each path on each side, the outgoing one on that to which its " \
+        "track goes on, and hasn't. Either exchange incoming and outgoing; or count both tracks' mileages (absPos) in one way: one file " \
+        "has one mileage"
 
 
 def mismatch_of_joint(station: Station, it: Element) -> str:
-    return f"at {railml.what(it)}{at(it)} two tracks are joined, and both lie on one side of it. One of them has a mileage " \
-        "(absPos) that is counted otherwise than the other's: one file has one mileage"
+    return f"at {railml.what(it)}{at(it)} two tracks are joined, and both lie on one side of it. Count both mileages (absPos) in " \
+        "one way: one file has one mileage"
 
 
 SAID = {"TooManyNodes": too_many_nodes, "TooManyEdges": too_many_edges, "NotForward": not_forward, "SideMismatch": side_mismatch}

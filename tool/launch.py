@@ -22,11 +22,11 @@ def answer_unrun(clone: built.Clone, line: words.Line) -> None:
 
 def tell(clone: built.Clone, line: words.Line, ran: running.Ran) -> None:
     """says what a run's end means where that isn't what was asked for, and what a drawing doesn't show; on a terminal also what a
-    certificate means. The reasons of an explanation are said by its page's run, behind the answer"""
+    judge's answer means. The reasons of an explanation are said by its page's run, behind the answer"""
     if line.command == "explain" and not ran.status and "RAILPLAN_NAMES" in os.environ:
         return
     if ran.status or line.command in ("draw", "signals", "redraw", "explain") or \
-            line.command in ("check", "trim", "recheck") and is_terminal():
+            line.command in ("verify", "check", "trim", "recheck") and is_terminal():
         from tool import telling
         telling.tell(clone.program, line, ran)
 
@@ -54,7 +54,7 @@ def fresh(clone: built.Clone, line: words.Line) -> built.Built:
     if not found.is_fresh:
         answer_unrun(clone, line)
         from tool.building import build
-        found = build(clone, found.reason)
+        found = build(clone, found.reason, f"{called()} --unproved {shlex.join(line.in_order())}")
         files.look(line)
     return found
 
@@ -95,7 +95,8 @@ def refuse_page_words(given: list[str]) -> None:
 def page(clone: built.Clone, line: words.Line) -> NoReturn:
     """has pages/run.py run the words and write what page words ask for"""
     given = line.in_order()
-    given = given[given[:1] == ["--html"]:]
+    if given[0] == "--html":
+        given = given[1:]
     if not words.fault(line.words):
         refuse_page_words(given)
     os.environ["RAILPLAN_CALLED"] = called()

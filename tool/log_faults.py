@@ -2,7 +2,7 @@
 from __future__ import annotations
 
 from tool.notes import Note
-from tool.places import Place, of_line
+from tool.places import of_line
 from tool.sheet_faults import wrong_file
 
 ENDING = "Was the file copied to its end, and did its search end?"
@@ -61,7 +61,3 @@ def lacks(name: str, place: int, order: list[str], claims_none: bool) -> list[No
     criterion = order[place - 1] if place <= len(order) else f"criterion {place}"
     return [Note(f"{name}: its lines are all right, but don't show that the sheet's {criterion} is the least, as the sheet "
                  "claims. Is the log that of this sheet, and did its search end?")]
-
-
-def is_whole(at: Place) -> bool:
-    return bool(at.text)

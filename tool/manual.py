@@ -16,6 +16,8 @@ GROUPS = (
     ("railplan itself", ("help", "version", "install", "uninstall")),
 )
 
+BRACKETS = "in brackets what counts without them"
+
 # how a run ends, by its status
 ENDINGS = {
     0: "what was asked for was printed",
@@ -31,16 +33,22 @@ ENDINGS = {
     130: "the run was stopped",
 }
 
-UNPROVED = ("--unproved", "the same without waiting for the proofs; each run builds the program anew, which is slow then")
+UNPROVED = ("--unproved", "a first look without waiting for the proofs: each run builds the program anew, in about a minute, and "
+                          "searches a hundred times as long")
 
 
 def all_commands() -> dict[str, words.Command]:
     return {**words.COMMANDS, **words.OWN}
 
 
+def form(command: words.Command) -> str:
+    """the command with its names"""
+    return " ".join([command.word, *(name.word for name in command.names)])
+
+
 def usage(command: words.Command) -> str:
-    """the command with its names, and that it has options"""
-    return " ".join([command.word, *(name.word for name in command.names)] + ["[OPTIONS]"] * bool(command.options))
+    """the same, and that it has options"""
+    return form(command) + " [OPTIONS]" * bool(command.options)
 
 
 def table(rows: list[tuple[str, str]], front: int, column: int) -> list[str]:
@@ -65,6 +73,11 @@ def said_of(option: words.Option) -> str:
     return option.what + choices + (f" ({option.usual})" if option.usual else "")
 
 
+def options_of(word: str) -> list[words.Option]:
+    """the options of a command but those of pages"""
+    return [words.OPTIONS.get(it) or words.OWN_OPTIONS[it] for it in all_commands()[word].options]
+
+
 def option_rows(options: list[words.Option]) -> list[tuple[str, str]]:
     return [(f"{it.word} {it.value}".rstrip(), said_of(it)) for it in options]
 
@@ -72,11 +85,13 @@ def option_rows(options: list[words.Option]) -> list[tuple[str, str]]:
 def overview(called: str) -> str:
     """the help"""
     lines = [TITLE, "", "Begin with", f"  {called} --html station.html draw examples/station.xml",
-             "and open station.html.", f"  {called} help COMMAND", "says more of a command."]
+             "and open station.html. The first run proves and builds the program, which takes",
+             "most of an hour on four processors; --unproved below needn't wait for that.",
+             f"  {called} help COMMAND", "says more of a command, with an example."]
     for title, listed in GROUPS:
-        rows = [(usage(all_commands()[word]).replace(" [OPTIONS]", ""), all_commands()[word].what) for word in listed]
+        rows = [(form(all_commands()[word]), all_commands()[word].what) for word in listed]
         lines += ["", title] + table(rows, 2, 31)
-    lines += ["", "Options of draw; the others have some of them"]
+    lines += ["", f"Options of draw, {BRACKETS}; the others have some"]
     lines += table(option_rows([words.OPTIONS[it] for it in words.COMMANDS["draw"].options]), 2, 20)
     lines += ["", f"Pages of {', '.join(words.PAGED[:-1])} and {words.PAGED[-1]}; no part of what is proved"]
     lines += table(option_rows([*words.PAGE_WORDS.values()]), 2, 20)
@@ -97,10 +112,10 @@ def of_command(word: str, called: str) -> str:
     lines += [""] + textwrap.wrap(command.more, COLUMNS) if command.more else []
     names = [(it.word, it.what) for it in command.names]
     lines += [""] + table(names, 2, 20) if names else []
-    own = [words.OPTIONS.get(it) or words.OWN_OPTIONS[it] for it in command.options]
-    lines += ["", "Options"] + table(option_rows(own), 2, 20) if own else []
+    lines += ["", f"Options, {BRACKETS}"] + table(option_rows(options_of(word)), 2, 20) if command.options else []
     if word in words.PAGED:
         lines += ["", "Pages"] + table(option_rows([*words.PAGE_WORDS.values()]), 2, 20)
+    lines += ["", "Example" if len(command.examples) == 1 else "Examples"] + [f"  {called} {it}" for it in command.examples]
     return "\n".join(lines) + "\n"
 
 
@@ -126,6 +141,7 @@ def man_page(version: str) -> str:
     lines += [".SH OPTIONS OF FOLDER"] + man_rows(option_rows([*words.OWN_OPTIONS.values()]))
     lines += [".SH PAGES"] + man_rows(option_rows([*words.PAGE_WORDS.values()]))
     lines += man_rows([UNPROVED])
-    lines += [".SH EXIT STATUS"] + man_rows([(str(it), said) for it, said in ENDINGS.items()])
+    lines += [".SH EXAMPLES", ".nf"] + [escaped(f"railplan {it}") for command in all_commands().values() for it in command.examples]
+    lines += [".fi", ".SH EXIT STATUS"] + man_rows([(str(it), said) for it, said in ENDINGS.items()])
     lines += [".SH SEE ALSO", "README.md and docs/formats.md of the clone."]
     return "\n".join(lines) + "\n"

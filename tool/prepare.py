@@ -6,7 +6,6 @@ are joined to a point whose mileage the file says. All else stays to the byte. W
 from __future__ import annotations
 
 import codecs
-import os
 import re
 from decimal import Decimal, InvalidOperation
 from shlex import quote
@@ -16,6 +15,7 @@ from tool import files, railml, words
 from tool.places import of_byte
 from tool.railml import Element
 from tool.saying import called, end, say, why, write_error
+from tool.topology_faults import lacks
 
 MARK = "prepared by railplan; no part of what is proved"
 TAG = re.compile(rb"<[^\s/>]+(?:\s+[^\s=<>]+\s*=\s*(?:\"[^\"]*\"|'[^']*'))*\s*/?>")
@@ -174,23 +174,6 @@ def mend_numbers(it: Prepared) -> None:
 # ---- mileages
 
 
-def known_mileage(document: railml.Document, begin: Element) -> tuple[Element, str] | None:
-    """the point that a begin is joined to, with its mileage where the file says it"""
-    by_id = railml.by_id(document)
-    for connection in begin.named("connection"):
-        other = by_id.get(connection.attributes.get("ref", ""))
-        owner = other.parent if other else None
-        metres = railml.mileage(owner) if owner else None
-        if metres is not None:
-            return owner, as_read(str(metres))
-    return None
-
-
-def begins_without(document: railml.Document) -> list[Element]:
-    begins = (railml.end_of(track, "trackBegin") for track in document.tracks())
-    return [it for it in begins if it is not None and "absPos" not in it.attributes]
-
-
 def metres_of(element: Element, name: str) -> Decimal | None:
     written = as_read(element.attributes.get(name, ""))
     return Decimal(written) if written else None
@@ -215,21 +198,27 @@ def mend_mileages(it: Prepared) -> None:
     """writes what the file says, as long as that says more"""
     while True:
         document, edits = railml.read(it.data), []
-        lacking = begins_without(document)
-        for begin in lacking:
-            known = known_mileage(document, begin)
-            if known:
-                if known[1]:
-                    doubt_end(it, begin, Decimal(known[1]))
+        for begin in (element for element, name in railml.lacking(document) if name == "absPos"):
+            known = railml.joined_mileage(document, begin)
+            mileage = as_read(str(known[1])) if known else ""
+            if known and mileage:
+                doubt_end(it, begin, Decimal(mileage))
                 place = begin.place + len("<trackBegin")
-                edits.append((place, place, f' absPos="{known[1]}"'.encode()))
-                it.changes.append(f"{it.at(begin.place)}: absPos=\"{known[1]}\" is written at {railml.what(begin)}, as "
+                edits.append((place, place, f' absPos="{mileage}"'.encode()))
+                it.changes.append(f"{it.at(begin.place)}: absPos=\"{mileage}\" is written at {railml.what(begin)}, as "
                                   f"{railml.what(known[0])} has, to which it is joined")
         if not edits:
-            break
+            return
         it.replace(edits)
-    it.guesses += [f"{it.at(begin.place)}: nothing in the file says the mileage of {railml.what(begin)}. Write its absPos"
-                   for begin in lacking]
+
+
+def note_lacking(it: Prepared) -> None:
+    """what elements must have and the file doesn't say"""
+    for element, name in railml.lacking(railml.read(it.data)):
+        said = lacks(element, name) if name != "absPos" else \
+            f"{railml.what(element)} has no absPos, and is joined to no point whose mileage the file says. It isn't counted back " \
+            "from other points of its track, as a mileage may jump. Write its absPos"
+        it.guesses.append(f"{it.at(element.place)}: {said}")
 
 
 # ---- the file
@@ -263,6 +252,7 @@ def mended(name: str, data: bytes) -> Prepared:
         mend_prefix(it)
         mend_numbers(it)
         mend_mileages(it)
+        note_lacking(it)
     except Guess as guess:
         it.guesses.append(str(guess))
     return it
@@ -270,14 +260,15 @@ def mended(name: str, data: bytes) -> Prepared:
 
 def refuse_other(out: str, source: str) -> None:
     """no file but one that prepare wrote is written over, and no link, pipe, device or folder"""
-    there = files.state_of(out)
-    if there is None and not os.path.islink(out):
-        return
-    if os.path.islink(out) or not os.path.isfile(out):
-        kind = "a link" if os.path.islink(out) else "a folder" if os.path.isdir(out) else "no plain file"
-        end(2, f"{out} is {kind}, and prepare replaces none. Name another file")
+    written = words.File(out, "railml", is_written=True)
+    files.refuse_hyphen([written])
+    files.refuse_replaced(written)
     if files.is_one_file(out, source):
-        end(2, f"{source} and {out} are one file. Name another one for what is mended")
+        end(2, f"{files.one_twice(source, out)}. Name another one for what is mended")
+    files.refuse_unwritable([written])
+    there = files.state_of(out)
+    if there is None:
+        return
     try:
         with open(out, "rb") as file:
             begun = file.read(400)
@@ -285,19 +276,6 @@ def refuse_other(out: str, source: str) -> None:
         end(6, f"{out} is there, and can't be read to see who wrote it: {why(error)}. Name another file")
     if there.st_size and MARK.encode() not in begun:
         end(2, f"{out} is there, and prepare didn't write it. Name another file, or delete it")
-
-
-def write(out: str, data: bytes) -> None:
-    part = f"{out}.{os.getpid()}.part"
-    try:
-        with open(part, "xb") as file:
-            file.write(data)
-        os.replace(part, out)
-    except OSError as error:
-        end(6, f"{out} couldn't be written: {why(error)}")
-    finally:
-        if os.path.exists(part):
-            os.unlink(part)
 
 
 def run(line: words.Line) -> int:
@@ -314,11 +292,14 @@ def run(line: words.Line) -> int:
     write_error("".join(f"railplan: {said}\n" for said in it.changes + it.guesses + it.doubts))
     if it.guesses:
         end(1, f"nothing is written: {len(it.guesses)} {'thing' if len(it.guesses) == 1 else 'things'} would have to be guessed")
-    write(out, with_mark(it.data) if it.changes else it.data)
+    try:
+        files.write_whole(out, with_mark(it.data) if it.changes else it.data)
+    except OSError as error:
+        end(6, f"{out} couldn't be written: {why(error)}")
     if it.changes:
         count = f"{len(it.changes)} {'change' if len(it.changes) == 1 else 'changes'}"
         say(f"{out} is written: {count}. This is no part of what is proved. {called()} draw {quote(out)} says whether more is wrong")
     else:
-        say(f"{out} is written as {source} is: nothing in it is of a kind that prepare mends. {called()} draw {quote(source)} says what "
-            f"is wrong")
+        say(f"{out} is a copy of {source}, as nothing in it is of a kind that prepare mends. {called()} draw {quote(source)} says whether "
+            "something is wrong")
     return 0

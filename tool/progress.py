@@ -221,11 +221,8 @@ def tell_stopped(watch: Watch, seconds: float, named: str) -> None:
     say(f"stopped after {duration(seconds)}; nothing was printed")
     log = watch.log
     if log and log.has_model and watch.line.command != "redraw":
-        asked = [it for it in watch.line.words]
-        if "--conflicts" in asked:
-            at = asked.index("--conflicts")
-            del asked[at:at + 2]
+        from tool.advice import again
         notes.show([notes.Note(f"found so far: a drawing; {log.in_words()}. This gives the best drawing found so far: "
-                               f"{called()} {shlex.join(asked)} --conflicts {max(1, log.learnt)}")])
+                               f"{again(watch.line, conflicts=str(max(1, log.learnt)))}")])
     if named and log and log.place:
         say(f"{named} holds the beginning of a log, which certifies nothing")

@@ -160,6 +160,38 @@ def by_id(document: Document) -> dict[str, Element]:
     return {it.id: it for it in connections(document)}
 
 
+def joined_mileage(document: Document, end: Element) -> tuple[Element, Decimal] | None:
+    """the element that a track's begin or end is joined to, with its mileage where the file says it"""
+    known = by_id(document)
+    for connection in end.named("connection"):
+        other = known.get(connection.attributes.get("ref", ""))
+        metres_ = mileage(other.parent) if other and other.parent else None
+        if metres_ is not None:
+            return other.parent, metres_
+    return None
+
+
+def with_ids(document: Document) -> list[Element]:
+    """the elements whose ids must differ, in file order"""
+    tracks = document.tracks()
+    found = tracks + [it for track in tracks for it in places_of(track)] + connections(document)
+    return sorted(found, key=lambda it: it.place)
+
+
+def required(it: Element) -> list[str]:
+    """the attributes that such an element must have, in the order in which the program looks for them"""
+    if it.name != "connection":
+        return ["id"] + ["pos"] * (it.name != "track") + ["absPos"] * (it.name == "trackBegin")
+    is_of_point = it.parent is not None and it.parent.name in POINTS
+    has_course = is_of_point and (it.parent.name == "switch" or it.attributes.get("orientation") == "outgoing")
+    return ["id", "ref"] + ["orientation"] * is_of_point + ["course"] * has_course
+
+
+def lacking(document: Document) -> list[tuple[Element, str]]:
+    """each required attribute that an element lacks, with the element, in file order"""
+    return [(it, name) for it in with_ids(document) for name in required(it) if name not in it.attributes]
+
+
 def what(it: Element) -> str:
     """an element in words"""
     called = {"trackBegin": "begin", "trackEnd": "end"}.get(it.name, it.name)

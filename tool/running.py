@@ -14,7 +14,14 @@ if TYPE_CHECKING:
     from types import FrameType
     from typing import NoReturn
 
-STOPPING = (signal.SIGINT, signal.SIGTERM, signal.SIGHUP)
+STOPPING = (signal.SIGINT, signal.SIGTERM, signal.SIGHUP, signal.SIGQUIT)
+# those that a run was started to ignore stay ignored: under nohup a lost terminal stops nothing, behind a shell's & a quit
+HEARD_UNLESS_IGNORED = (signal.SIGHUP, signal.SIGQUIT)
+
+
+def processors() -> int:
+    """how many processors this run may use"""
+    return len(os.sched_getaffinity(0)) if hasattr(os, "sched_getaffinity") else os.cpu_count() or 1
 
 
 def open_ends() -> bool:
@@ -105,9 +112,9 @@ def stop(number: int) -> None:
 
 
 def listen() -> None:
-    """has an interrupt, an end and a lost terminal stop this run; under nohup a lost terminal doesn't"""
+    """has an interrupt, an end, a lost terminal and a quit stop this run, so that it leaves no files and no programs"""
     for sign in STOPPING:
-        if sign != signal.SIGHUP or signal.getsignal(sign) is not signal.SIG_IGN:
+        if sign not in HEARD_UNLESS_IGNORED or signal.getsignal(sign) is not signal.SIG_IGN:
             signal.signal(sign, interrupted)
     signal.pthread_sigmask(signal.SIG_UNBLOCK, STOPPING)
 

@@ -3,7 +3,8 @@ from __future__ import annotations
 
 import os
 
-from tool.files import is_plain
+from tool import words
+from tool.files import CALLED, is_plain
 from tool.notes import Note
 from tool.places import Place, of_line
 
@@ -12,17 +13,27 @@ FIRST_LINES = {"railgraph": "the answer of graph", "railplan-moved": "the answer
                "railplan-hints": "hinted lines", "railplan-front": "the answer of front", "railplan-why": "the answer of explain",
                "railplan ": "a sheet", "<": "a railML file", "\ufeff<": "a railML file"}
 
-MISSING = {5: "the line `nodes` is missing or has another form, or the search found no drawing (end none)"}
-
-
 def first_line(name: str) -> str:
     return of_line(name, 1).text
 
 
+def kind_of(name: str) -> str:
+    """what a file is by its first line, in words; nothing where that doesn't show it"""
+    begun = first_line(name)
+    return next((called for front, called in FIRST_LINES.items() if begun.startswith(front)), "")
+
+
+def in_order(line: words.Line) -> list[str]:
+    """the names of a run in the order in which its command takes them; none where their first lines don't show that order"""
+    taken = words.COMMANDS[line.command].names
+    there = {kind_of(it.word): it.word for it in line.files_read}
+    found = [line.names[at] if it.is_written else there.pop(CALLED[it.kind], "") for at, it in enumerate(taken)]
+    return [] if there or not all(found) else found
+
+
 def wrong_file(name: str, wanted: str, usage: str) -> str:
     """that a file is of another kind than its place among the names"""
-    begun = first_line(name)
-    found = next((called for front, called in FIRST_LINES.items() if begun.startswith(front)), "")
+    found = kind_of(name)
     if not found or found == wanted:
         return ""
     these = "these are" if found == "hinted lines" else "this is"

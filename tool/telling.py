@@ -54,8 +54,11 @@ class Ending:
         self.command = words.COMMANDS.get(line.command)
 
     def usage(self) -> str:
-        from tool.word_faults import usage
-        return usage(self.line.command, called())
+        """the line to type, with the names of this run where it shows which is which"""
+        from tool.sheet_faults import in_order
+        from tool.word_faults import typed, usage
+        names = in_order(self.line)
+        return typed(called(), [self.line.command, *names]) if names else usage(self.line.command, called())
 
     def file(self, number: int) -> words.File:
         return self.line.files_read[number - 1]
@@ -150,10 +153,13 @@ def of_answer(program: str, line: words.Line, ran: running.Ran) -> list[Note]:
     return Ending(line, ran).notes()
 
 
-def tell(program: str, line: words.Line, ran: running.Ran) -> None:
-    """says what a run's end means; what can't be explained is left as it is"""
+def of_end(program: str, line: words.Line, ran: running.Ran) -> list[Note]:
+    """what a run's end means; what can't be explained is left as it is"""
     try:
-        said = of_answer(program, line, ran)
+        return of_answer(program, line, ran)
     except (ValueError, IndexError, KeyError, OSError, re.error):
-        said = []
-    notes.show(said)
+        return []
+
+
+def tell(program: str, line: words.Line, ran: running.Ran) -> None:
+    notes.show(of_end(program, line, ran))

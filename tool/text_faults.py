@@ -111,8 +111,8 @@ def no_infrastructure(name: str, data: bytes, place: int, called: str) -> str:
     below = [it.name for it in opened.root.children] if opened.root else []
     prefixed = next((it for it in below if it.endswith(":infrastructure")), "")
     if prefixed:
-        return f"the element {prefixed} has a prefix, and names are read without one. {called} prepare {quote(name)} NEW.xml takes it " \
-            f"off"
+        return f"the element {prefixed} has a prefix, and names are read without one. " \
+               f"{called} prepare {quote(name)} NEW.xml takes it off"
     only = f": it has only {', '.join(dict.fromkeys(below))}" if below else ""
     return f"the file is railML, but has no infrastructure{only}. Export the infrastructure too"
 

@@ -1,8 +1,8 @@
 """What a fault of a station's topology or of its signals means, and what to do about it."""
 from __future__ import annotations
 
-import shlex
 import difflib
+import shlex
 
 from tool import railml
 from tool.notes import Note
@@ -73,36 +73,31 @@ def of_owner(it: Element) -> str:
     return railml.what(it) if railml.what(it).startswith("the ") else f"the {railml.what(it)}"
 
 
+def lacks(it: Element, attribute: str) -> str:
+    """that an element lacks an attribute, and what to write"""
+    is_path = attribute == "course" and it.parent is not None and it.parent.name == "crossing"
+    return (OUTGOING_COURSE if is_path else MISSING[attribute]).format(what=of_owner(it))
+
+
 def missing(station: Station, it: Element | None, tells: list[str]) -> str:
-    attribute, what = tells[0], of_owner(it) if it else "this element"
-    if it and attribute == "course" and it.parent and it.parent.name == "crossing":
-        return OUTGOING_COURSE.format(what=what)
-    said = MISSING[attribute].format(what=what)
-    return said + lacking_mileages(station, it) if attribute == "absPos" and it else said
-
-
-def lacking_mileages(station: Station, it: Element) -> str:
-    """what the file itself says of a begin without a mileage, and how many more there are"""
-    said, known = "", joined_mileage(station.document, it)
+    if it is None:
+        return MISSING[tells[0]].format(what="this element")
+    known = railml.joined_mileage(station.document, it) if tells[0] == "absPos" else None
+    said = lacks(it, tells[0])
     if known:
         other, metres = known
-        said = f". It is joined to {railml.what(other)}, which is at {metres}: write absPos=\"{metres}\""
-    begins = [b for b in (railml.end_of(track, "trackBegin") for track in station.document.tracks()) if b]
-    more = sum(b is not it and "absPos" not in b.attributes for b in begins)
-    if more:
-        said += f". {more} more {'begin has' if more == 1 else 'begins have'} none"
-    return said + f". {station.prepared()} writes those that the file itself tells" if known else said
+        said += f". It is joined to {railml.what(other)}, which is at {metres}: write absPos=\"{metres}\""
+    more = more_lacking(station.document, it, tells[0])
+    if known:
+        return f"{said}{more}. {station.prepared()} writes those that the file itself tells"
+    return f"{said}{more}: {station.prepared()} lists them" if more else said
 
 
-def joined_mileage(document: Document, it: Element) -> tuple[Element, object] | None:
-    """the element that a track end is joined to, with its mileage where the file says it"""
-    by_id = railml.by_id(document)
-    for connection in it.named("connection"):
-        other = by_id.get(connection.attributes.get("ref", ""))
-        metres = railml.mileage(other.parent) if other and other.parent else None
-        if metres is not None:
-            return other.parent, metres
-    return None
+def more_lacking(document: Document, it: Element, attribute: str) -> str:
+    """how many further elements lack this attribute"""
+    more = sum(name == attribute and other is not it for other, name in railml.lacking(document))
+    kind = {"absPos": "begin", "id": "element", "pos": "element"}.get(attribute, "connection")
+    return f". {more} more {kind} has none" if more == 1 else f". {more} more {kind}s have none" if more else ""
 
 
 def wrong_id(station: Station, it: Element | None, tells: list[str]) -> str:
@@ -130,14 +125,22 @@ def number(station: Station, it: Element | None, tells: list[str]) -> str:
 def unknown_ref(station: Station, it: Element | None, tells: list[str]) -> str:
     given = it.attributes.get("ref", "") if it else ""
     known = railml.by_id(station.document)
-    meant = difflib.get_close_matches(given, [*known], 1, 0.8)
+    more = sum(other is not it and other.attributes.get("ref") not in known for other in known.values())
     said = f"the connection {tells[0]} refers to {given or 'nothing'}, and no connection that is read has this id"
+    if more:
+        said += f"; so {'does 1 connection' if more == 1 else f'do {more} connections'} more"
+    return f"{said}. {other_than(given, tells[0], it, known)}"
+
+
+def other_than(given: str, own: str, it: Element | None, known: dict[str, Element]) -> str:
+    """what may be meant by a ref that leads nowhere, or what to write in its place"""
     owner = it.parent if it else None
     if owner and owner.name in railml.POINTS and len(owner.named("connection")) > (2 if owner.name == "crossing" else 1):
-        return f"{said}. Besides, {kind_of_crossing(owner) if owner.name == 'crossing' else kind_of_switch(owner)}"
-    if meant and meant[0] != tells[0]:
-        return f"{said}. Did you mean {meant[0]}?"
-    lost = f"{said}. Was its track left out of the export?"
+        return f"Besides, {kind_of_crossing(owner) if owner.name == 'crossing' else kind_of_switch(owner)}"
+    meant = difflib.get_close_matches(given, [*known], 1, 0.8)
+    if meant and meant[0] != own:
+        return f"Did you mean {meant[0]}?"
+    lost = "Was its track left out of the export?"
     if owner and owner.name in railml.POINTS:
         return f"{lost} Give {owner.name} {owner.id} a short track there, whose other end has an <openEnd id=\"..\"/>"
     return f"{lost} Where the line goes on, write <openEnd id=\"..\"/> in place of the connection"
@@ -172,9 +175,8 @@ def kind_of_track(it: Element) -> str:
 def kind_of_end(it: Element) -> str:
     having = [child.name for child in it.children if child.name in railml.ENDINGS]
     if not having:
-        return f"{railml.what(it)} says nothing of how the track ends. Write a connection where it is joined, <openEnd " \
-            f"id=\"..\"/> " \
-               "where the line goes on, or <bufferStop id=\"..\"/>"
+        return f"{railml.what(it)} says nothing of how the track ends. Write a connection where it is joined, " \
+               "<openEnd id=\"..\"/> where the line goes on, or <bufferStop id=\"..\"/>"
     return f"{railml.what(it)} has {' and '.join(having)}, and one of them is read. Leave the others out"
 
 
@@ -196,14 +198,12 @@ def kind_of_crossing(it: Element) -> str:
 
 def course(station: Station, it: Element | None, tells: list[str]) -> str:
     given = it.attributes.get("course", "") if it else ""
-    if it and it.parent and it.parent.name == "crossing":
-        return f"course=\"{given}\" of {tells[0]} isn't left or right{near_hand(given)}. Write one of them: the hand to which this path leaves the " \
-               "crossing's own track"
-    if given == "straight":
+    is_path = bool(it and it.parent and it.parent.name == "crossing")
+    if given == "straight" and not is_path:
         return f"the branch {tells[0]} goes straight, so the track itself turns off, and nothing says to which hand. Write " \
                "trackContinueCourse=\"left\" or \"right\" at the switch"
-    return f"course=\"{given}\" of {tells[0]} isn't left or right{near_hand(given)}. Write one of them: the hand to which the branch turns off, seen " \
-        "from the points"
+    which = "this path leaves the crossing's own track" if is_path else "the branch turns off, seen from the points"
+    return f"course=\"{given}\" of {tells[0]} isn't left or right{near_hand(given)}. Write one of them: the hand to which {which}"
 
 
 def orientation(station: Station, it: Element | None, tells: list[str]) -> str:
@@ -268,7 +268,7 @@ def wrong_number(it: Element | None) -> str:
 def also(station: Station, fault: str, it: Element | None, tells: list[str], is_signal: bool) -> list[Note]:
     """the other place, where two are meant"""
     if fault == "RepeatedId":
-        among = signals_of(station.document) if is_signal else with_ids(station.document)
+        among = signals_of(station.document) if is_signal else railml.with_ids(station.document)
         return station.other(next((e for e in among if e.id == tells[0] and e is not it), None), f"{tells[0]} is here first")
     if fault == "NotMutual":
         return station.other(railml.by_id(station.document).get(tells[1]), f"{tells[1]} is here")
@@ -277,13 +277,6 @@ def also(station: Station, fault: str, it: Element | None, tells: list[str], is_
     if fault == "OutsideTrack":
         return station.other(railml.end_of(it.above("track"), "trackBegin"), "the track begins here")
     return []
-
-
-def with_ids(document: Document) -> list[Element]:
-    """the elements whose ids must differ, in file order"""
-    tracks = document.tracks()
-    found = tracks + [it for track in tracks for it in railml.places_of(track)] + railml.connections(document)
-    return sorted(found, key=lambda it: it.place)
 
 
 def notes(name: str, data: bytes, fault: str, place: int, tells: list[str], called: str, is_signal: bool = False) -> list[Note]:

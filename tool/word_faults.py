@@ -5,7 +5,7 @@ import difflib
 import os
 import shlex
 
-from tool import manual, words
+from tool import files, manual, words
 
 # what an option's value is, in words
 TAKES = {"--width": "a number of columns, 1 to 64", "--height": "a number of rows, 0 to 12",
@@ -18,14 +18,19 @@ def quoted(word: str) -> str:
     return f"`{word}`" if word else "an empty word"
 
 
-def near(word: str, among: list[str]) -> str:
+def near(word: str, among: list[str], likeness: float = 0.6) -> str:
     """the word that was meant, as far as it can be seen"""
-    found = difflib.get_close_matches(word.lower(), among, 1, 0.6)
+    found = difflib.get_close_matches(word.lower(), among, 1, likeness)
     return found[0] if found else ""
 
 
+def near_command(word: str) -> str:
+    """the command that was meant; one that has half of the letters is another one"""
+    return near(word, [*manual.all_commands()], 0.7)
+
+
 def usage(command: str, called: str) -> str:
-    return " ".join([called, command, *(name.word for name in words.COMMANDS[command].names)])
+    return f"{called} {manual.form(words.COMMANDS[command])}"
 
 
 def typed(called: str, line: list[str]) -> str:
@@ -53,7 +58,7 @@ def unknown_command(given: list[str], at: int, called: str) -> str:
             f"station in it"
     if word and os.path.exists(word):
         return f"{quoted(word)} is a file, and a command is missing before it: {typed(called, ['draw', *given])}"
-    meant = near(word, [*words.COMMANDS, *words.OWN])
+    meant = near_command(word)
     return f"{quoted(word)} is no command" + \
         (f". Did you mean {typed(called, [meant, *given[1:]])}" if meant else f": {called} help says all commands")
 
@@ -135,7 +140,7 @@ def bad_value(given: list[str], at: int, called: str) -> str:
                 return f"{quoted(word)} is no pair: write two of height, bends, diagonal and width with a comma between them, " \
                        f"as height,width{did_you_mean(given, at, called) if word.count(',') == 1 else ''}"
             return f"{quoted(word)} can't be {name.word}, which is {name.what}"
-    return f"{quoted(word)} is named twice: a file that is written needs a name of its own"
+    return f"{files.one_twice(word, word)}: {files.OWN_NAME}"
 
 
 SAID = {"NoCommand": no_command, "UnknownCommand": unknown_command, "MissingName": missing_name, "ExtraWord": extra_word,
@@ -148,5 +153,5 @@ def sentence(fault: str, position: int, given: list[str], called: str) -> str:
 
 
 def unknown_help(word: str, called: str) -> str:
-    meant = near(word, [*manual.all_commands()])
+    meant = near_command(word)
     return f"{quoted(word)} is no command" + (f". Did you mean {called} help {meant}" if meant else f": {called} help says all")

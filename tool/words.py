@@ -50,12 +50,13 @@ class Option:
 
 
 class Command:
-    """A command: its names, its options, what it does in a line and in more, and whether it may run for long."""
+    """A command: its names, its options, what it does in a line and in more, lines to type as examples, and whether it may run
+    for long."""
 
     def __init__(self, word: str, names: tuple[Name, ...], options: tuple[str, ...], what: str, more: str,
-                 takes_long: bool = False):
+                 *examples: str, takes_long: bool = False):
         self.word, self.names, self.options = word, names, options
-        self.what, self.more, self.takes_long = what, more, takes_long
+        self.what, self.more, self.examples, self.takes_long = what, more, examples, takes_long
 
 
 class File:
@@ -79,7 +80,7 @@ CRITERIA = ("height", "bends", "diagonal", "width")
 MAX_SEED = 4294967295
 
 OPTIONS = {it.word: it for it in (
-    Option("--width", "N", "columns of the grid", "number", 1, 64, "40"),
+    Option("--width", "N", "columns east of the first", "number", 1, 64, "40"),
     Option("--height", "N", "rows above the lowest", "number", 0, 12, "8"),
     Option("--least", "N", "columns of each edge at the least", "number", 1, 16, "1"),
     Option("--order", "WORDS", "what is made least, the most important first", "order", usual="height,bends,diagonal,width"),
@@ -105,63 +106,76 @@ COMMANDS = {it.word: it for it in (
             "searches for the best drawing of a railML 2 file's tracks, and prints it as a text, a sheet",
             "The best drawing has the least values: its height, then its bends, the columns of its diagonals and its width. "
             "The last line says how the search ended: `end best`, `end none` where no drawing is lawful on this grid, or "
-            "`end conflicts S` where it stopped at its budget.", takes_long=True),
+            "`end conflicts S` where it stopped at its budget.",
+            "draw examples/station.xml --svg station.svg", "draw examples/station.xml --order height,width", takes_long=True),
     Command("signals", (FILE,), ("--width", "--height", "--order", "--conflicts", "--log"),
             "draws the station so that each signal has a column of its own, and says where each is",
             "Each edge takes one column more than the most signals that lie on one edge. The lines from `signals` on are no "
-            "part of the sheet: sed '/^end /q' takes the sheet out.", takes_long=True),
+            "part of the sheet: sed '/^end /q' takes the sheet out.",
+            "signals cases/exports/passing_loop.xml", takes_long=True),
     Command("front", (FILE, PAIR), SEARCH,
             "prints the pairs of values of two criteria, as height,width, of which no drawing has less of one without more of "
             "the other",
-            "It shows what a row less costs in columns.", takes_long=True),
+            "It shows what a row less costs in columns.", "front examples/station.xml height,width", takes_long=True),
     Command("explain", (FILE,), SEARCH,
             "says why no drawing is lawful: laws, each for its nodes or edges, that can't be met together, and a drawing "
             "without each; or that a drawing exists",
-            "Give it the grid on which draw ended with `end none`.", takes_long=True),
+            "Give it the grid on which draw ended with `end none`.", "explain examples/station.xml --height 1", takes_long=True),
     Command("redraw", (FILE, OLD, SHEET), (*SEARCH, "--log"),
             "draws a changed station with as few nodes as can be at other points than in the sheet, a drawing of the former "
             "file OLD",
             "A grid little larger than the former drawing gives a narrower one. Its answer is no sheet for verify.",
-            takes_long=True),
+            "redraw new.xml old.xml old.sheet --width 12 --height 4", takes_long=True),
     Command("graph", (FILE,), (), "prints the file's track graph",
-            "It has the nodes and edges by number, and which edge is above which."),
+            "It has the nodes and edges by number, and which edge is above which.", "graph examples/station.xml"),
     Command("verify", (FILE, SHEET), (), "says whether the sheet's drawing is lawful",
-            "It prints `lawful` and the drawing's values, or the first law that it breaks."),
+            "It prints `lawful` and the drawing's values, or the first law that it breaks. Whether a better drawing exists only "
+            "check and recheck say.", "verify examples/station.xml examples/station.sheet"),
     Command("check", (FILE, SHEET, LOG), (), "says whether the log certifies what the sheet claims",
-            "trim once and recheck often: recheck of the trimmed lines takes a fraction of the time.", takes_long=True),
+            "One run of draw makes SHEET and LOG, as below. Whoever has FILE, SHEET and LOG can check the claim: hand over the three. "
+            "Or trim once and recheck often: HINTS are handed over in the place of LOG, and judged in a fraction of the time.",
+            "draw examples/station.xml --log station.log > station.sheet",
+            "check examples/station.xml station.sheet station.log", takes_long=True),
     Command("trim", (FILE, SHEET, LOG, HINTS_WRITTEN), (),
-            "writes into HINTS what is left of such a log: the lines that certify the claim and those on which they rest, with "
-            "their hints",
-            "recheck reads these lines in a fraction of the time that check needs for the log.", takes_long=True),
-    Command("recheck", (FILE, SHEET, HINTS), (), "says whether such lines certify what the sheet claims",
-            "It reads the lines in one pass.", takes_long=True),
+            "writes into HINTS what is left of a log that check accepts: the lines that certify the claim and those on which they "
+            "rest, with their hints",
+            "recheck reads these lines in a fraction of the time that check needs for the log. Hand over FILE, SHEET and HINTS.",
+            "trim examples/station.xml station.sheet station.log station.hints", takes_long=True),
+    Command("recheck", (FILE, SHEET, HINTS), (), "says whether the lines that trim left certify what the sheet claims",
+            "It reads the lines in one pass.", "recheck examples/station.xml station.sheet station.hints", takes_long=True),
     Command("make", (NUMBER,), (), "prints the file of a made station",
-            "It is a station with loops, made from the number, to try things on."),
+            "It is a station with loops, made from the number, to try things on.", "make 7 > made.xml"),
     Command("trial", (NUMBER,), (), "makes a station and says how high and wide its least drawing is",
-            "The grid is 64 by 2.", takes_long=True),
+            "The grid is 64 by 2.", "trial 7", takes_long=True),
 )}
 
 # commands of the launcher itself: the program doesn't know them
 OWN = {it.word: it for it in (
-    Command("help", (Name("[COMMAND]", "a command", "command"),), (), "says what railplan can do, or what one command does", ""),
-    Command("version", (), (), "says which version this is, and whether it is proved", "", ),
+    Command("help", (Name("[COMMAND]", "a command", "command"),), (), "says what railplan can do, or what one command does", "",
+            "help draw"),
+    Command("version", (), (), "says which version this is, and whether it is proved", "", "version"),
     Command("folder", (Name("IN", "a folder of railML 2 files", "folder"), Name("OUT", "a folder for what is made", "folder")),
-            ("-j", "--certify", "--shard", "--join"),
+            ("-j", "--certify", "--shard", "--join", *(it for it in COMMANDS["draw"].options if not OPTIONS[it].is_file)),
             "draws each station of the folder IN into the folder OUT, with a page for all of them",
             "Each station is drawn on the grid that is asked for, and where no drawing is lawful there on larger ones. What "
-            "hasn't changed isn't drawn again. Options of draw count too, but those of files.", takes_long=True),
+            "hasn't changed isn't drawn again.",
+            "folder stations drawn --certify", takes_long=True),
     Command("prepare", (Name("IN", "a railML 2 file", "railml"), Name("OUT", "the file for what is mended", "railml")), (),
             "writes a file anew as railplan reads it, where the file itself says what is missing",
-            "It says each change. Where it would have to guess it writes nothing. It is no part of what is proved."),
+            "It mends the encoding, a prefix of elements, how numbers of metres are written, and the absPos of a begin that is joined "
+            "to a point whose mileage the file says. It says each change. Where it would have to guess it writes nothing, and lists "
+            "all that the file lacks. It is no part of what is proved.",
+            "prepare export.xml mended.xml"),
     Command("install", (Name("[PREFIX]", "a folder, without it ~/.local", "folder"),), (),
-            "links railplan into PREFIX/bin, with its manual page and completions", ""),
-    Command("uninstall", (Name("[PREFIX]", "the folder that install had", "folder"),), (), "takes away what install made", ""),
+            "links railplan into PREFIX/bin, with its manual page and completions", "", "install ~/.local"),
+    Command("uninstall", (Name("[PREFIX]", "the folder that install had", "folder"),), (), "takes away what install made", "",
+            "uninstall ~/.local"),
 )}
 
 # options of commands of the launcher itself
 OWN_OPTIONS = {it.word: it for it in (
     Option("-j", "N", "how many stations are drawn side by side", "number", 1, 1024, "as many as there are processors"),
-    Option("--certify", "", "checks each drawing's log, and leaves its trimmed lines", "nothing"),
+    Option("--certify", "", "checks each drawing's log, and leaves its trimmed lines beside the sheet", "nothing"),
     Option("--shard", "I/N", "the I-th of N parts of the stations", "shard"),
     Option("--join", "", "draws nothing, and makes the one page of what all parts left", "nothing"),
 )}

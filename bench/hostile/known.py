@@ -5,6 +5,5 @@ entry is to be taken out, so that it can't come back unseen."""
 
 KNOWN: dict[str, str] = {
     "size of files": "A file that may not grow further ends the program alone by the signal XFSZ, and not with 6.",
-    "page, SIGQUIT to the group": "A run with a page that is ended by a quit leaves a hidden file where the page was to be.",
     "signs of a picture": "An id with U+FFFE is in the bare program's picture as it is, which is no XML then; the launcher says so.",
 }

@@ -105,6 +105,13 @@ class TitleBlock(unittest.TestCase):
                        "examples/station.xml", "./railplan check examples/station.xml station.sheet 'a b.log'"):
             self.assertIn(wanted, text)
 
+    def test_files_beside_the_page_are_named_from_where_it_was_made(self) -> None:
+        for page, folder in (("u/out/station.html", "u/out/"), ("station.html", "")):
+            text = block(make(example(page=page, sheet_beside="station.sheet", hints_beside="station.hints")))
+            self.assertIn(f"./railplan recheck examples/station.xml {folder}station.sheet {folder}station.hints", text)
+            self.assertIn(f"{folder}station.sheet is the sheet that this page holds. Hand over the three files of this line", text)
+        self.assertIn("Save this page's sheet first, as station.sheet in the folder where you type this.", block(make(example())))
+
     def test_without_a_log_only_the_laws_are_judged_again(self) -> None:
         text = block(make(example()))
         self.assertIn("./railplan verify examples/station.xml station.sheet", text)
@@ -142,6 +149,14 @@ class Explaining(unittest.TestCase):
             self.assertIn(f"Given up: {number}. ", caption)
             self.assertIn(f"It keeps numbers {kept[0]}, {kept[1]} and {kept[2]} of the list. Laws outside the list needn't be kept.",
                           caption)
+
+    def test_what_is_said_is_of_this_grid(self) -> None:
+        for options, is_more in (([], True), (["--width", "64"], True), (["--width", "64", "--height", "12"], False)):
+            run = sample("explain")
+            run.options = dict(zip(options[::2], options[1::2]))
+            said = fact(make(run), "Grid")
+            self.assertIn("All that is said here is of this grid.", said)
+            self.assertEqual("On a larger one there may be a drawing." in said, is_more, options)
 
     def test_an_order_names_the_switch_from_which_it_comes(self) -> None:
         words = [it for it in words_of(make(sample("explain_above")).lead).split(". ") if "lies above" in it]

@@ -10,16 +10,29 @@ from tool import advice, words
 class Pictures(unittest.TestCase):
     SAID = ["nodes 2", "node 0 m\ufffe 0 0 0.000000", "node 1 b 1 0 5.000000", "edge 0 t\uffff 0 1 0 0 1 0"]
 
-    def notes(self, *given):
-        return [it.text for it in advice.odd_picture(words.read(list(given)), self.SAID)]
-
     def test_an_id_that_xml_has_no_character_for(self):
-        said, = self.notes("draw", "f", "--svg", "p.svg")
-        self.assertIn("p.svg is no XML", said)
-        self.assertIn("the id m<U+FFFE>, t<U+FFFF>", said)
+        said, = advice.odd_picture("p.svg", self.SAID)
+        self.assertIn("p.svg is no XML", said.text)
+        self.assertIn("the id m<U+FFFE>, t<U+FFFF>", said.text)
 
     def test_nothing_without_a_picture(self):
-        self.assertEqual(self.notes("draw", "f"), [])
+        self.assertEqual(advice.odd_picture("", self.SAID), [])
+
+
+class Answers(unittest.TestCase):
+    def test_the_best_drawing_by_its_values(self):
+        for order, end, said in (("height bends diagonal width", "end best",
+                                  "the best drawing: height 2, bends 4, diagonal 3, width 7"),
+                                 ("width bends", "end best", "the best drawing: width 7, bends 4"),
+                                 ("height bends", "end conflicts 1", ""), ("height bends", "end room 0", "")):
+            with self.subTest(order=order, end=end):
+                self.assertEqual(advice.best(["railplan 2", f"order {order}", "values 2 4 3 7", end, "signals 0"]), said)
+        for other in (["railplan 2", "order height", "end none"], ["railplan-moved 1", "moved 3 of 4", "values 1 2 2 7", "end best"], []):
+            self.assertEqual(advice.best(other), "")
+
+    def test_a_lawful_drawing_by_its_values(self):
+        self.assertEqual(advice.lawful(["2", "4", "3", "7"]), "the drawing keeps all seven laws: height 2, bends 4, diagonal 3, "
+                                                              "width 7. Whether a better one exists, only check and recheck say")
 
 
 class Certificates(unittest.TestCase):
@@ -79,6 +92,26 @@ class Larger(unittest.TestCase):
             note, = advice.no_drawing("p", words.read(["draw", "f.xml", *given]), [])
         return note.text
 
+    def explained(self, graph, *given):
+        with mock.patch("tool.advice.graph_of", lambda program, name: graph), mock.patch("tool.advice.called", lambda: "railplan"):
+            return advice.larger("p", words.read(["explain", "a f.xml", *given]), []).text
+
+    def row(self, count):
+        """so many edges one behind another"""
+        return [f"node {at} n{at} end {at}.000000" for at in range(count + 1)] + \
+            [f"edge {at} t {at} {at + 1}" for at in range(count)]
+
+    def test_an_explanation_says_of_which_grid_it_is(self):
+        larger = "A larger grid may do: railplan draw 'a f.xml' --width 64 --height 12"
+        self.assertEqual(self.explained(self.row(40)),
+                         "this is of the grid that was asked for, columns 0 to 40 and rows 0 to 8: it need be no fault of the file. "
+                         f"{larger}. Where no drawing lies there either, look at the places that are named here")
+        self.assertEqual(self.explained(self.row(41)), "the pieces of track that lie one behind another take 41 columns, and this "
+                                                       f"grid ends at column 40. {larger}")
+        self.assertTrue(self.explained(self.row(40), "--least", "2").endswith("a grid has at most 64. A smaller --least takes fewer"))
+        self.assertTrue(self.explained(self.row(65), "--least", "2").endswith("at most 64. Draw a part of the station"))
+        self.assertIn("no grid is larger", self.explained(self.row(5), "--width", "64", "--height", "12"))
+
     def test_nodes_of_one_mileage_need_so_many_rows(self):
         said = self.said(self.stack(11))
         self.assertIn("11 ends, switches or crossings are at 5.000000 m and lie one above another, which takes rows 0 to 10", said)
@@ -90,11 +123,9 @@ class Larger(unittest.TestCase):
         self.assertIn("--height 12", self.said(self.stack(13)))
 
     def test_one_column_more_than_the_grid_has(self):
-        def row(count):
-            return [f"node {at} n{at} end {at}.000000" for at in range(count + 1)] + \
-                [f"edge {at} t {at} {at + 1}" for at in range(count)]
-        self.assertNotIn("one behind another", self.said(row(40)))
-        said = self.said(row(41))
+        self.assertNotIn("one behind another", self.said(self.row(40)))
+        self.assertTrue(self.said(self.row(65), "--least", "2").endswith("a grid has at most 64. Draw a part of the station"))
+        said = self.said(self.row(41))
         self.assertIn("rows 0 to 8. 41 pieces of track lie one behind another, which takes 41 columns. A larger grid may do: ", said)
         self.assertTrue(said.endswith("draw f.xml --width 64 --height 12"), said)
 

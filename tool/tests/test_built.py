@@ -122,6 +122,17 @@ class Programs(InClone):
         self.assertEqual((status, out), (2, ""))
         self.assertIn("one.xml and l are one file", err)
 
+    def test_what_a_build_takes_is_said_before_it_begins(self):
+        status, out, err = self.launch("graph", "one.xml")
+        first, second = err.splitlines()[:2]
+        self.assertRegex(first, r"^railplan: proving and building the program: from nothing that takes most of an hour on four "
+                                r"processors, and here are [1-9]\d*$")
+        self.assertTrue(second.endswith("/railplan --unproved graph one.xml"), second)
+        self.write("crates/low/src/lib.rt", "// other\n")
+        self.assertIn("crates/low/src/lib.rt isn't as it was when the program was built. Proving and building the program anew: ",
+                      self.launch("graph", "one.xml")[2])
+        self.assertNotIn("proving", self.launch("graph", "one.xml")[2])
+
     def test_the_build_in_words_for_pages(self):
         self.write("pages/run.py", "import os\nprint(os.environ['RAILPLAN_BUILD'])\n")
         out = self.launch("--html", "p", "draw", "one.xml")[1]

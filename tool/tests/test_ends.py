@@ -1,6 +1,8 @@
 """How runs end that are stopped or whose program ends otherwise."""
 import os
 import signal
+import subprocess
+import sys
 import time
 import unittest
 from unittest import mock
@@ -22,9 +24,9 @@ class OwnFaults(unittest.TestCase):
 class Stopped(InClone):
     def setUp(self):
         super().setUp()
-        # these tests may run under nohup, where a lost terminal stops nothing
-        before = signal.signal(signal.SIGHUP, signal.SIG_DFL)
-        self.addCleanup(signal.signal, signal.SIGHUP, before)
+        # these tests may run under nohup, where a lost terminal stops nothing, or behind a shell's &
+        for sign in running.HEARD_UNLESS_IGNORED:
+            self.addCleanup(signal.signal, sign, signal.signal(sign, signal.SIG_DFL))
         self.script("crates/railplan_main/out/railplan_main", SLOW)
 
     def begun(self):
@@ -45,7 +47,7 @@ class Stopped(InClone):
         return True
 
     def test_a_signal_ends_the_run_with_130_and_leaves_no_process(self):
-        for sign in (signal.SIGINT, signal.SIGTERM, signal.SIGHUP):
+        for sign in (signal.SIGINT, signal.SIGTERM, signal.SIGHUP, signal.SIGQUIT):
             with self.subTest(sign):
                 job = self.start("draw", "one.xml")
                 number = self.begun()
@@ -56,6 +58,32 @@ class Stopped(InClone):
                 self.assertNotIn("Traceback", err)
                 self.assertFalse(self.is_there(number))
                 (self.top / "begun").unlink()
+
+    def test_a_run_with_a_page_that_is_ended_by_a_quit_leaves_nothing(self):
+        (self.top / "tmp").mkdir()
+        before = sorted(it.name for it in self.top.iterdir())
+        job = self.start("--html", "p", "draw", "one.xml", TMPDIR=str(self.top / "tmp"))
+        number = self.begun()
+        job.send_signal(signal.SIGQUIT)
+        out, err = job.communicate(timeout=60)
+        self.assertEqual((job.returncode, out), (130, ""))
+        self.assertIn("p isn't written", err)
+        self.assertFalse(self.is_there(number))
+        (self.top / "begun").unlink()
+        self.assertEqual(sorted(it.name for it in self.top.iterdir()), before)
+        self.assertEqual([it.name for it in (self.top / "tmp").iterdir() if not it.name.endswith(str(os.getuid()))], [])
+
+    def test_what_a_run_was_started_to_ignore_stays_ignored(self):
+        for sign in running.HEARD_UNLESS_IGNORED:
+            signal.signal(sign, signal.SIG_IGN)
+        job = self.start("draw", "one.xml")
+        self.begun()
+        for sign in running.HEARD_UNLESS_IGNORED:
+            job.send_signal(sign)
+        time.sleep(0.3)
+        self.assertIsNone(job.poll())
+        job.send_signal(signal.SIGTERM)
+        self.assertIn("stopped after", job.communicate(timeout=20)[1])
 
     def test_a_second_signal_does_not_disturb_the_end(self):
         job = self.start("draw", "one.xml")
@@ -81,6 +109,24 @@ class Stopped(InClone):
     def test_an_interrupt_while_the_launcher_is_read(self):
         self.write("tool/launch.py", "import os, signal, time\nos.kill(os.getpid(), signal.SIGINT)\ntime.sleep(9)\n")
         self.assertEqual(self.launch("draw", "one.xml"), (130, "", "railplan: stopped\n"))
+
+    def test_an_interrupt_that_python_would_pass_over(self):
+        """an error in what takes an object away is only reported, and the run would go on"""
+        self.write("tool/launch.py", "import os, signal\nclass Gone:\n    def __del__(self):\n"
+                                     "        os.kill(os.getpid(), signal.SIGINT)\n        for _ in range(9): pass\n"
+                                     "Gone()\ndef main(given, top):\n    return 7\n")
+        self.assertEqual(self.launch("draw", "one.xml"), (130, "", "railplan: stopped\n"))
+
+    def test_an_interrupt_at_the_end_comes_too_late(self):
+        """with the interpreter's own end an interrupt would be reported as an error of the run"""
+        late = "import atexit, os, signal\ndef NAME(*given):\n" \
+            "    atexit.register(lambda: os.kill(os.getpid(), signal.SIGINT))\n    return 3\n"
+        self.write("tool/launch.py", late.replace("NAME", "main"))
+        self.assertEqual(self.launch("draw", "one.xml"), (3, "", ""))
+        self.write("pages/command.py", late.replace("NAME", "start"))
+        ran = subprocess.run([sys.executable, "-SB", self.top / "pages/run.py", "railplan", "p", "draw", "one.xml"], text=True,
+                             stdin=subprocess.DEVNULL, capture_output=True, timeout=60)
+        self.assertEqual((ran.returncode, ran.stdout, ran.stderr), (3, "", ""))
 
     def test_an_interrupt_before_the_launcher_listens(self):
         signal.pthread_sigmask(signal.SIG_BLOCK, (signal.SIGINT,))

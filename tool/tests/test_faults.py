@@ -110,10 +110,15 @@ FURTHER = (
     (TWO, "graph SideMismatch", "two tracks are joined, and both lie on one side of it", "it is joined to the begin of track q"),
     (edited((b'"ki" ref="rd"', b'"ki" ref="sa"'), (b'"ko" ref="sa"', b'"ko" ref="rd"'), (b'"rd" ref="ki"', b'"rd" ref="ko"'),
             (b'"sa" ref="ko"', b'"sa" ref="ki"'), text=CROSSED),
-     "graph SideMismatch", "Either incoming and outgoing are exchanged", "it is joined to the begin of track s"),
-    (FALLING, "graph SideMismatch", "Either the switch lacks an absPos, which it needs as its track's mileage falls; orientation=", ""),
+     "graph SideMismatch", "Either exchange incoming and outgoing", "it is joined to the begin of track s"),
+    (FALLING, "graph SideMismatch", "Either give it an absPos, which it needs as its track's mileage falls; or write orientation=", ""),
     (edited((b'id="W1.branch" ref="track4.west"', b'id="W1.branch" ref="elsewhere"'), (JOINED, b"<openEnd/>")), "topology UnknownRef",
      "Give switch W1 a short track there, whose other end has an <openEnd", ""),
+    (edited((b' course="left"', b""), (b' course="right"', b""), (b' course="left"', b"")), "topology Missing",
+     "seen from the points. 2 more connections have none: ./railplan prepare ", ""),
+    (edited((b' ref="W1.branch"', b""), (b' pos="310"', b"")), "topology Missing", "Write its distance in metres from the zero of its track", ""),
+    (edited((b'ref="W1.branch"', b'ref="nowhere"'), (b'ref="W3.branch"', b'ref="none"')), "topology UnknownRef",
+     "no connection that is read has this id; so does 1 connection more. Was its track left out", ""),
     (edited((b'course="left"', b'course="lefft"')), "topology Course", "(did you mean left?)", ""),
     (edited((b'course="right"', b'course="rigth"'), text=CROSSED), "topology Course", "(did you mean right?)", ""),
     (edited((b'course="right"', b'course="straight"'), text=CROSSED), "topology Course", "isn't left or right. Write", ""),
@@ -274,6 +279,25 @@ class Provoked(unittest.TestCase):
                              (["draw", self.file("x", b" " * 4194305)], "4 MiB")):
             with self.subTest(given=given):
                 self.assertIn(piece, self.told(given)[1][0].text)
+
+
+class Exchanged(unittest.TestCase):
+    def setUp(self):
+        folder = tempfile.TemporaryDirectory()
+        self.addCleanup(folder.cleanup)
+        self.addCleanup(os.chdir, os.getcwd())
+        os.chdir(folder.name)
+        for name, begun in (("x 1", "<railml/>"), ("s", "railplan 2"), ("l", "railplan-log 1"), ("h", "railplan-hints 1"), ("?", "")):
+            Path(name).write_text(begun + "\n")
+
+    @mock.patch("tool.telling.called", lambda: "railplan")
+    def test_the_names_are_said_in_their_order(self):
+        for given, said in ((["verify", "s", "x 1"], "verify 'x 1' s"), (["check", "l", "x 1", "s"], "check 'x 1' s l"),
+                            (["recheck", "h", "s", "x 1"], "recheck 'x 1' s h"), (["trim", "s", "x 1", "l", "h"], "trim 'x 1' s l h"),
+                            (["check", "s", "x 1", "h"], "check FILE SHEET LOG"), (["check", "s", "s", "l"], "check FILE SHEET LOG"),
+                            (["verify", "?", "s"], "verify FILE SHEET"), (["redraw", "s", "x 1", "x 1"], "redraw FILE OLD SHEET")):
+            with self.subTest(given):
+                self.assertEqual(telling.Ending(words.read(given), running.Ran(1, b"", 0)).usage(), f"railplan {said}")
 
 
 class Colours(unittest.TestCase):

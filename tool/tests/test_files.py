@@ -15,12 +15,15 @@ class Looked(unittest.TestCase):
         self.top = Path(folder.name)
 
     def look(self, *given, lacking=None):
-        """the status and the sentence with which a run is refused, where the rights of one path lack"""
+        """the status and the sentence with which a run of the last name is refused, where the rights of one path lack"""
+        return self.look_at(*given[:-1], str(self.top / given[-1]), lacking=lacking)
+
+    def look_at(self, *given, lacking=None):
         access = lambda path, mode: str(path) != str(lacking)
         said = []
         with mock.patch("os.access", access), mock.patch("tool.saying.say", said.append):
             try:
-                files.look(words.read([*given[:-1], str(self.top / given[-1])]))
+                files.look(words.read([*given]))
             except Ended as ended:
                 return ended.status, said[0]
         return 0, ""
@@ -45,6 +48,26 @@ class Looked(unittest.TestCase):
         (self.top / "there").write_text("mine")
         self.assertEqual(self.look("draw", "x.xml", "--widht", "4", "--html", "there")[0], 2)
         self.assertEqual(self.look("draw", "x.xml", "--widht", "4", "--svg", "there")[0], 0)
+
+    def test_a_hyphen_is_no_name_of_a_file_that_is_written(self):
+        for given in (*(["draw", "x.xml", word, "-"] for word in ("--svg", "--log", "--html", "--dxf", "--csv")),
+                      ["trim", "x.xml", "s", "l", "-"]):
+            with self.subTest(given):
+                status, said = self.look_at(*given)
+                self.assertEqual(status, 2)
+                self.assertTrue(said.startswith("`-` is no name of a file that is written: "), said)
+                self.assertTrue(said.endswith("one that is called so is ./-"), said)
+        self.assertEqual(self.look_at("draw", "-"), (0, ""))
+
+    def test_a_file_is_written_whole_or_stays_as_it_was(self):
+        name = self.top / "one"
+        for data in (b"first", b"second"):
+            files.write_whole(str(name), data)
+            self.assertEqual(name.read_bytes(), data)
+        with mock.patch("os.replace", side_effect=OSError(28, "No space left on device")), self.assertRaises(OSError):
+            files.write_whole(str(name), b"third")
+        self.assertEqual(name.read_bytes(), b"second")
+        self.assertEqual([it.name for it in self.top.iterdir()], ["one"])
 
 
 if __name__ == "__main__":

@@ -74,11 +74,13 @@ class Folders(InClone):
 
     def test_the_two_folders_are_not_one(self):
         self.stations("a")
-        for again in ("in", "./in", "in/../in"):
+        for again, said in (("in", "in is named twice"), ("./in", "in and ./in are one folder"),
+                            ("in/../in", "in and in/../in are one folder")):
             status, out, err = self.launch("folder", "in", again)
             with self.subTest(again):
                 self.assertEqual(status, 2)
-                self.assertIn("are one folder. Name another one for what is drawn, as in/drawn", err)
+                self.assertIn(f"railplan: {said}", err)
+                self.assertIn(". Name another one for what is drawn, as in/drawn", err)
 
     def test_the_page_says_the_grid_as_it_is_counted(self):
         self.stations("a")
@@ -105,8 +107,11 @@ class Folders(InClone):
         grids = ["--width 40 --height 8", "--width 64 --height 8", "--width 64 --height 12"]
         self.assertEqual(sorted(self.drawn()), sorted(f"draw in/{name}.xml {it}" for name in ("large", "none") for it in grids))
         self.assertEqual(self.record("large")["grid"], [64, 12])
-        self.assertIn("2 stations: 1 best, 1 no drawing (1 of them on a larger grid), in ", self.folder()[2])
+        self.assertIn("2 stations: 1 best (on a larger grid than asked for), 1 no drawing, in ", self.folder()[2])
         self.assertIn(">columns 0 to 64, rows 0 to 12, larger than asked for<", (self.top / "out/index.html").read_text())
+        self.assertIn(">1 best (on a larger grid than asked for), 1 no drawing.<", (self.top / "out/index.html").read_text())
+        self.stations("a")
+        self.assertIn("2 best (1 of them on a larger grid than asked for), 1 no drawing, in ", self.folder()[2])
         self.assertNotIn("larger grid", self.folder("--width", "64", "--height", "12")[2])
 
     def test_files_that_are_passed_over(self):
@@ -132,6 +137,27 @@ class Folders(InClone):
         self.assertEqual(len(self.drawn()), 3)
         self.assertTrue(self.record("a")["key"])
 
+    def test_faults_are_said_in_the_order_of_the_stations(self):
+        names = [f"refused{number}" for number in range(4)]
+        shown = folder.Shown(["a", *names])
+        with mock.patch("tool.folder.write_error") as said:
+            for name in (names[2], names[0], "a"):
+                shown.take(Record(name, "", 0 if name == "a" else 1, said=name))
+            self.assertEqual([it[0][0] for it in said.call_args_list], ["refused0"])
+            shown.say_rest()
+        self.assertEqual([it[0][0] for it in said.call_args_list], ["refused0", "refused2"])
+        self.assertEqual((shown.done, shown.faults), (3, 2))
+
+    def test_a_station_that_is_taken_away_is_named(self):
+        self.stations("a", "b", "c")
+        self.assertNotIn("left in", self.folder()[2])
+        for name in ("b", "c"):
+            (self.top / f"in/{name}.xml").unlink()
+        for path in (self.top / "out").glob("c.*"):
+            path.unlink()
+        self.assertIn("railplan: left in out from former runs, as in has no such station any more: b\n", self.folder()[2])
+        self.assertIn("b.html", self.made())
+
     def test_another_program_draws_anew(self):
         self.stations("a")
         self.folder()
@@ -148,6 +174,14 @@ class Folders(InClone):
         self.folder()
         self.assertEqual(len(self.drawn()), 1)
 
+    def test_a_picture_that_is_no_xml_is_named(self):
+        self.script("crates/railplan_main/out/railplan_main", PROGRAM.replace("nodes 1\\n", "nodes 1\\nnode 0 a\ufffe 0 0 0.0\\n"))
+        self.stations("a", "none")
+        self.assertEqual(self.folder()[0], 3)
+        self.assertIn("out/a.svg is no XML, and other programs may refuse it: XML has no such character as in the id a<U+FFFE>",
+                      self.record("a")["said"])
+        self.assertNotIn("no XML", self.record("none")["said"])
+
     def test_certificates(self):
         self.stations("a", "none")
         self.assertIn("2 stations: 1 best, 1 no drawing, 2 with a certificate, in ", self.folder("--certify")[2])
@@ -155,7 +189,9 @@ class Folders(InClone):
         self.assertIn("a.hints", self.made())
         self.assertNotIn("a.log", self.made())
         page = (self.top / "out/index.html").read_text()
-        self.assertIn(">certified: 2 of 2<", page)
+        self.assertIn(">certified: height, bends<", page)
+        self.assertIn('<a href="a.sheet">sheet</a>', page)
+        self.assertIn('<a href="none.sheet">sheet</a>', page)
         self.assertIn(">certified: no drawing<", page)
         self.drawn()
         self.assertIn("2 with a certificate", self.folder()[2])
@@ -259,7 +295,8 @@ class Folders(InClone):
             time.sleep(0.01)
         err = job.communicate(timeout=20)[1]
         self.assertEqual(job.returncode, 130)
-        self.assertEqual(err, "railplan: stopped; of 2 stations 1 is done. The same line goes on from there\n")
+        self.assertEqual(err, "railplan: stopped; of 2 stations 1 is done. The same line goes on from there, and writes "
+                              "index.html at its end\n")
         self.drawn()
         self.stations("slow2")
         (self.top / "in/slow.xml").rename(self.top / "in/quick.xml")

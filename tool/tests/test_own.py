@@ -38,6 +38,24 @@ class Help(InClone):
                 for line in text.splitlines():
                     self.assertLessEqual(len(line), 80)
 
+    def test_each_command_has_an_example_that_can_be_typed(self):
+        for word, command in manual.all_commands().items():
+            self.assertTrue(command.examples, word)
+            for example in command.examples:
+                line = words.read(example.partition(" > ")[0].split())
+                with self.subTest(example):
+                    self.assertIn(f"  railplan {example}\n", manual.of_command(word, "railplan"))
+                    self.assertIn(f"\nrailplan {manual.escaped(example)}\n", manual.man_page(VERSION))
+                    self.assertIsNone(words.fault(line.words) if line.command in words.COMMANDS else None)
+                    for name in line.names:
+                        self.assertTrue("/" not in name or name.startswith("~") or (TOP / name).exists(), name)
+
+    def test_how_a_sheet_and_a_log_are_made_is_said_where_they_are_checked(self):
+        text = manual.of_command("check", "railplan")
+        made, judged = text.index("--log station.log > station.sheet"), text.index("station.sheet station.log")
+        self.assertLess(made, judged)
+        self.assertIn("hand over the three", " ".join(text.split()))
+
     def test_further_sentences_of_a_command(self):
         for word, command in manual.all_commands().items():
             with self.subTest(word):
@@ -60,6 +78,7 @@ class Help(InClone):
         status, out, err = self.launch("help", "drow")
         self.assertEqual((status, out), (2, ""))
         self.assertIn("Did you mean", err)
+        self.assertIn("`frobnicate` is no command: ", self.launch("help", "frobnicate")[2])
 
     def test_the_help_says_what_users_lacked(self):
         for word, said in (("redraw", "A grid little larger than the former drawing gives a narrower one."),

@@ -27,6 +27,7 @@ class Mended(unittest.TestCase):
         text, changes, guesses = mended(TRACK)
         self.assertEqual(text, TRACK.replace('<trackBegin id="bb"', '<trackBegin absPos="120" id="bb"'))
         self.assertEqual((len(changes), guesses), (1, []))
+        self.assertIn("is written at the begin of track b, as switch w has, to which it is joined", changes[0])
 
     def test_an_end_that_speaks_against_the_joined_begin_is_doubted(self):
         for end_, doubts in (("129", 0), ("111", 0), ("128.5", 0), ("900", 1)):
@@ -46,7 +47,22 @@ class Mended(unittest.TestCase):
     def test_a_mileage_that_nothing_says(self):
         text, changes, guesses = mended(TRACK.replace(' absPos="100"', ""))
         self.assertEqual((len(changes), len(guesses)), (0, 2))
-        self.assertIn("nothing in the file says the mileage of the begin of track a", guesses[0])
+        self.assertIn("the begin of track a has no absPos, and is joined to no point whose mileage the file says", guesses[0])
+
+    def test_a_mileage_that_is_too_large_to_be_read(self):
+        text, changes, guesses = mended(TRACK.replace('absPos="100"', 'absPos="999999999"'))
+        self.assertEqual((text.count("absPos"), changes, len(guesses)), (1, [], 1))
+
+    def test_all_that_elements_must_have_is_listed(self):
+        for lacking, said in ((' course="left"', "the connection c of switch w has no course. Write left or right"),
+                              (' orientation="outgoing"', "the connection c of switch w has no orientation. Write"),
+                              (' pos="20"', "the switch w has no pos"), (' id="be"', "the end of track b has no id"),
+                              (' ref="d"', "the connection c of switch w has no ref")):
+            with self.subTest(lacking):
+                text, changes, guesses = mended(TRACK.replace(' absPos="100"', "").replace(lacking, ""))
+                found = [it for it in guesses if said in it]
+                self.assertEqual((len(guesses), len(found)), (3, 1), guesses)
+                self.assertTrue(found[0].startswith("s.xml:1:"), found[0])
 
     def test_numbers(self):
         for given, written in (("20,5", "20.5"), ("2.05E1", "20.5"), ("20.5000001", "20.5"), ("20.12345678", "20.123457"),
@@ -139,17 +155,29 @@ class Written(InClone):
             self.assertEqual(self.prepare(out)[0], 0)
         self.assertIn(prepare.MARK, (self.top / "new.xml").read_text())
 
+    def test_nothing_is_written_where_something_lacks(self):
+        self.write("s.xml", TRACK.replace(' course="left"', ""))
+        status, out, err = self.prepare("new.xml")
+        self.assertEqual((status, out), (1, ""))
+        self.assertIn("has no course", err)
+        self.assertTrue(err.endswith("railplan: nothing is written: 1 thing would have to be guessed\n"), err)
+        self.assertFalse((self.top / "new.xml").exists())
+
     def test_what_is_not_replaced(self):
         (self.top / "link.xml").symlink_to("other.xml")
         (self.top / "open.xml").symlink_to("nosuch.xml")
         os.mkfifo(self.top / "pipe.xml")
         (self.top / "folder.xml").mkdir()
-        for out, said in (("link.xml", "is a link"), ("open.xml", "is a link"), ("pipe.xml", "is no plain file"),
-                          ("/dev/null", "is no plain file"), ("folder.xml", "is a folder"), ("s.xml", "are one file"),
-                          ("other.xml", "is there, and prepare didn't write it")):
+        for out, due, said in (("link.xml", 2, "is a link, and isn't replaced"), ("open.xml", 2, "is a link, and isn't replaced"),
+                               ("pipe.xml", 2, "is no plain file"), ("/dev/null", 2, "is no plain file"),
+                               ("folder.xml", 6, "it is a folder. Name a file in it"),
+                               ("none/s.xml", 6, "none isn't there. Make the folder"),
+                               ("s.xml", 2, "s.xml is named twice. Name"), ("./s.xml", 2, "s.xml and ./s.xml are one file. Name"),
+                               ("-", 2, "`-` is no name of a file that is written"),
+                               ("other.xml", 2, "is there, and prepare didn't write it")):
             with self.subTest(out):
                 status, printed, err = self.prepare(out)
-                self.assertEqual((status, printed), (2, ""))
+                self.assertEqual((status, printed, err.count("\n")), (due, "", 1))
                 self.assertIn(said, err)
         self.assertEqual((self.top / "other.xml").read_text(), "mine")
         self.assertTrue((self.top / "link.xml").is_symlink())

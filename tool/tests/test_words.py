@@ -110,7 +110,10 @@ class Table(unittest.TestCase):
         for command in words.COMMANDS.values():
             self.assertLessEqual({*command.options}, {*words.OPTIONS})
         for command in words.OWN.values():
-            self.assertLessEqual({*command.options}, {*words.OWN_OPTIONS})
+            self.assertLessEqual({*command.options}, {*words.OWN_OPTIONS, *words.OPTIONS})
+
+    def test_a_folder_has_the_options_of_draw_but_those_of_files(self):
+        self.assertEqual({*words.COMMANDS["draw"].options} - {*words.OWN["folder"].options}, {"--svg", "--log"})
 
     def test_no_word_has_two_meanings(self):
         tables = (words.COMMANDS, words.OWN, words.OPTIONS, words.OWN_OPTIONS, words.PAGE_WORDS)
