@@ -194,6 +194,11 @@ class Commands(unittest.TestCase):
         self.assertIn("gone piece of track: second main track (track2), from W2 to B2", changes)
         self.assertEqual([it.attributes["data-key"] for it in page.changes][:4], ["n1", "n4", "n6", "n7"])
 
+    def test_a_change_that_is_ticked_off_is_struck_out(self) -> None:
+        for item in make(sample("redraw_station")).changes:
+            self.assertEqual([it.tag for it in item.all()], ["li", "label", "input", "span"])
+        self.assertIn(".changes input:checked + span { text-decoration: line-through }", text_of("redraw_station"))
+
     def test_redraw_says_other_kilometres_and_sides(self) -> None:
         run = sample("redraw_station")
         run.graphs[1].nodes[0].mileage = "12001.000000"
