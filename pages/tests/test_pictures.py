@@ -87,6 +87,21 @@ class SignsOfNodes(unittest.TestCase):
         self.assertEqual(make(sample("signals")).signs, ["switch", "open end", "buffer stop", "signal", "signal both"])
 
 
+class Pointers(unittest.TestCase):
+    def test_a_pointer_finds_a_sign_beside_its_lines(self) -> None:
+        """an open end is two thin strokes: without more a pointer would have to be on one of them"""
+        page = make(sample("signals"))
+        kinds = {it: str(it.attributes["class"]) for it in by_class(page, "sign")}
+        self.assertEqual(set(kinds.values()), {"sign node", "sign signal"})
+        for one in kinds:
+            found = drawn.around(drawn.spots_of(next(it for it in one.all() if it.attributes.get("class") == "hit")))
+            wide, high = found[2] - found[0], found[3] - found[1]
+            self.assertTrue(max(wide, high) >= 14 and min(wide, high) >= 9, (wide, high))
+        self.assertRegex("".join(styles_of("A3")), r"\.sign \.hit \{[^}]*pointer-events: all")
+        picture = page.figures[0].picture
+        self.assertNotIn("hit", str(drawing.alone(picture, "", "station")))
+
+
 class MarksOfLaws(unittest.TestCase):
     def test_broken_and_kept(self) -> None:
         page = make(sample("explain_above"))
