@@ -62,6 +62,14 @@ class Picture:
     short: list[tuple[str, str]] = field(default_factory=list)
     trouble: float = 0
 
+    def widen(self, wide: float) -> None:
+        """makes each strip so wide, with as much more room on the left as on the right"""
+        for at, (left, top, right, bottom) in enumerate(self.boxes):
+            more = (wide - right + left) / 2
+            self.boxes[at] = (left - more, top, right + more, bottom)
+            self.strips[at].attributes.update(viewBox=f"{shown(left - more)} {shown(top)} {shown(wide)} {shown(bottom - top)}",
+                                              width=shown(wide))
+
 
 def demands(scene: Scene) -> Iterator[Demand]:
     """how far columns are to be from each other, for the names of what is on one row"""

@@ -116,6 +116,13 @@ class Page:
             self.objects, self.scene = Objects(scene), scene
         return picture
 
+    def align(self, kind: str) -> None:
+        """gives the pictures of a kind, which lie side by side, one width: so a narrow screen shows them at one scale"""
+        pictures = [it.picture for it in self.figures if it.kind == kind and it.picture]
+        wide = max((box[2] - box[0] for it in pictures for box in it.boxes), default=0.0)
+        for picture in pictures:
+            picture.widen(wide)
+
     def fact(self, title: str, *paragraphs: Child) -> None:
         self.facts.append((title, [element("p", it) if isinstance(it, str) else it for it in paragraphs]))
 
@@ -316,6 +323,7 @@ def add_panels(page: Page, run: Run, why: texts.Why) -> None:
                   element("b", f"Given up: {number}. "),
                   f"{sentences.sentence(text)} {keeps}Laws outside the list needn't be kept.",
                   kind="panel", title=f"without {number}")
+    page.align("panel")
     page.fact("Colours", element("p", element("span", "Red, broken lines and squares", class_="broken"),
                                  ": what the drawing gives up."),
               element("p", element("span", "Blue, solid lines and circles", class_="party"), ": what it keeps of the list."),
@@ -352,6 +360,7 @@ def add_versions(page: Page, run: Run, new: Drawing, old: Drawing) -> None:
     for scene, word in zip(scenes, ("Before. ", "Now. ")):
         scene.part = 1.0 if is_wide else HALF
         page.draw(scene, element("b", word), CAPTION, kind="" if is_wide else "version", title=scene.title)
+    page.align("version")
     page.objects, page.scene = Objects(scenes[1]), scenes[1]
     page.changes = changes.items()
     page.fact("Marks", "A circle: a node that moved. A square on its corner: a new one. A cross: one that is gone.",

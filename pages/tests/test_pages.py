@@ -194,6 +194,15 @@ class Commands(unittest.TestCase):
         self.assertIn("gone piece of track: second main track (track2), from W2 to B2", changes)
         self.assertEqual([it.attributes["data-key"] for it in page.changes][:4], ["n1", "n4", "n6", "n7"])
 
+    def test_pictures_side_by_side_have_one_width(self) -> None:
+        """so that a screen that is too narrow for both shows them at one scale, with letters of one height"""
+        for name, kind, count in (("redraw_station", "version", 2), ("explain", "panel", 4)):
+            strips = [strip for it in make(sample(name)).figures if it.kind == kind for strip in it.picture.strips]
+            self.assertEqual(len(strips), count)
+            self.assertEqual({str(strip.attributes["width"]) for strip in strips},
+                             {str(strip.attributes["viewBox"]).split()[2] for strip in strips})
+            self.assertEqual(len({strip.attributes["width"] for strip in strips}), 1)
+
     def test_a_change_that_is_ticked_off_is_struck_out(self) -> None:
         for item in make(sample("redraw_station")).changes:
             self.assertEqual([it.tag for it in item.all()], ["li", "label", "input", "span"])
