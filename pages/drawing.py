@@ -62,6 +62,10 @@ class Picture:
     short: list[tuple[str, str]] = field(default_factory=list)
     trouble: float = 0
 
+    def width(self) -> float:
+        """that of the widest strip"""
+        return max(box[2] - box[0] for box in self.boxes)
+
     def widen(self, wide: float) -> None:
         """makes each strip so wide, with as much more room on the left as on the right"""
         for at, (left, top, right, bottom) in enumerate(self.boxes):

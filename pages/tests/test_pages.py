@@ -199,9 +199,7 @@ class Commands(unittest.TestCase):
         for name, kind, count in (("redraw_station", "version", 2), ("explain", "panel", 4)):
             strips = [strip for it in make(sample(name)).figures if it.kind == kind for strip in it.picture.strips]
             self.assertEqual(len(strips), count)
-            self.assertEqual({str(strip.attributes["width"]) for strip in strips},
-                             {str(strip.attributes["viewBox"]).split()[2] for strip in strips})
-            self.assertEqual(len({strip.attributes["width"] for strip in strips}), 1)
+            self.assertEqual(len({(strip.attributes["width"], str(strip.attributes["viewBox"]).split()[2]) for strip in strips}), 1)
 
     def test_a_change_that_is_ticked_off_is_struck_out(self) -> None:
         for item in make(sample("redraw_station")).changes:

@@ -169,6 +169,15 @@ class Paper(unittest.TestCase):
             self.assertTrue(all(len(it) == 1 for it in sizes.values()), sizes)
             self.assertGreaterEqual(min(size for it in sizes.values() for size in it) * CAP / MM, 1.8)
 
+    def test_letters_of_a_class_have_one_height_on_the_whole_page(self) -> None:
+        """the numbers of a front's plot and the kilometres of its drawings are of one class"""
+        page, sizes = make(sample("front")), {}
+        for strip in [page.figures[0].parts[0], *(it for one in page.figures[1:] for it in one.picture.strips)]:
+            for text in drawn.of_strip(strip).texts:
+                sizes.setdefault(tuple(text.classes[:2]), set()).add(text.size)
+        self.assertEqual({kind: len(it) for kind, it in sizes.items()}, dict.fromkeys(sizes, 1))
+        self.assertIn(("km",), sizes)
+
     def test_no_strip_is_wider_than_the_paper(self) -> None:
         sheet = crowded.sheet_of(7, 40, crowded.crossovers_of(__import__("random").Random(3), 7, 40), "W{}".format,
                                  "t{}".format)
@@ -184,6 +193,7 @@ class Paper(unittest.TestCase):
         letters = [[text.text for text in it.texts if "match" in text.classes] for it in strips]
         self.assertEqual(letters[0], ["A"])
         self.assertEqual(letters[-1], [chr(ord("A") + len(strips) - 2)])
+        self.assertEqual(len({strip.attributes["width"] for strip in page.figures[0].picture.strips}), 1)
         cuts = [{round(spot[1], 1) for key in one.edges for line in one.edges[key] for spot in line[-1:]
                  if abs(spot[0] - max(x for kind, ((x, _), _) in one.lines if kind == "match")) < 0.1} for one in strips[:1]]
         there = [{round(spot[1], 1) for key in one.edges for line in one.edges[key] for spot in line[:1]
