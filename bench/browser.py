@@ -12,7 +12,9 @@ from typing import Any, Optional
 
 FLAGS = ["--headless", "--no-sandbox", "--disable-gpu", "--hide-scrollbars", "--no-first-run", "--disable-extensions",
          "--remote-debugging-pipe"]
-SECONDS = 90
+SECONDS = 600
+# what a screen reader comes to and is to have a name for
+NAMED = {"button", "link", "searchbox", "textbox", "checkbox", "image", "complementary"}
 KEYS = {"Enter": 13, "Escape": 27, "ArrowDown": 40, "ArrowUp": 38, "ArrowLeft": 37, "ArrowRight": 39, "Tab": 9}
 
 
@@ -147,10 +149,10 @@ class Tab:
         return found["result"].get("value")
 
     def key(self, key: str) -> None:
-        text = key if len(key) == 1 else ""
+        text = {"Enter": "\r"}.get(key, key if len(key) == 1 else "")
         code = KEYS.get(key, ord(key.upper()) if len(key) == 1 else 0)
         said = {"key": key, "windowsVirtualKeyCode": code}
-        self.ask("Input.dispatchKeyEvent", type="keyDown", text="\r" if key == "Enter" else text, **said)
+        self.ask("Input.dispatchKeyEvent", type="keyDown", text=text, **said)
         self.ask("Input.dispatchKeyEvent", type="keyUp", **said)
 
     def type(self, text: str) -> None:
@@ -178,6 +180,12 @@ class Tab:
 
     def print(self, path: Path, **how: object) -> None:
         path.write_bytes(base64.b64decode(self.ask("Page.printToPDF", printBackground=False, **how)["data"]))
+
+    def unnamed(self) -> list[str]:
+        """the roles of what a screen reader comes to and has no name for"""
+        nodes = self.ask("Accessibility.getFullAXTree")["nodes"]
+        return [it["role"]["value"] for it in nodes if not it.get("ignored") and it["role"]["value"] in NAMED
+                and not str(it.get("name", {}).get("value", "")).strip()]
 
     def requests(self) -> list[str]:
         """what was asked for beside the page itself"""

@@ -1,11 +1,12 @@
 """Stations for the pages' bench: those of made_stations.py with names in six namings, types of tracks, and signals."""
 from __future__ import annotations
 
+import copy
 import random
 import re
 from typing import Callable
 
-from made_stations import EVERYDAY, crossovers, depot, fan, ladder, line, loops, parallel, passing, scissors, terminus
+from made_stations import EVERYDAY, Station, crossovers, depot, fan, ladder, line, loops, parallel, passing, scissors, terminus
 from made_stations import through, yard
 
 NAMINGS: dict[str, Callable[[int, str], str]] = {
@@ -13,11 +14,31 @@ NAMINGS: dict[str, Callable[[int, str], str]] = {
     "short": lambda number, id: f"{number}",
     "usual": lambda number, id: f"W{number:03d}",
     "long": lambda number, id: f"Central Station West, switch {number}",
-    "signs": lambda number, id: f"<b>&\"'{number}</script>",
+    "signs": lambda number, id: f"<b>&\"'{number}</script><img src=x onerror=alert(1)>",
     "wide": lambda number, id: f"轉轍器{number}Ä\u202e\u200b",
 }
-LARGE = [("line 10", line(10)), ("ladder 5", ladder(5)), ("scissors 12", scissors(12)), ("passing places 15", passing(15, 2)),
-         ("yard 10", yard(10)), ("loops 40", loops(40, lambda at: at % 2 == 0)), ("crossovers 30", crossovers(30))]
+
+
+def ladder_with_sidings(rungs: int) -> Station:
+    """four tracks with crossovers, and sidings above and below them; of 12 rungs it has as many nodes and pieces as there may be"""
+    station = ladder(rungs)
+    for at in range(rungs):
+        station.siding(station.tracks[3], 3000 * at + 2500, 3000 * at + 2900, True)
+        station.siding(station.tracks[0], 3000 * at + 700, 3000 * at + 1100, False)
+    return station
+
+
+def throats(tracks: int, rungs: int) -> Station:
+    """tracks side by side, each joined with the next by crossovers, so many times"""
+    station = Station()
+    made = [station.track(0, 1000 * tracks * rungs) for _ in range(tracks)]
+    for rung in range(rungs):
+        for at in range(tracks - 1):
+            west = 1000 * (tracks * rung + at) + 100
+            station.crossover(made[at], made[at + 1], west, west + 600, rung % 2 == 0)
+    return station
+
+
 MORE = [("loops above 6", loops(6, lambda at: True)), ("loops in turn 15", loops(15, lambda at: at % 2 == 0)),
         ("crossovers 4", crossovers(4)),
         ("crossovers 16", crossovers(16)), ("scissors 1", scissors(1)), ("scissors 3", scissors(3)), ("yard 1", yard(1)),
@@ -25,15 +46,28 @@ MORE = [("loops above 6", loops(6, lambda at: True)), ("loops in turn 15", loops
         ("fan 3", fan(3)), ("fan 6", fan(6)), ("parallel 2", parallel(2)), ("parallel 9", parallel(9)),
         ("passing places 8", passing(8, 1)),
         ("through station 4 4", through(4, 4, True)), ("terminus 7", terminus(7, True)), ("depot 9", depot(9, True))]
+LARGE = [("line 10", line(10)), ("ladder 5", ladder(5)), ("scissors 12", scissors(12)), ("passing places 15", passing(15, 2)),
+         ("yard 10", yard(10)), ("loops 40", loops(40, lambda at: at % 2 == 0)), ("crossovers 30", crossovers(30)),
+         ("ladder 17", ladder(17)), ("throats 10 5", throats(10, 5)), ("ladder with sidings 12", ladder_with_sidings(12))]
 STATIONS = EVERYDAY + MORE + LARGE
+
+
+def changed(station: Station) -> Station:
+    """the station with a siding more, from the piece of its first track that begins farthest in the east"""
+    found = copy.deepcopy(station)
+    track = found.tracks[0]
+    first = max((at for at, _ in track.switches), default=track.begin)
+    if first < track.end - 3:
+        found.siding(track, (first + track.end) // 2, track.end - 1, True)
+    return found
 
 
 def escaped(text: str) -> str:
     return text.replace("&", "&amp;").replace("<", "&lt;").replace('"', "&quot;")
 
 
-def file_of(station: object, naming: str, signals_on_piece: int = 0, seed: int = 0) -> str:
-    """the station's railML file, with names, two main tracks, and signals on its tracks"""
+def file_of(station: Station, naming: str, signals_on_piece: int = 0, every: int = 1, seed: int = 0) -> str:
+    """the station's railML file, with names, two main tracks, and signals on each so many pieces of its tracks"""
     chance, count = random.Random(seed), iter(range(1, 10000))
     name = NAMINGS[naming]
 
@@ -41,21 +75,21 @@ def file_of(station: object, naming: str, signals_on_piece: int = 0, seed: int =
         text = name(next(count), found[2])
         return f'<{found[1]} id="{found[2]}"' + (f' name="{escaped(text)}"' if text else "")
 
-    text = re.sub(r'<(track|switch|crossing|trackBegin|trackEnd) id="([^"]*)"', named, station.text())
+    text = re.sub(r'<(infrastructure|track|switch|crossing|trackBegin|trackEnd) id="([^"]*)"', named, station.text())
     text = re.sub(r'<track id="t([01])"', r'<track id="t\1" type="mainTrack"', text)
     if signals_on_piece:
-        text = add_signals(text, name, count, signals_on_piece, chance)
+        text = add_signals(text, name, count, signals_on_piece, every, chance)
     return text
 
 
-def add_signals(text: str, name: Callable[[int, str], str], count: object, most: int, chance: random.Random) -> str:
+def add_signals(text: str, name: Callable[[int, str], str], count: object, most: int, every: int, chance: random.Random) -> str:
     """signals between the points of each track, some for one way and some for the other"""
     parts = re.split(r"(</trackTopology></track>)", text)
     total = 0
     for at in range(0, len(parts) - 1, 2):
         places = sorted({int(pos) for pos in re.findall(r'pos="(\d+)"', parts[at].rsplit("<track ", 1)[-1])})
         made = []
-        for west, east in zip(places, places[1:]):
+        for west, east in list(zip(places, places[1:]))[::every]:
             for step in range(1, most + 1):
                 if total < 512 and east - west > most + 1:
                     total += 1

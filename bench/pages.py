@@ -22,6 +22,7 @@ import sys
 import tempfile
 import time
 from concurrent.futures import ProcessPoolExecutor
+from dataclasses import dataclass, field
 from functools import partial
 from pathlib import Path
 from typing import Callable, Iterator
@@ -31,18 +32,20 @@ TOP = Path(__file__).resolve().parent.parent
 sys.path[0:0] = [str(TOP), str(TOP / "bench")]
 
 import page_stations  # noqa: E402
+from answers import Answers  # noqa: E402
 from browser import Browser, Gone, Tab  # noqa: E402
+from measuring import Table  # noqa: E402
 from pages.columns import MM, room_on  # noqa: E402
 from pages.tests.drawn import faults_of_names, faults_of_signs, Drawn, Written  # noqa: E402
 
 PROGRAM = TOP / "crates/railplan_main/out/railplan_main"
 SAMPLES = TOP / "pages/tests/samples"
 KINDS = ("draw", "signals", "explain", "verify", "redraw", "front")
-WORDS = {"draw": ["--width", "64", "--height", "12", "--conflicts", "3000"],
-         "signals": ["--width", "64", "--height", "12", "--conflicts", "1500"],
-         "explain": ["--height", "0", "--conflicts", "500"], "verify": [],
-         "redraw": ["--width", "64", "--height", "12", "--conflicts", "800"],
-         "front": ["--width", "40", "--height", "5", "--conflicts", "150"]}
+GRID = ["--width", "64", "--height", "12"]
+WORDS = {"draw": [*GRID, "--conflicts", "3000"], "signals": [*GRID, "--conflicts", "1500"],
+         "explain": ["--height", "0", "--conflicts", "500"], "verify": [], "redraw": [*GRID, "--conflicts", "800"],
+         "front": [*GRID, "--conflicts", "150"]}
+HEAD = ["page", "pages", "with a drawing", "strips", "texts", "least letters, mm", "faults", "largest, KB", "slowest to open, s"]
 SEEN = """(() => {
   const box = it => { const r = it.getBoundingClientRect(); return [r.left, r.top, r.right, r.bottom] };
   const context = document.createElement('canvas').getContext('2d');
@@ -59,13 +62,15 @@ SEEN = """(() => {
     lines: [...svg.querySelectorAll('.edge, .leader, .limit, .steps, .axis, .tick, line.match')].map(it =>
       [it.classList[0], placed(it)]),
     wedges: [...svg.querySelectorAll('.wedge')].map(it => { const p = placed(it); return [...p, p[0]] }),
-    signs: [...svg.querySelectorAll('.sign')].flatMap(it => [...it.querySelectorAll('circle, path, rect')].map(part =>
+    signs: [...svg.querySelectorAll('.sign')].flatMap(it => [...it.querySelectorAll('circle, path, rect')].filter(
+      part => !part.matches('.hit')).map(part =>
       [it.dataset.key, box(part)]))}));
+  const late = [...document.querySelectorAll('b')].filter(it => !it.closest('.lead, .short, figcaption')).length;
   const small = [...document.querySelectorAll('body *')].filter(it => it.getClientRects().length && !it.closest('svg') &&
     [...it.childNodes].some(part => part.nodeType == 3 && part.data.trim())).map(it =>
       parseFloat(getComputedStyle(it).fontSize) * cap);
   return {pictures, small: Math.min(...small), wide: document.documentElement.scrollWidth,
-    foreign: document.querySelectorAll('img, iframe, object, embed, link, base, form, video, audio, foreignObject').length,
+    foreign: late + document.querySelectorAll('img, iframe, object, embed, link, base, form, video, audio, foreignObject').length,
     scripts: document.querySelectorAll('script').length,
     handlers: [...document.querySelectorAll('*')].filter(it => [...it.attributes].some(a =>
       a.name.startsWith('on') || a.name == 'style')).length}
@@ -77,18 +82,14 @@ def program(*words: str) -> tuple[int, str]:
     return ran.returncode, ran.stdout.decode("utf-8", "replace")
 
 
-def run_pages(*words: str) -> tuple[int, str]:
+def run_pages(*words: str, launcher: str = f"import os, sys\nos.execv({str(PROGRAM)!r}, ['railplan_main', *sys.argv[1:]])\n"
+              ) -> tuple[int, str]:
     """runs the pages as the launcher does, with the program that is there: nothing is built; the status, and what was printed"""
     with tempfile.TemporaryDirectory() as folder:
-        launcher = Path(folder) / "launcher"
-        launcher.write_text(f"import os, sys\nos.execv({str(PROGRAM)!r}, ['railplan_main', *sys.argv[1:]])\n", encoding="utf-8")
-        ran = subprocess.run([sys.executable, str(TOP / "pages/run.py"), str(launcher), *words], capture_output=True,
-                             timeout=900)
+        file = Path(folder) / "launcher"
+        file.write_text(launcher, encoding="utf-8")
+        ran = subprocess.run([sys.executable, str(TOP / "pages/run.py"), str(file), *words], capture_output=True, timeout=3600)
     return ran.returncode, ran.stdout.decode("utf-8", "replace")
-
-
-def page_of(page: Path, words: list[str]) -> tuple[int, str]:
-    return run_pages(str(page), *words)
 
 
 # ---- measured
@@ -110,6 +111,19 @@ def drawn_of(picture: dict) -> Drawn:
     return found
 
 
+def faults_of_letters(seen: dict) -> Iterator[str]:
+    """letters that are too small, and texts of one class that differ in height"""
+    heights: dict[str, set[float]] = {}
+    for picture in seen["pictures"]:
+        for text, _, kind, high in picture["texts"]:
+            heights.setdefault(" ".join(kind.split()[:2]), set()).add(round(high, 1))
+            if high / MM < 1.8:
+                yield f"{text} ({kind}) is {high / MM:.2f} mm high"
+    yield from (f"letters of {kind} are {sorted(it)} high" for kind, it in heights.items() if len(it) > 1)
+    if seen["small"] / MM < 1.8:
+        yield f"there are letters of {seen['small'] / MM:.2f} mm"
+
+
 def faults_of(seen: dict) -> Iterator[str]:
     for picture in seen["pictures"]:
         drawn = drawn_of(picture)
@@ -117,21 +131,30 @@ def faults_of(seen: dict) -> Iterator[str]:
         yield from faults_of_signs(drawn)
         if picture["scale"] < 0.999:
             yield f"a picture is {picture['scale']:.3f} of its size on paper"
-        for text, _, kind, high in picture["texts"]:
-            if high / MM < 1.8:
-                yield f"{text} ({kind}) is {high / MM:.2f} mm high"
-    if seen["small"] / MM < 1.8:
-        yield f"there are letters of {seen['small'] / MM:.2f} mm"
+    yield from faults_of_letters(seen)
     if seen["foreign"] or seen["scripts"] != 2 or seen["handlers"]:
         yield "there are elements that no page has"
+
+
+@dataclass
+class Looked:
+    """a page as it came out: of which kind, what is wrong with it, and what of it is counted"""
+    kind: str
+    what: str
+    faults: list[str] = field(default_factory=list)
+    strips: int = 0
+    texts: int = 0
+    least: float = 9.0
+    kilobytes: int = 0
+    seconds: float = 0.0
 
 
 def look(tab: Tab, page: Path, paper: str = "A3") -> tuple[list[str], dict]:
     """what is wrong with a page, as it is printed and on a phone"""
     tab.size(round(room_on(paper)[0]), 1000)
     tab.media("print")
-    tab.open(page)
-    seen = tab.run(SEEN)
+    seconds = tab.open(page)
+    seen = {**tab.run(SEEN), "seconds": seconds}
     found = list(faults_of(seen))
     found += [f"it asks for {it}" for it in tab.requests()] + tab.alarms()
     tab.media()
@@ -143,18 +166,43 @@ def look(tab: Tab, page: Path, paper: str = "A3") -> tuple[list[str], dict]:
     return found, seen
 
 
-def words_of(kind: str, file: Path, folder: Path) -> list[str]:
-    """the words of a run of a kind; its sheets are made before"""
-    if kind in ("verify", "redraw"):
-        sheet = folder / (file.stem + ".sheet")
-        sheet.write_text(program("draw", str(file), *WORDS["draw"])[1], encoding="utf-8")
+class Files:
+    """the files of a station in a naming, and the words of the runs that have pages"""
+
+    def __init__(self, number: int, naming: str, folder: Path, answers: Answers) -> None:
+        self.station, self.naming, self.number, self.answers = page_stations.STATIONS[number][1], naming, number, answers
+        ending = "<i>&'" if naming == "signs" else ""
+        self.stem = str(folder / f"{page_stations.STATIONS[number][0]}.{naming}{ending}".replace(" ", "_"))
+
+    def file(self, word: str, station: object, **more: int) -> str:
+        path = Path(f"{self.stem}.{word}.xml")
+        path.write_text(page_stations.file_of(station, self.naming, seed=self.number, **more), encoding="utf-8")
+        return str(path)
+
+    def sheet(self, file: str, is_narrow: bool) -> str:
+        """the sheet that draw gives; of a grid that is a column too narrow, where that is asked for"""
+        text = self.answers.of(["draw", file, *WORDS["draw"]])[1].decode("utf-8")
+        values = re.search(r"(?m)^values \d+ \d+ \d+ (\d+)$", text)
+        if is_narrow and values and int(values[1]) > 1:
+            text = re.sub(r"(?m)^grid \d+", f"grid {int(values[1]) - 1}", text)
+        path = Path(f"{self.stem}.sheet")
+        path.write_text(text, encoding="utf-8")
+        return str(path)
+
+    def words(self, kind: str) -> list[str]:
+        """the words of a run of a kind; a sheet that it needs is made before"""
+        if kind == "signals":
+            is_small = self.station.text().count("<switch") < 20
+            return ["signals", self.file("signals", self.station, signals_on_piece=2 if is_small else 1, every=1 if is_small else 3),
+                    *WORDS[kind]]
+        file = self.file("plain", self.station)
+        if kind == "verify":
+            return ["verify", file, self.sheet(file, self.number % 2 == 0)]
         if kind == "redraw":
-            return ["redraw", str(file), str(file), str(sheet), *WORDS["redraw"]]
-        lines = sheet.read_text(encoding="utf-8").split("\n")
-        lines[1] = re.sub(r"^grid \d+ \d+", lambda it: "grid " + " ".join(str(int(n) - (at == 1)) for at,
-                                                                          n in enumerate(it[0].split()[1:])), lines[1])
-        return ["verify", str(file), str(sheet)]
-    return [kind, str(file)] + (["height,width"] if kind == "front" else []) + WORDS[kind]
+            new = self.file("new", page_stations.changed(self.station))
+            has_room = self.answers.of(["graph", new])[0] == 0
+            return ["redraw", new if has_room else file, file, self.sheet(file, False), *WORDS[kind]]
+        return [kind, file] + (["height,width"] if kind == "front" else []) + WORDS[kind]
 
 
 def pages_of(number: int, kinds: int, namings: int) -> Iterator[tuple[str, str]]:
@@ -165,38 +213,57 @@ def pages_of(number: int, kinds: int, namings: int) -> Iterator[tuple[str, str]]
             yield KINDS[(number + at) % len(KINDS)], names[(number // len(KINDS) + number + at + turn) % len(names)]
 
 
-def measured(number: int, folder: Path, kinds: int, namings: int) -> list[tuple[str, list[str]]]:
-    """what is wrong with the pages of a station"""
-    name, station = page_stations.STATIONS[number]
-    answers = []
+def looked(tab: Tab, files: Files, kind: str, launcher: str) -> Looked:
+    """a page that is made, opened and looked at"""
+    page = Path(f"{files.stem}.{kind}.html")
+    found = Looked(kind, page.name)
+    try:
+        status, _ = run_pages(str(page), *files.words(kind), launcher=launcher)
+        found.faults, seen = look(tab, page)
+    except (Gone, OSError, subprocess.TimeoutExpired) as error:
+        found.faults = [repr(error)]
+        return found
+    texts = [it for picture in seen["pictures"] for it in picture["texts"]]
+    found.strips, found.texts, found.seconds = len(seen["pictures"]), len(texts), seen["seconds"]
+    found.least = min((it[3] / MM for it in texts), default=9.0)
+    found.kilobytes = page.stat().st_size // 1024
+    found.what = f"{page.name} (status {status}, {found.strips} strips, {found.kilobytes} KB, {found.seconds:.2f} s)"
+    return found
+
+
+def measured(number: int, folder: Path, kinds: int, namings: int) -> list[Looked]:
+    """the pages of a station"""
+    (folder / "answers").mkdir(exist_ok=True)
+    answers = Answers(str(PROGRAM), str(folder / "answers"))
+    found = []
     with Browser() as browser:
         tab = Tab(browser)
         for kind, naming in pages_of(number, kinds, namings):
-            stem = f"{name}.{kind}.{naming}".replace(" ", "_")
-            file, page = folder / f"{stem}.xml", folder / f"{stem}.html"
-            file.write_text(page_stations.file_of(station, naming, 2 if kind == "signals" else 0, number), encoding="utf-8")
-            try:
-                status, output = page_of(page, words_of(kind, file, folder))
-                faults, seen = look(tab, page)
-                what = f"{stem} (status {status}, {len(seen['pictures'])} pictures, {page.stat().st_size // 1024} KB)"
-                answers.append((what, faults))
-            except (Gone, OSError, subprocess.TimeoutExpired) as error:
-                answers.append((stem, [repr(error)]))
-    return answers
+            found.append(looked(tab, Files(number, naming, folder, answers), kind, answers.launcher()))
+    return found
 
 
 def measure(words: argparse.Namespace) -> list[tuple[str, list[str]]]:
-    found = []
+    found: list[Looked] = []
     with contextlib.ExitStack() as stack:
         folder = words.folder or Path(stack.enter_context(tempfile.TemporaryDirectory()))
         folder.mkdir(parents=True, exist_ok=True)
         pool = stack.enter_context(ProcessPoolExecutor(words.jobs))
         ask = partial(measured, folder=folder, kinds=words.kinds, namings=words.namings)
-        for answers in pool.map(ask, range(words.first, words.stations)):
-            for what, faults in answers:
-                print(f"{what}: " + (f"{faults[0]}, and {len(faults) - 1} more" if faults else "as it is to be"), flush=True)
-            found += answers
-    return found
+        for number, pages in zip(range(words.first, words.stations), pool.map(ask, range(words.first, words.stations))):
+            for it in pages:
+                print(f"{number} {it.what}: " + (f"{it.faults[0]}, and {len(it.faults) - 1} more" if it.faults else "as it is to be"),
+                      flush=True)
+            found += pages
+    table = Table("pages", HEAD)
+    for kind in KINDS:
+        pages = [it for it in found if it.kind == kind]
+        if pages:
+            table.add(kind, len(pages), sum(it.strips > 0 for it in pages), sum(it.strips for it in pages),
+                      f"{sum(it.texts for it in pages):,}", min(it.least for it in pages), sum(bool(it.faults) for it in pages),
+                      max(it.kilobytes for it in pages), max(it.seconds for it in pages))
+    table.end(words.write)
+    return [(it.what, it.faults) for it in found]
 
 
 # ---- driven
@@ -218,7 +285,7 @@ def drive(words: argparse.Namespace) -> list[tuple[str, list[str]]]:
         with Browser() as browser:
             for kind, given in runs.items():
                 page = folder / f"{kind}.html"
-                _, output = page_of(page, given)
+                _, output = run_pages(str(page), *given)
                 try:
                     checks = pages_driven.drive(browser, kind, page, output, program("graph", given[1])[1])
                 except Gone as error:
@@ -226,6 +293,11 @@ def drive(words: argparse.Namespace) -> list[tuple[str, list[str]]]:
                 for what, is_good in checks:
                     print(f"{kind}: {what}: {'yes' if is_good else 'NO'}", flush=True)
                     found.append((f"{kind}: {what}", [] if is_good else ["no"]))
+    table = Table("pages_driven", ["page", "driven", "seen to work"])
+    for kind in runs:
+        faults = [it for what, it in found if what.startswith(kind + ": ")]
+        table.add(kind, len(faults), sum(not it for it in faults))
+    table.end(words.write)
     return found
 
 
@@ -242,8 +314,9 @@ def largest(words: argparse.Namespace) -> list[tuple[str, list[str]]]:
         rows, size = tab.run("rows.length"), page.stat().st_size
         found, seen = look(tab, page)
         names = sum(len(it["texts"]) for it in seen["pictures"])
-        print(f"{rows} objects, {names} texts in {len(seen['pictures'])} strips, {size:,} bytes; "
-              f"made in {made:.1f} s, open in {seconds:.2f} s")
+        table = Table("largest_page", ["objects", "texts", "strips", "KB", "to make, s", "to open, s"])
+        table.add(rows, names, len(seen["pictures"]), f"{size / 1000:,.0f}", made, seconds)
+        table.end(words.write)
     slow = ["it opens slowly"] if seconds >= 2 else []
     big = ["it is too big"] if size > 1_000_000 else []
     return [("the largest page", slow + big + found)]
@@ -280,7 +353,8 @@ def read_words() -> argparse.Namespace:
     parser.add_argument("--kinds", type=int, default=len(KINDS), help="measure: kinds of page of each station (6)")
     parser.add_argument("--namings", type=int, default=1, help="measure: namings of each page, 6 for all (1)")
     parser.add_argument("--jobs", type=int, default=max(1, (os.cpu_count() or 2) // 2), help="measure: browsers side by side")
-    parser.add_argument("--folder", type=Path, help="measure: a folder that keeps the pages")
+    parser.add_argument("--folder", type=Path, help="measure: a folder that keeps the pages and what the program answered")
+    parser.add_argument("--write", action="store_true", help="measure, drive, largest: write the table into bench/results")
     words = parser.parse_args()
     if not os.access(PROGRAM, os.X_OK):
         parser.error(f"{PROGRAM} isn't there; ./railplan draw examples/one.xml builds it")

@@ -10,6 +10,8 @@ from browser import Browser, Tab, centre
 
 SIGN = 'svg.strip .sign[data-key="{}"]'
 ROW = 'aside.list tr[data-key="{}"]'
+IN_SIGHT = """(() => { const it = document.querySelector('.said h2'), box = it.getBoundingClientRect();
+  return it.contains(document.elementFromPoint(box.left + 5, (box.top + box.bottom) / 2)) })()"""
 Check = tuple[str, bool]
 
 
@@ -65,6 +67,9 @@ def search(tab: Tab) -> Iterator[Check]:
 
 
 def both_ways(tab: Tab, switch: str) -> Iterator[Check]:
+    yield "the list is beside the drawing", tab.run("""(() => { const list = document.querySelector('aside.list').getBoundingClientRect(),
+      drawing = document.querySelector('svg.strip').getBoundingClientRect();
+      return drawing.right <= list.left && list.top < drawing.bottom && list.right <= innerWidth })()""")
     tab.run(f"document.querySelector('{SIGN.format(switch)}').scrollIntoView({{block: 'center'}})")
     tab.move(*centre(tab, SIGN.format(switch)))
     yield "a sign lights its row", tab.run(f"document.querySelector('{ROW.format(switch)}').classList.contains('over')")
@@ -74,6 +79,21 @@ def both_ways(tab: Tab, switch: str) -> Iterator[Check]:
     tab.click(*centre(tab, ROW.format(switch)))
     yield "a row is chosen", marked(tab, "chosen") == [switch]
     yield "its link is its id", tab.run(f"decodeURIComponent(location.hash) == '#' + objects['{switch}'].link")
+
+
+def in_sight(tab: Tab) -> Iterator[Check]:
+    """what a sign says is in sight where it is chosen, though its row is far down; a button lets go"""
+    last = tab.run("rows.filter(it => it.dataset.key[0] == 'n').pop().dataset.key")
+    for what, size in (("on a low screen", (1600, 420)), ("on a phone", (390, 800))):
+        tab.size(*size, what == "on a phone")
+        tab.run(f"letGo(); window.scrollTo(0, 0); document.querySelector('{SIGN.format(last)}').scrollIntoView({{block: 'center', "
+                "inline: 'center'})")
+        tab.click(*centre(tab, SIGN.format(last)))
+        yield f"what a sign says is in sight {what}", marked(tab, "chosen") == [last] and tab.run(IN_SIGHT)
+        tab.click(*(centre(tab, ".said button") or (1, 1)))
+        yield f"a button lets go of it {what}", marked(tab, "chosen") == []
+    tab.run("rove(rows[0])")
+    tab.size(1600, 1000)
 
 
 def switches(tab: Tab, switch: str) -> Iterator[Check]:
@@ -147,23 +167,26 @@ def zooming(tab: Tab) -> Iterator[Check]:
     yield "`0` shows the whole", abs(scale(tab) - before) < 1e-6
 
 
+def tabbed(tab: Tab, what: str) -> bool:
+    """whether Tab leads from the top of the page to what a selector finds"""
+    tab.run("document.activeElement.blur(); window.scrollTo(0, 0)")
+    for _ in range(60):
+        tab.key("Tab")
+        if tab.run(f"!!document.activeElement.closest({json.dumps(what)})"):
+            return True
+    return False
+
+
 def keyboard(tab: Tab) -> Iterator[Check]:
     """a row is chosen with the keyboard alone: Tab to the list, arrows and Enter"""
-    tab.run("letGo(); document.activeElement.blur(); window.scrollTo(0, 0)")
-    for _ in range(40):
-        tab.key("Tab")
-        if tab.run("!!document.activeElement.closest('aside.list tr')"):
-            break
-    yield "Tab leads to the list", tab.run("!!document.activeElement.closest('aside.list tr')")
+    tab.run("letGo()")
+    yield "Tab leads to the list", tabbed(tab, "aside.list tr")
     at = tab.run("rows.indexOf(document.activeElement)")
     tab.key("ArrowDown")
     key = tab.run("document.activeElement.dataset.key")
     yield "an arrow leads to the next row", key == tab.run(f"rows[{at} + 1].dataset.key")
     tab.key("Enter")
     yield "Enter chooses it", marked(tab, "chosen") == [key]
-    unnamed = tab.run("""[...document.querySelectorAll('button, input, a, svg[role=img], aside, section')].filter(it =>
-      !(it.textContent.trim() || it.getAttribute('aria-label') || (it.labels && it.labels.length) || it.title)).length""")
-    yield "everything has an accessible name", unnamed == 0
 
 
 def saving(tab: Tab, sheet: str) -> Iterator[Check]:
@@ -221,6 +244,10 @@ def laws(tab: Tab) -> Iterator[Check]:
         wanted = tab.run(f"document.querySelectorAll('.law')[{number}].dataset.parties.split(' ')")
         good += marked(tab, "lit") == sorted(wanted)
     yield f"each law lights its parties ({count})", good == count > 0
+    tab.move(1, 1)
+    is_there = tabbed(tab, ".law")
+    wanted = tab.run("(document.activeElement.dataset.parties || '').split(' ')")
+    yield "Tab leads to a law and lights its parties", is_there and marked(tab, "lit") == sorted(wanted)
 
 
 def points(tab: Tab) -> Iterator[Check]:
@@ -236,17 +263,28 @@ def points(tab: Tab) -> Iterator[Check]:
                         ".map(it => '#' + it.id)")
         good += shown == [tab.run(f"document.querySelectorAll('svg.plot a')[{number}].getAttribute('href')")]
     yield f"each point opens its drawing ({count})", good == count > 0
+    is_there = tabbed(tab, "svg.plot a")
+    wanted = tab.run("document.activeElement.getAttribute('href')")
+    tab.key("Enter")
+    tab.run("new Promise(r => setTimeout(r, 60))")
+    yield "Tab and Enter open the drawing of a point", is_there and wanted == tab.run("'#' + document.querySelector('figure.shown').id")
 
 
 def versions(tab: Tab) -> Iterator[Check]:
+    said_ = tab.run("[...document.querySelectorAll('.changes li')].map(it => it.textContent.trim())")
+    yield f"what moved, is new or gone is listed ({len(said_)})", all(any(it.startswith(word) for it in said_) for word in (
+        "moved: ", "new node: ", "new piece of track: ", "gone piece of track: "))
     yield "two drawings lie side by side", tab.run("""(() => {
       const [a, b] = [...document.querySelectorAll('figure.version')].map(it => it.getBoundingClientRect());
       return !!b && a.right <= b.left + 1 })()""")
     first = tab.run("document.querySelector('.changes li').dataset.key")
     tab.move(*centre(tab, ".changes li"))
     yield "a change lights what it is about", marked(tab, "over") == [first]
-    tab.run("document.querySelector('.changes input').click()")
-    yield "a change is ticked off", tab.run("document.querySelector('.changes input').checked")
+    is_there = tabbed(tab, ".changes input")
+    tab.key(" ")
+    yield "Tab and the space bar tick a change off, which is struck out then", is_there and tab.run("""(() => {
+      const it = document.querySelector('.changes input'), words = it.parentElement.lastElementChild;
+      return it.checked && words != it && getComputedStyle(words).textDecorationLine == 'line-through' })()""")
 
 
 def lines_of_fault(tab: Tab) -> Iterator[Check]:
@@ -323,8 +361,8 @@ def drive(browser: Browser, kind: str, page: Path, output: str, graph: str) -> l
         found: list[Check] = []
         if kind in ("draw", "signals"):
             switch = tab.run("Object.keys(objects).find(it => objects[it].kind == 'switch')")
-            for check in (search(tab), both_ways(tab, switch), switches(tab, switch), pieces(tab), zooming(tab), keyboard(tab),
-                          saving(tab, output[:output.index("\nend ")] + "\n"
+            for check in (search(tab), both_ways(tab, switch), switches(tab, switch), pieces(tab), in_sight(tab), zooming(tab),
+                          keyboard(tab), saving(tab, output[:output.index("\nend ")] + "\n"
                                  + output[output.index("\nend ") + 1:].split("\n")[0] + "\n")):
                 found += list(check)
             if kind == "signals":
@@ -336,6 +374,7 @@ def drive(browser: Browser, kind: str, page: Path, output: str, graph: str) -> l
         else:
             found += list({"explain": laws, "verify": laws, "front": points, "redraw": versions,
                            "fault": lines_of_fault}[kind](tab))
+        found.append(("everything has an accessible name", tab.unnamed() == []))
         found.append(("no request leaves the page", tab.requests() == []))
         found.append(("no script failed", tab.alarms() == []))
         return found

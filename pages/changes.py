@@ -85,7 +85,7 @@ class Changes:
 
     @staticmethod
     def item(key: str, text: str) -> Element:
-        return element("li", element("label", element("input", type="checkbox"), " ", text), data_key=key)
+        return element("li", element("label", element("input", type="checkbox"), element("span", text)), data_key=key)
 
 
 def at(node: Node) -> str:

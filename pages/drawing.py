@@ -62,6 +62,18 @@ class Picture:
     short: list[tuple[str, str]] = field(default_factory=list)
     trouble: float = 0
 
+    def width(self) -> float:
+        """that of the widest strip"""
+        return max(box[2] - box[0] for box in self.boxes)
+
+    def widen(self, wide: float) -> None:
+        """makes each strip so wide, with as much more room on the left as on the right"""
+        for at, (left, top, right, bottom) in enumerate(self.boxes):
+            more = (wide - right + left) / 2
+            self.boxes[at] = (left - more, top, right + more, bottom)
+            self.strips[at].attributes.update(viewBox=f"{shown(left - more)} {shown(top)} {shown(wide)} {shown(bottom - top)}",
+                                              width=shown(wide))
+
 
 def demands(scene: Scene) -> Iterator[Demand]:
     """how far columns are to be from each other, for the names of what is on one row"""

@@ -108,6 +108,7 @@ class Page:
     def draw(self, scene: Scene, *caption: Child, **more: str) -> Picture:
         """adds the picture of a scene; the first one's objects are those of the list"""
         picture = draw(scene)
+        picture.widen(picture.width())
         self.figures.append(Figure(picture, picture.strips, list(caption), **more))
         self.short += [pair for pair in picture.short if pair not in self.short]
         self.signs += [kind for kind in signs_in(scene) if kind not in self.signs]
@@ -115,6 +116,12 @@ class Page:
         if not self.objects:
             self.objects, self.scene = Objects(scene), scene
         return picture
+
+    def align(self) -> None:
+        """gives all pictures one width: so a screen that is narrower shows them at one scale"""
+        pictures = [it.picture for it in self.figures if it.picture]
+        for picture in pictures:
+            picture.widen(max(it.width() for it in pictures))
 
     def fact(self, title: str, *paragraphs: Child) -> None:
         self.facts.append((title, [element("p", it) if isinstance(it, str) else it for it in paragraphs]))
@@ -331,6 +338,7 @@ def add_panels(page: Page, run: Run, why: texts.Why) -> None:
                   element("b", f"Given up: {number}. "),
                   f"{sentences.sentence(text)} {keeps}Laws outside the list needn't be kept.",
                   kind="panel", title=f"without {number}")
+    page.align()
     page.fact("Colours", element("p", element("span", "Red, broken lines and squares", class_="broken"),
                                  ": what the drawing gives up."),
               element("p", element("span", "Blue, solid lines and circles", class_="party"), ": what it keeps of the list."),
@@ -367,6 +375,7 @@ def add_versions(page: Page, run: Run, new: Drawing, old: Drawing) -> None:
     for scene, word in zip(scenes, ("Before. ", "Now. ")):
         scene.part = 1.0 if is_wide else HALF
         page.draw(scene, element("b", word), CAPTION, kind="" if is_wide else "version", title=scene.title)
+    page.align()
     page.objects, page.scene = Objects(scenes[1]), scenes[1]
     page.changes = changes.items()
     page.fact("Marks", "A circle: a node that moved. A square on its corner: a new one. A cross: one that is gone.",

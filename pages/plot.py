@@ -5,11 +5,10 @@ from pages import places
 from pages.markup import Element, element
 from pages.places import Field, Line, Sign, Spot, Wish
 from pages.signs import shown, spots
-from pages.strip import bounds, line_at, text_at
+from pages.strip import SMALL, bounds, line_at, text_at
 from pages.widths import width_of
 
 SIDE = (460, 300)
-SIZE = 11
 STEPS = (1, 2, 5, 10, 20, 50, 100, 200, 500, 1000, 2000, 5000)
 
 
@@ -53,12 +52,12 @@ class Plot:
         self.field.add(Line((0, top), (0, 0), 0.8))
         self.field.add(Line((0, 0), (right, 0), 0.8))
         for number in self.along:
-            x, wide = self.at((number, self.first[1]))[0], width_of(str(number), SIZE)
-            self.parts += [line_at("tick", (x, 0), (x, 5)), text_at(str(number), x - wide / 2, 18, SIZE, "km")]
+            x, wide = self.at((number, self.first[1]))[0], width_of(str(number), SMALL)
+            self.parts += [line_at("tick", (x, 0), (x, 5)), text_at(str(number), x - wide / 2, 18, SMALL, "km")]
             self.field.add(Sign((x - wide / 2, 1, x + wide / 2, 22), "axis"))
         for number in self.up:
-            y, wide = self.at((self.first[0], number))[1], width_of(str(number), SIZE)
-            self.parts += [line_at("tick", (-5, y), (0, y)), text_at(str(number), -9 - wide, y + 4, SIZE, "km")]
+            y, wide = self.at((self.first[0], number))[1], width_of(str(number), SMALL)
+            self.parts += [line_at("tick", (-5, y), (0, y)), text_at(str(number), -9 - wide, y + 4, SMALL, "km")]
             self.field.add(Sign((-9 - wide, y - 6, -1, y + 6), "axis"))
         wide = width_of(self.criteria[0], 13)
         self.parts.append(text_at(self.criteria[0], right - wide, 38, 13, "criterion"))

@@ -17,6 +17,8 @@ if TYPE_CHECKING:
     from pages.drawing import Scene
 
 SMALL = 10.5
+# how far around a node a pointer finds it
+REACH = 9
 Piece = tuple[tuple[float, float], tuple[float, float]]
 
 
@@ -163,7 +165,7 @@ class StripPlan:
         (x, y), mark, side = self.at(node.point), self.scene.marks.nodes.get(node.number, ""), self.outside(node.number)
         sign, owner = self.sign_of(node), f"node {node.number}"
         half = sign.half
-        parts = list(sign.parts)
+        parts = [element("circle", class_="hit", r=REACH), *sign.parts]
         if mark in ("broken", "party", "moved", "new", "gone"):
             half = (max(9.0, half[0]), max(9.0, half[1]))
             parts.append(ring(mark))
@@ -195,6 +197,8 @@ class StripPlan:
         """a signal on its side of the track, turned as its line runs"""
         (x, y), east, is_left = self.at(signal.point), self.scene.station.heads_east(signal), self.scene.is_left
         parts, corners = signs.signal_sign(east, is_left)
+        left, top, right, bottom = bounds([(a, b, a, b) for a, b in corners])
+        parts.insert(0, element("rect", class_="hit", x=shown(left), y=shown(top), width=shown(right - left), height=shown(bottom - top)))
         turn = self.signal_slope(signal, east) if east is not None else 0.0
         way = {None: "of a way that isn't known", True: "for trains that run east", False: "for trains that run west"}[east]
         mileage = self.scene.station.signal_mileage(signal.name)

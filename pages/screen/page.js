@@ -32,7 +32,12 @@ const text = (tag, words, leads) => {
 const say = (title, facts) => {
   const list = document.createElement("dl");
   for (const [term, words, leads] of facts) list.append(text("dt", term), text("dd", words, leads && objects[leads] ? leads : null));
-  one(".said").replaceChildren(text("h2", title), list);
+  const button = text("button", "×");
+  button.dataset.do = "let";
+  button.title = "let go (Esc)";
+  button.setAttribute("aria-label", "let go");
+  one(".said").replaceChildren(button, text("h2", title), list);
+  one(".said").scrollTop = 0;
 };
 
 // ---- choosing
@@ -70,10 +75,13 @@ const choose = (key, fromList) => {
   firstSignal = key[0] == "s" ? key : null;
   history.replaceState(null, "", "#" + encodeURIComponent(objects[key].link));
   const row = rows.find(it => it.dataset.key == key);
-  if (row && !fromList) row.scrollIntoView({block: "nearest"});
+  if (row && !fromList && isBeside()) row.scrollIntoView({block: "nearest"});
   rove(row);
   if (fromList) fly(key);
 };
+
+// whether the list is beside the drawing; on a narrow screen it is below, and what is said lies over the page's foot
+const isBeside = () => matchMedia("(min-width: 1001px)").matches;
 
 const rove = row => {
   rows.forEach(it => { it.tabIndex = it == row ? 0 : -1; });
@@ -241,7 +249,7 @@ const svgText = () => {
 };
 const deeds = {
   in: () => zoom(current, 1 / 1.4), out: () => zoom(current, 1.4), home: () => strips.forEach(svg => show(svg, [...homes.get(svg).home])),
-  grid: () => document.body.classList.toggle("with-grid"), svg: () => save(".svg", "image/svg+xml", svgText()),
+  let: letGo, grid: () => document.body.classList.toggle("with-grid"), svg: () => save(".svg", "image/svg+xml", svgText()),
   dxf: async () => save(".dxf", "image/vnd.dxf", await saved(known.save.dxf)),
   csv: async () => save(".csv", "text/csv", await saved(known.save.csv)),
   sheet: async () => save(".sheet", "text/plain", await saved(known.save.sheet))};

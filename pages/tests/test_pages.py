@@ -209,6 +209,18 @@ class Commands(unittest.TestCase):
         self.assertIn("gone piece of track: second main track (track2), from W2 to B2", changes)
         self.assertEqual([it.attributes["data-key"] for it in page.changes][:4], ["n1", "n4", "n6", "n7"])
 
+    def test_pictures_side_by_side_have_one_width(self) -> None:
+        """so that a screen that is too narrow for both shows them at one scale, with letters of one height"""
+        for name, kind, count in (("redraw_station", "version", 2), ("explain", "panel", 4)):
+            strips = [strip for it in make(sample(name)).figures if it.kind == kind for strip in it.picture.strips]
+            self.assertEqual(len(strips), count)
+            self.assertEqual(len({(strip.attributes["width"], str(strip.attributes["viewBox"]).split()[2]) for strip in strips}), 1)
+
+    def test_a_change_that_is_ticked_off_is_struck_out(self) -> None:
+        for item in make(sample("redraw_station")).changes:
+            self.assertEqual([it.tag for it in item.all()], ["li", "label", "input", "span"])
+        self.assertIn(".changes input:checked + span { text-decoration: line-through }", text_of("redraw_station"))
+
     def test_redraw_says_other_kilometres_and_sides(self) -> None:
         run = sample("redraw_station")
         run.graphs[1].nodes[0].mileage = "12001.000000"

@@ -87,6 +87,21 @@ class SignsOfNodes(unittest.TestCase):
         self.assertEqual(make(sample("signals")).signs, ["switch", "open end", "buffer stop", "signal", "signal both"])
 
 
+class Pointers(unittest.TestCase):
+    def test_a_pointer_finds_a_sign_beside_its_lines(self) -> None:
+        """an open end is two thin strokes: without more a pointer would have to be on one of them"""
+        page = make(sample("signals"))
+        kinds = {it: str(it.attributes["class"]) for it in by_class(page, "sign")}
+        self.assertEqual(set(kinds.values()), {"sign node", "sign signal"})
+        for one in kinds:
+            found = drawn.around(drawn.spots_of(next(it for it in one.all() if it.attributes.get("class") == "hit")))
+            wide, high = found[2] - found[0], found[3] - found[1]
+            self.assertTrue(max(wide, high) >= 14 and min(wide, high) >= 9, (wide, high))
+        self.assertRegex("".join(styles_of("A3")), r"\.sign \.hit \{[^}]*pointer-events: all")
+        picture = page.figures[0].picture
+        self.assertNotIn("hit", str(drawing.alone(picture, "", "station")))
+
+
 class MarksOfLaws(unittest.TestCase):
     def test_broken_and_kept(self) -> None:
         page = make(sample("explain_above"))
@@ -154,6 +169,15 @@ class Paper(unittest.TestCase):
             self.assertTrue(all(len(it) == 1 for it in sizes.values()), sizes)
             self.assertGreaterEqual(min(size for it in sizes.values() for size in it) * CAP / MM, 1.8)
 
+    def test_letters_of_a_class_have_one_height_on_the_whole_page(self) -> None:
+        """the numbers of a front's plot and the kilometres of its drawings are of one class"""
+        page, sizes = make(sample("front")), {}
+        for strip in [page.figures[0].parts[0], *(it for one in page.figures[1:] for it in one.picture.strips)]:
+            for text in drawn.of_strip(strip).texts:
+                sizes.setdefault(tuple(text.classes[:2]), set()).add(text.size)
+        self.assertEqual({kind: len(it) for kind, it in sizes.items()}, dict.fromkeys(sizes, 1))
+        self.assertIn(("km",), sizes)
+
     def test_no_strip_is_wider_than_the_paper(self) -> None:
         sheet = crowded.sheet_of(7, 40, crowded.crossovers_of(__import__("random").Random(3), 7, 40), "W{}".format,
                                  "t{}".format)
@@ -169,6 +193,7 @@ class Paper(unittest.TestCase):
         letters = [[text.text for text in it.texts if "match" in text.classes] for it in strips]
         self.assertEqual(letters[0], ["A"])
         self.assertEqual(letters[-1], [chr(ord("A") + len(strips) - 2)])
+        self.assertEqual(len({strip.attributes["width"] for strip in page.figures[0].picture.strips}), 1)
         cuts = [{round(spot[1], 1) for key in one.edges for line in one.edges[key] for spot in line[-1:]
                  if abs(spot[0] - max(x for kind, ((x, _), _) in one.lines if kind == "match")) < 0.1} for one in strips[:1]]
         there = [{round(spot[1], 1) for key in one.edges for line in one.edges[key] for spot in line[:1]
