@@ -217,6 +217,13 @@ EVERYDAY = (
     + [(f"ladder {k}", ladder(k)) for k in (1, 2, 3)]
 )
 
+# larger ones of the same kinds
+LARGER = (
+    [(f"passing places {k}", passing(k, sidings)) for k, sidings in ((7, 2), (8, 1))]
+    + [(f"through station {a} {b}", through(a, b, crossed)) for a, b, crossed in ((3, 3, True), (4, 2, False), (4, 3, True))]
+    + [("terminus 6", terminus(6, False)), ("depot 9", depot(9, False)), ("line 8", line(8)), ("line 10", line(10)), ("ladder 8", ladder(8))]
+)
+
 
 def named(stations, words):
     """those of the stations whose name holds one of the words; all, where there are none"""

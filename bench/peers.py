@@ -1,23 +1,26 @@
 #!/usr/bin/env python3
-"""Draws twenty everyday stations on a grid of 64 by 12, and lets minisat and cadical look for the same least values.
+"""Draws thirty stations on a grid of 64 by 12, and lets minisat, cadical and clasp look for the same least values.
 
 For each station `draw` writes a log. The clauses of its Formula lines go to a program over minisat's library, and to one over
-cadical's, which ask for less and less of each criterion as `draw` does. All run one after the other. A row has of each the
+cadical's, which ask for less and less of each criterion as `draw` does. clasp gets them as a file, with one sum to be made least
+in which a criterion outweighs all behind it, and searches as it likes. All run one after the other. A row has of each the
 questions, the conflicts (of `draw` the learnt lines) and processor seconds: of `draw` all of it, with reading and making the
-clauses, without a log; of the others the questions alone, without reading and giving the clauses. So the sums favour the
-others. They begin below the first drawing of `draw`, since a log has Bound lines up to its values.
+clauses, without a log; of minisat and cadical giving the clauses and the questions, without reading; of clasp all of it. The
+others have less to do: they get clauses that are made, and bounds up to the values of the first drawing of `draw`.
 
-Least values that differ from those of the sheet end the bench. It needs g++ and Debian's packages minisat and libcadical-dev; a
-library that isn't there is left out."""
+Least values that differ from those of the sheet end the bench. It needs g++ and Debian's packages minisat, libcadical-dev and
+clasp; one that isn't there is left out."""
 from __future__ import annotations
 
+import re
+import shutil
 import subprocess
 import sys
 import tempfile
 from dataclasses import dataclass
 from pathlib import Path
 
-from made_stations import EVERYDAY, named
+from made_stations import EVERYDAY, LARGER, named
 from measuring import TOP, Table, lines_of, read_words, reader_of_words, run
 
 SOURCE = TOP / "bench" / "programs" / "least_values.cc"
@@ -46,6 +49,10 @@ def built(folder: Path) -> dict[str, Path]:
             programs[name] = program
         else:
             print(f"bench/peers.py: {name} is left out: {done.stderr.strip().partition(chr(10))[0]}", file=sys.stderr)
+    if clasp := shutil.which("clasp"):
+        programs["clasp"] = Path(clasp)
+    else:
+        print("bench/peers.py: clasp is left out: it isn't installed", file=sys.stderr)
     return programs
 
 
@@ -60,9 +67,44 @@ def drawn(program: Path, file: Path, log: Path) -> Found:
 
 def asked(program: Path, log: Path) -> Found:
     """what a program over another library finds in the clauses of a log"""
-    *pairs, questions, conflicts, milliseconds, _ = run([program, log]).text.split()
+    *pairs, questions, conflicts, milliseconds = run([program, log]).text.split()
     values = None if pairs == ["none"] else dict.fromkeys(CRITERIA, 0) | dict(zip(pairs[::2], map(int, pairs[1::2])))
     return Found(values, int(questions), int(conflicts), int(milliseconds) / 1000)
+
+
+def sum_of(log: Path) -> tuple[str, list[tuple[str, int, int]]]:
+    """the clauses of a log as a file of sums, and each criterion with its weight and its greatest value"""
+    clauses, bounds, greatest = [], {}, 0
+    with log.open(encoding="utf-8") as lines:
+        for line in lines:
+            letter, *fields = line.split()
+            if letter == "f":
+                clauses.append(" ".join(f"+1 {'~' * (field[0] == '-')}x{field.lstrip('-')}" for field in fields[:-1]) + " >= 1;")
+                greatest = max(greatest, *(abs(int(field)) for field in fields[:-1]))
+            elif letter == "b":
+                bounds.setdefault(fields[0], []).append(int(fields[2]))
+    weight, weights = 1, []
+    for criterion, variables in reversed(bounds.items()):
+        weights.append((criterion, weight, len(variables)))
+        weight *= len(variables) + 1
+    least = " ".join(f"+{weight} x{variable}" for criterion, weight, _ in weights for variable in bounds[criterion])
+    head = f"* #variable= {greatest} #constraint= {len(clauses)}\nmin: {least};\n"
+    return head + "\n".join(clauses) + "\n", weights[::-1]
+
+
+def asked_of_clasp(clasp: Path, log: Path) -> Found:
+    """what clasp finds in the clauses of a log"""
+    file = log.with_suffix(".opb")
+    text, weights = sum_of(log)
+    file.write_text(text, encoding="utf-8")
+    ran = run([clasp, "--quiet=2,2", "--stats=1", file])
+    number = {word: int(found.group(1)) for word in ("Optimization", "Models", "Conflicts")
+              if (found := re.search(rf"^c {word}\s*:\s*(\d+)", ran.text, re.MULTILINE))}
+    values = dict.fromkeys(CRITERIA, 0)
+    rest = number["Optimization"]
+    for criterion, weight, _ in weights:
+        values[criterion], rest = divmod(rest, weight)
+    return Found(values, number["Models"], number["Conflicts"], ran.seconds)
 
 
 def found_of(program: Path, peers: dict[str, Path], text: str, folder: Path) -> list[Found]:
@@ -71,7 +113,7 @@ def found_of(program: Path, peers: dict[str, Path], text: str, folder: Path) -> 
     file.write_text(text, encoding="utf-8")
     found = [drawn(program, file, log)]
     for name, peer in peers.items():
-        found.append(asked(peer, log))
+        found.append(asked_of_clasp(peer, log) if name == "clasp" else asked(peer, log))
         if found[-1].values != found[0].values:
             sys.exit(f"bench/peers.py: draw has {found[0].values}, {name} {found[-1].values}")
     return found
@@ -86,7 +128,7 @@ def measure(program: Path, only: list[str], folder: Path) -> Table:
     peers = built(folder)
     table = Table("peers", ["station", *(f"{who}, {what}" for who in ("draw", *peers) for what in ("questions", "conflicts", "s"))])
     sums = [Found(None, 0, 0, 0.0) for _ in range(len(peers) + 1)]
-    for name, station in named(EVERYDAY, only):
+    for name, station in named(EVERYDAY + LARGER, only):
         found = found_of(program, peers, station.text(), folder)
         table.add(name, *cells(found))
         sums = [Found(None, one.questions + it.questions, one.conflicts + it.conflicts, one.seconds + it.seconds)

@@ -4,8 +4,8 @@
 // Bound line is true. The first question is for any model; then each criterion in the log's order is made less and less,
 // with those before it held, as `draw` does. Learnt, Query, Model and Refuted lines are passed over.
 //
-// It prints each criterion with its least value, or `none`; then how many questions were asked, the conflicts, the milliseconds of processor
-// time of all questions, and those of reading and of giving the clauses. Built with -DMINISAT or with -DCADICAL.
+// It prints each criterion with its least value, or `none`; then how many questions were asked, the conflicts, and the milliseconds of
+// processor time of giving the clauses and of all questions, without reading. Built with -DMINISAT or with -DCADICAL.
 #include <cstdio>
 #include <cstdlib>
 #include <ctime>
@@ -80,8 +80,8 @@ using Criterion = std::pair<std::string, std::vector<int>>;
 
 double milliseconds() { return 1000.0 * std::clock() / CLOCKS_PER_SEC; }
 
-/// gives the clauses of the log, and lists its criteria in their order
-std::vector<Criterion> read(const char *path, Peer &peer) {
+/// reads the clauses of the log, and lists its criteria in their order
+std::vector<Criterion> read(const char *path, std::vector<std::vector<int>> &clauses) {
     std::ifstream log(path);
     std::vector<Criterion> criteria;
     std::string line, word;
@@ -90,17 +90,23 @@ std::vector<Criterion> read(const char *path, Peer &peer) {
             std::vector<int> clause;
             const char *at = line.c_str() + 1;
             for (char *end; int number = (int)std::strtol(at, &end, 10); at = end) clause.push_back(number);
-            peer.add(clause);
+            clauses.push_back(clause);
         } else if (line[0] == 'b') {
             std::istringstream parts(line.substr(2));
             int bound, variable;
             parts >> word >> bound >> variable;
             if (criteria.empty() || criteria.back().first != word) criteria.push_back({word, {}});
             criteria.back().second.push_back(variable);
-            peer.keep(variable);
         }
     }
     return criteria;
+}
+
+/// gives the clauses
+void give(Peer &peer, const std::vector<std::vector<int>> &clauses, const std::vector<Criterion> &criteria) {
+    for (const std::vector<int> &clause : clauses) peer.add(clause);
+    for (const Criterion &criterion : criteria)
+        for (int variable : criterion.second) peer.keep(variable);
 }
 
 /// how many of the variables in front are true
@@ -139,9 +145,10 @@ int lower(Peer &peer, const std::vector<Criterion> &criteria, std::vector<int> &
 int main(int count, char **words) {
     if (count != 2) return 2;
     Peer peer;
+    std::vector<std::vector<int>> clauses;
+    std::vector<Criterion> criteria = read(words[1], clauses);
     double start = milliseconds();
-    std::vector<Criterion> criteria = read(words[1], peer);
-    double given = milliseconds();
+    give(peer, clauses, criteria);
     int questions = 1;
     if (peer.ask({})) {
         std::vector<int> values = values_of(peer, criteria);
@@ -150,7 +157,6 @@ int main(int count, char **words) {
     } else {
         std::printf("none ");
     }
-    double end = milliseconds();
-    std::printf("%d %ld %.0f %.0f\n", questions, peer.conflicts(), end - given, given - start);
+    std::printf("%d %ld %.0f\n", questions, peer.conflicts(), milliseconds() - start);
     return 0;
 }
