@@ -15,7 +15,7 @@ from tool import files, railml, words
 from tool.places import of_byte
 from tool.railml import Element
 from tool.saying import called, end, say, why, write_error
-from tool.topology_faults import lacks
+from tool.topology_faults import lacks, leads_nowhere
 
 MARK = "prepared by railplan; no part of what is proved"
 TAG = re.compile(rb"<[^\s/>]+(?:\s+[^\s=<>]+\s*=\s*(?:\"[^\"]*\"|'[^']*'))*\s*/?>")
@@ -213,12 +213,17 @@ def mend_mileages(it: Prepared) -> None:
 
 
 def note_lacking(it: Prepared) -> None:
-    """what elements must have and the file doesn't say"""
-    for element, name in railml.lacking(railml.read(it.data)):
-        said = lacks(element, name) if name != "absPos" else \
-            f"{railml.what(element)} has no absPos, and is joined to no point whose mileage the file says. It isn't counted back " \
-            "from other points of its track, as a mileage may jump. Write its absPos"
-        it.guesses.append(f"{it.at(element.place)}: {said}")
+    """what elements must have and the file doesn't say, and what leads nowhere, in file order"""
+    document = railml.read(it.data)
+    found = [(element.place, unknown_mileage(element) if name == "absPos" else lacks(element, name))
+             for element, name in railml.lacking(document)]
+    found += [(connection.place, leads_nowhere(document, connection)) for connection in railml.dangling(document)]
+    it.guesses += [f"{it.at(place)}: {said}" for place, said in sorted(found)]
+
+
+def unknown_mileage(begin: Element) -> str:
+    return f"{railml.what(begin)} has no absPos, and is joined to no point whose mileage the file says. It isn't counted back from " \
+           "other points of its track, as a mileage may jump. Write its absPos"
 
 
 # ---- the file

@@ -64,6 +64,17 @@ class Mended(unittest.TestCase):
                 self.assertEqual((len(guesses), len(found)), (3, 1), guesses)
                 self.assertTrue(found[0].startswith("s.xml:1:"), found[0])
 
+    def test_what_leads_nowhere_is_listed(self):
+        for edits, count in (((), 0), ((("d", "e"),), 1), ((("d", "e"), ("c", "")), 2)):
+            text = TRACK
+            for old, new in edits:
+                text = text.replace(f'ref="{old}"', f'ref="{new}"')
+            found = [it for it in mended(text)[2] if "and no connection that is read has this id. Was its track left out" in it]
+            with self.subTest(edits):
+                self.assertEqual(len(found), count)
+        self.assertIn("the connection c refers to e, and", found[0])
+        self.assertIn("the connection d refers to nothing, and", found[1])
+
     def test_numbers(self):
         for given, written in (("20,5", "20.5"), ("2.05E1", "20.5"), ("20.5000001", "20.5"), ("20.12345678", "20.123457"),
                                ("1e-7", "0")):
