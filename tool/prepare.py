@@ -28,26 +28,45 @@ class Guess(Exception):
     """what the file doesn't say, and would have to be guessed"""
 
 
+Edit = tuple[int, int, bytes]
+
+
 class Prepared:
-    """A file's bytes while it is mended, and what was said of it: changes, what would have to be guessed, and what to look at."""
+    """A file's bytes while it is mended, as they were, the edits that lie between, and what was said of it: changes, what would
+    have to be guessed, and what to look at."""
 
     def __init__(self, name: str, data: bytes):
-        self.name, self.data = name, data
+        self.name, self.data, self.source = name, data, data
+        self.edits: list[list[Edit]] = []
         self.changes: list[str] = []
         self.guesses: list[str] = []
         self.doubts: list[str] = []
 
-    def replace(self, edits: list[tuple[int, int, bytes]]) -> None:
+    def replace(self, edits: list[Edit]) -> None:
         """writes each text in place of the bytes from one to the other"""
         for begun, ended, text in sorted(edits, reverse=True):
             self.data = self.data[:begun] + text + self.data[ended:]
+        self.edits.append(sorted(edits))
 
     def tag(self, place: int) -> tuple[int, bytes]:
         found = TAG.match(self.data, place)
         return place, found[0] if found else b""
 
     def at(self, place: int) -> str:
-        return of_byte(self.name, self.data, place).head()
+        """where the file that was read has what is at this byte now"""
+        for edits in reversed(self.edits):
+            place = before(edits, place)
+        return of_byte(self.name, self.source, place).head()
+
+
+def before(edits: list[Edit], place: int) -> int:
+    """where a byte was before these edits"""
+    grown = 0
+    for begun, ended, text in edits:
+        if place < begun + grown + len(text):
+            return min(place - grown, begun)
+        grown += len(text) - (ended - begun)
+    return place - grown
 
 
 # ---- the encoding
@@ -79,7 +98,7 @@ def mend_encoding(it: Prepared) -> None:
         it.changes.append(f"{name or found[1]} is written as UTF-8")
         if found:
             text = text[:found.start(1)] + "UTF-8" + text[found.end(1):]
-        it.data = text.encode("utf-8")
+        it.data = it.source = text.encode("utf-8")
 
 
 # ---- prefixes

@@ -130,6 +130,22 @@ class Mended(unittest.TestCase):
         self.assertEqual(found, mended(TRACK.replace('<railml xmlns="x"', '<railml xmlns="x" xmlns:r="x"'))[0])
         self.assertEqual(guesses, [])
 
+    def test_places_are_those_of_the_file_that_was_read(self):
+        text = TRACK.replace("<", "<r:").replace("<r:/", "</r:").replace('xmlns="x"', 'xmlns:r="x"').replace(' course="left"', "")
+        text = text.replace('pos="50"', 'pos="50,5"')
+        found, changes, guesses = mended(text)
+        for said, sign in ((changes[1], "<r:trackEnd"), (changes[2], '<r:trackBegin id="bb"'), (guesses[0], "<r:connection id=\"c\"")):
+            with self.subTest(said):
+                self.assertTrue(said.startswith(f"s.xml:1:{text.index(sign) + 1}: "), text.index(sign) + 1)
+
+    def test_where_a_byte_was(self):
+        edits = [(2, 4, b""), (6, 6, b"xyz"), (8, 9, b"Y")]
+        text = b"0123456789"
+        it = prepare.Prepared("f", text)
+        it.replace(edits)
+        self.assertEqual(it.data, b"0145xyz67Y9")
+        self.assertEqual([prepare.before(edits, at) for at in range(11)], [0, 1, 4, 5, 6, 6, 6, 6, 7, 8, 9])
+
     def test_prefixes_that_are_not_clear(self):
         text = TRACK.replace("<track id", "<r:track id").replace("</track>", "</r:track>")
         text = text.replace('xmlns="x"', 'xmlns="x" xmlns:r="y"')
