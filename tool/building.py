@@ -105,9 +105,9 @@ def prove_and_build(clone: built.Clone, rt: str, log: str) -> None:
 def announce(reason: str, quick: str) -> None:
     """says what is done, how long it takes as far as that is known, and what needn't wait for it"""
     doing = f"{reason}. Proving and building the program anew" if reason else "proving and building the program"
-    say(f"{doing}: from nothing that takes most of an hour on four processors, and here are {processors()}")
+    say(f"{doing}: from nothing that takes {built.FIRST_BUILD}, and here are {processors()}")
     if quick:
-        say(f"a first look without the proofs begins in about a minute: {quick}")
+        say(f"a first look without the proofs begins in {built.UNPROVED_BUILD}: {quick}")
 
 
 def build(clone: built.Clone, reason: str, quick: str = "") -> built.Built:

@@ -36,7 +36,7 @@ def run_unproved(clone: built.Clone, line: words.Line) -> NoReturn:
     from tool.building import need_rt
     answer_unrun(clone, line)
     rt = need_rt()
-    say("without its proofs the program is built anew for each run, in about a minute, and searches a hundred times as long")
+    say(f"without its proofs the program is built anew for each run, in {built.UNPROVED_BUILD}, and searches a hundred times as long")
     asked = list(line.words)
     command = words.COMMANDS.get(line.command)
     at_files = {it.at for it in line.files()}

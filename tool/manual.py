@@ -3,7 +3,7 @@ from __future__ import annotations
 
 import textwrap
 
-from tool import words
+from tool import built, words
 
 TITLE = "railplan: track graphs and line schematics of railway stations, with proofs"
 COLUMNS = 80
@@ -33,8 +33,8 @@ ENDINGS = {
     130: "the run was stopped",
 }
 
-UNPROVED = ("--unproved", "a first look without waiting for the proofs: each run builds the program anew, in about a minute, and "
-                          "searches a hundred times as long")
+UNPROVED = ("--unproved", "a first look without waiting for the proofs: each run builds the program anew, in "
+                          f"{built.UNPROVED_BUILD}, and searches a hundred times as long")
 
 
 def all_commands() -> dict[str, words.Command]:
@@ -86,7 +86,7 @@ def overview(called: str) -> str:
     """the help"""
     lines = [TITLE, "", "Begin with", f"  {called} --html station.html draw examples/station.xml",
              "and open station.html. The first run proves and builds the program, which takes",
-             "most of an hour on four processors; --unproved below needn't wait for that.",
+             f"{built.FIRST_BUILD}; --unproved below needn't wait for that.",
              f"  {called} help COMMAND", "says more of a command, with an example."]
     for title, listed in GROUPS:
         rows = [(form(all_commands()[word]), all_commands()[word].what) for word in listed]

@@ -49,7 +49,7 @@ def version(clone: built.Clone) -> int:
         by = f" with {found.kit}" if found.kit else ""
         lines += [f"program: proved and built from these sources{by}", f"SHA-256: {found.sha256}"]
     elif not os.access(clone.program, os.X_OK):
-        lines += ["program: not built yet; the first run proves and builds it"]
+        lines += [f"program: not built yet; the first run proves and builds it, in {built.FIRST_BUILD}"]
     else:
         state = "not known to be proved: something else than railplan built it" if found.is_fresh else \
             f"not that of these sources: {found.reason}; the next run builds it"

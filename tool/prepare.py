@@ -15,7 +15,7 @@ from tool import files, railml, words
 from tool.places import of_byte
 from tool.railml import Element
 from tool.saying import called, end, say, why, write_error
-from tool.topology_faults import lacks
+from tool.topology_faults import lacks, leads_nowhere
 
 MARK = "prepared by railplan; no part of what is proved"
 TAG = re.compile(rb"<[^\s/>]+(?:\s+[^\s=<>]+\s*=\s*(?:\"[^\"]*\"|'[^']*'))*\s*/?>")
@@ -28,26 +28,45 @@ class Guess(Exception):
     """what the file doesn't say, and would have to be guessed"""
 
 
+Edit = tuple[int, int, bytes]
+
+
 class Prepared:
-    """A file's bytes while it is mended, and what was said of it: changes, what would have to be guessed, and what to look at."""
+    """A file's bytes while it is mended, as they were, the edits that lie between, and what was said of it: changes, what would
+    have to be guessed, and what to look at."""
 
     def __init__(self, name: str, data: bytes):
-        self.name, self.data = name, data
+        self.name, self.data, self.source = name, data, data
+        self.edits: list[list[Edit]] = []
         self.changes: list[str] = []
         self.guesses: list[str] = []
         self.doubts: list[str] = []
 
-    def replace(self, edits: list[tuple[int, int, bytes]]) -> None:
+    def replace(self, edits: list[Edit]) -> None:
         """writes each text in place of the bytes from one to the other"""
         for begun, ended, text in sorted(edits, reverse=True):
             self.data = self.data[:begun] + text + self.data[ended:]
+        self.edits.append(sorted(edits))
 
     def tag(self, place: int) -> tuple[int, bytes]:
         found = TAG.match(self.data, place)
         return place, found[0] if found else b""
 
     def at(self, place: int) -> str:
-        return of_byte(self.name, self.data, place).head()
+        """where the file that was read has what is at this byte now"""
+        for edits in reversed(self.edits):
+            place = before(edits, place)
+        return of_byte(self.name, self.source, place).head()
+
+
+def before(edits: list[Edit], place: int) -> int:
+    """where a byte was before these edits"""
+    grown = 0
+    for begun, ended, text in edits:
+        if place < begun + grown + len(text):
+            return min(place - grown, begun)
+        grown += len(text) - (ended - begun)
+    return place - grown
 
 
 # ---- the encoding
@@ -79,7 +98,7 @@ def mend_encoding(it: Prepared) -> None:
         it.changes.append(f"{name or found[1]} is written as UTF-8")
         if found:
             text = text[:found.start(1)] + "UTF-8" + text[found.end(1):]
-        it.data = text.encode("utf-8")
+        it.data = it.source = text.encode("utf-8")
 
 
 # ---- prefixes
@@ -213,12 +232,17 @@ def mend_mileages(it: Prepared) -> None:
 
 
 def note_lacking(it: Prepared) -> None:
-    """what elements must have and the file doesn't say"""
-    for element, name in railml.lacking(railml.read(it.data)):
-        said = lacks(element, name) if name != "absPos" else \
-            f"{railml.what(element)} has no absPos, and is joined to no point whose mileage the file says. It isn't counted back " \
-            "from other points of its track, as a mileage may jump. Write its absPos"
-        it.guesses.append(f"{it.at(element.place)}: {said}")
+    """what elements must have and the file doesn't say, and what leads nowhere, in file order"""
+    document = railml.read(it.data)
+    found = [(element.place, unknown_mileage(element) if name == "absPos" else lacks(element, name))
+             for element, name in railml.lacking(document)]
+    found += [(connection.place, leads_nowhere(document, connection)) for connection in railml.dangling(document)]
+    it.guesses += [f"{it.at(place)}: {said}" for place, said in sorted(found)]
+
+
+def unknown_mileage(begin: Element) -> str:
+    return f"{railml.what(begin)} has no absPos, and is joined to no point whose mileage the file says. It isn't counted back from " \
+           "other points of its track, as a mileage may jump. Write its absPos"
 
 
 # ---- the file

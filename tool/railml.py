@@ -192,6 +192,12 @@ def lacking(document: Document) -> list[tuple[Element, str]]:
     return [(it, name) for it in with_ids(document) for name in required(it) if name not in it.attributes]
 
 
+def dangling(document: Document) -> list[Element]:
+    """the connections that refer to none that is read, in file order"""
+    known = by_id(document)
+    return [it for it in connections(document) if "ref" in it.attributes and it.attributes["ref"] not in known]
+
+
 def what(it: Element) -> str:
     """an element in words"""
     called = {"trackBegin": "begin", "trackEnd": "end"}.get(it.name, it.name)

@@ -123,22 +123,27 @@ def number(station: Station, it: Element | None, tells: list[str]) -> str:
 
 
 def unknown_ref(station: Station, it: Element | None, tells: list[str]) -> str:
-    given = it.attributes.get("ref", "") if it else ""
-    known = railml.by_id(station.document)
-    more = sum(other is not it and other.attributes.get("ref") not in known for other in known.values())
-    said = f"the connection {tells[0]} refers to {given or 'nothing'}, and no connection that is read has this id"
-    if more:
-        said += f"; so {'does 1 connection' if more == 1 else f'do {more} connections'} more"
-    return f"{said}. {other_than(given, tells[0], it, known)}"
+    if it is None:
+        return f"the connection {tells[0]} refers to no connection that is read"
+    more = len(railml.dangling(station.document)) - 1
+    count = "does 1 connection" if more == 1 else f"do {more} connections"
+    return leads_nowhere(station.document, it, f"; so {count} more, which {station.prepared()} lists" if more > 0 else "")
 
 
-def other_than(given: str, own: str, it: Element | None, known: dict[str, Element]) -> str:
+def leads_nowhere(document: Document, it: Element, more: str = "") -> str:
+    """that a connection refers to none, how many more do, and what may be meant or what to write in its place"""
+    given = it.attributes.get("ref", "")
+    said = f"the connection {it.id} refers to {given or 'nothing'}, and no connection that is read has this id{more}"
+    return f"{said}. {other_than(given, it, [*railml.by_id(document)])}"
+
+
+def other_than(given: str, it: Element, known: list[str]) -> str:
     """what may be meant by a ref that leads nowhere, or what to write in its place"""
-    owner = it.parent if it else None
+    owner = it.parent
     if owner and owner.name in railml.POINTS and len(owner.named("connection")) > (2 if owner.name == "crossing" else 1):
         return f"Besides, {kind_of_crossing(owner) if owner.name == 'crossing' else kind_of_switch(owner)}"
-    meant = difflib.get_close_matches(given, [*known], 1, 0.8)
-    if meant and meant[0] != own:
+    meant = difflib.get_close_matches(given, known, 1, 0.8)
+    if meant and meant[0] != it.id:
         return f"Did you mean {meant[0]}?"
     lost = "Was its track left out of the export?"
     if owner and owner.name in railml.POINTS:

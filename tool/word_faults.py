@@ -7,11 +7,17 @@ import shlex
 
 from tool import files, manual, words
 
-# what an option's value is, in words
-TAKES = {"--width": "a number of columns, 1 to 64", "--height": "a number of rows, 0 to 12",
-         "--least": "a number of columns, 1 to 16", "--conflicts": "a number of clauses, 1 to 200000, in digits alone",
-         "--order": "one to four of height, bends, diagonal and width, with commas and no blanks between them",
-         "--svg": "the name of a file", "--log": "the name of a file"}
+# what the number behind an option counts
+COUNTED = {"--width": "columns", "--height": "rows", "--least": "columns", "--conflicts": "clauses"}
+
+
+def takes(option: words.Option) -> str:
+    """what an option's value is, in words"""
+    if option.takes == "number":
+        alone = ", in digits alone" if option.high > 999 else ""
+        return f"a number of {COUNTED[option.word]}, {option.low} to {option.high}{alone}"
+    return "the name of a file" if option.is_file else \
+        "one to four of height, bends, diagonal and width, with commas and no blanks between them"
 
 
 def quoted(word: str) -> str:
@@ -125,12 +131,12 @@ def bad_value(given: list[str], at: int, called: str) -> str:
     names, options = words.parts(given)
     places = {place: option for option, place in options.items()}
     if at in places and at + 1 >= len(given):
-        return f"behind {word} its value is missing, {TAKES[word]}"
+        return f"behind {word} its value is missing, {takes(words.OPTIONS[word])}"
     if at - 1 in places:
         option = places[at - 1]
         if not words.allows(words.OPTIONS[option], word):
             also = did_you_mean(given, at, called) if option == "--order" else ""
-            return f"{quoted(word)} can't be behind {option}, which takes {TAKES[option]}{also}"
+            return f"{quoted(word)} can't be behind {option}, which takes {takes(words.OPTIONS[option])}{also}"
     if at in names:
         name = words.COMMANDS[given[0]].names[names.index(at)]
         if not words.may_be(name, word):

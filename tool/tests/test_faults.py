@@ -118,7 +118,7 @@ FURTHER = (
      "seen from the points. 2 more connections have none: ./railplan prepare ", ""),
     (edited((b' ref="W1.branch"', b""), (b' pos="310"', b"")), "topology Missing", "Write its distance in metres from the zero of its track", ""),
     (edited((b'ref="W1.branch"', b'ref="nowhere"'), (b'ref="W3.branch"', b'ref="none"')), "topology UnknownRef",
-     "no connection that is read has this id; so does 1 connection more. Was its track left out", ""),
+     "no connection that is read has this id; so does 1 connection more, which ./railplan prepare ", ""),
     (edited((b'course="left"', b'course="lefft"')), "topology Course", "(did you mean left?)", ""),
     (edited((b'course="right"', b'course="rigth"'), text=CROSSED), "topology Course", "(did you mean right?)", ""),
     (edited((b'course="right"', b'course="straight"'), text=CROSSED), "topology Course", "isn't left or right. Write", ""),

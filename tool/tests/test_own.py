@@ -101,7 +101,8 @@ class Version(InClone):
         for given in ("--version", "version"):
             status, out, err = self.launch(given)
             self.assertEqual((status, err), (0, ""))
-            self.assertEqual(out, f"railplan {VERSION}\nprogram: not built yet; the first run proves and builds it\n")
+            self.assertEqual(out, f"railplan {VERSION}\nprogram: not built yet; the first run proves and builds it, in most of "
+                             "an hour on four processors\n")
 
     def test_of_a_program_that_was_built(self):
         self.launch("graph", "one.xml")

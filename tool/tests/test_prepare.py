@@ -64,6 +64,17 @@ class Mended(unittest.TestCase):
                 self.assertEqual((len(guesses), len(found)), (3, 1), guesses)
                 self.assertTrue(found[0].startswith("s.xml:1:"), found[0])
 
+    def test_what_leads_nowhere_is_listed(self):
+        for edits, count in (((), 0), ((("d", "e"),), 1), ((("d", "e"), ("c", "")), 2)):
+            text = TRACK
+            for old, new in edits:
+                text = text.replace(f'ref="{old}"', f'ref="{new}"')
+            found = [it for it in mended(text)[2] if "and no connection that is read has this id. Was its track left out" in it]
+            with self.subTest(edits):
+                self.assertEqual(len(found), count)
+        self.assertIn("the connection c refers to e, and", found[0])
+        self.assertIn("the connection d refers to nothing, and", found[1])
+
     def test_numbers(self):
         for given, written in (("20,5", "20.5"), ("2.05E1", "20.5"), ("20.5000001", "20.5"), ("20.12345678", "20.123457"),
                                ("1e-7", "0")):
@@ -118,6 +129,22 @@ class Mended(unittest.TestCase):
         found, changes, guesses = mended(text)
         self.assertEqual(found, mended(TRACK.replace('<railml xmlns="x"', '<railml xmlns="x" xmlns:r="x"'))[0])
         self.assertEqual(guesses, [])
+
+    def test_places_are_those_of_the_file_that_was_read(self):
+        text = TRACK.replace("<", "<r:").replace("<r:/", "</r:").replace('xmlns="x"', 'xmlns:r="x"').replace(' course="left"', "")
+        text = text.replace('pos="50"', 'pos="50,5"')
+        found, changes, guesses = mended(text)
+        for said, sign in ((changes[1], "<r:trackEnd"), (changes[2], '<r:trackBegin id="bb"'), (guesses[0], "<r:connection id=\"c\"")):
+            with self.subTest(said):
+                self.assertTrue(said.startswith(f"s.xml:1:{text.index(sign) + 1}: "), text.index(sign) + 1)
+
+    def test_where_a_byte_was(self):
+        edits = [(2, 4, b""), (6, 6, b"xyz"), (8, 9, b"Y")]
+        text = b"0123456789"
+        it = prepare.Prepared("f", text)
+        it.replace(edits)
+        self.assertEqual(it.data, b"0145xyz67Y9")
+        self.assertEqual([prepare.before(edits, at) for at in range(11)], [0, 1, 4, 5, 6, 6, 6, 6, 7, 8, 9])
 
     def test_prefixes_that_are_not_clear(self):
         text = TRACK.replace("<track id", "<r:track id").replace("</track>", "</r:track>")
