@@ -14,6 +14,7 @@ from __future__ import annotations
 
 import argparse
 import contextlib
+import json
 import os
 import re
 import shutil
@@ -22,7 +23,7 @@ import sys
 import tempfile
 import time
 from concurrent.futures import ProcessPoolExecutor
-from dataclasses import dataclass, field
+from dataclasses import asdict, dataclass, field
 from functools import partial
 from pathlib import Path
 from typing import Callable, Iterator
@@ -214,9 +215,11 @@ def pages_of(number: int, kinds: int, namings: int) -> Iterator[tuple[str, str]]
 
 
 def looked(tab: Tab, files: Files, kind: str, launcher: str) -> Looked:
-    """a page that is made, opened and looked at"""
+    """a page that is made, opened and looked at, or what is kept of that"""
     page = Path(f"{files.stem}.{kind}.html")
-    found = Looked(kind, page.name)
+    kept, found = page.with_suffix(".seen"), Looked(kind, page.name)
+    if kept.exists():
+        return Looked(**json.loads(kept.read_text(encoding="utf-8")))
     try:
         status, _ = run_pages(str(page), *files.words(kind), launcher=launcher)
         found.faults, seen = look(tab, page)
@@ -228,6 +231,7 @@ def looked(tab: Tab, files: Files, kind: str, launcher: str) -> Looked:
     found.least = min((it[3] / MM for it in texts), default=9.0)
     found.kilobytes = page.stat().st_size // 1024
     found.what = f"{page.name} (status {status}, {found.strips} strips, {found.kilobytes} KB, {found.seconds:.2f} s)"
+    kept.write_text(json.dumps(asdict(found)), encoding="utf-8")
     return found
 
 
@@ -353,7 +357,8 @@ def read_words() -> argparse.Namespace:
     parser.add_argument("--kinds", type=int, default=len(KINDS), help="measure: kinds of page of each station (6)")
     parser.add_argument("--namings", type=int, default=1, help="measure: namings of each page, 6 for all (1)")
     parser.add_argument("--jobs", type=int, default=max(1, (os.cpu_count() or 2) // 2), help="measure: browsers side by side")
-    parser.add_argument("--folder", type=Path, help="measure: a folder that keeps the pages and what the program answered")
+    parser.add_argument("--folder", type=Path, help="measure: a folder that keeps the pages, what was seen of them and what the program "
+                        "answered; a run that was stopped goes on there")
     parser.add_argument("--write", action="store_true", help="measure, drive, largest: write the table into bench/results")
     words = parser.parse_args()
     if not os.access(PROGRAM, os.X_OK):
