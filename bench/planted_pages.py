@@ -72,6 +72,14 @@ PLANTED = [
      "return visible(text)", "markup"),
     ("wedges point from the legs", "strip.py", "(x, y), (u, v) = points[:2] if side == \"east\" else reversed(points[-2:])",
      "(u, v), (x, y) = points[:2] if side == \"east\" else reversed(points[-2:])", "pictures"),
+    ("a pointer finds a sign on its strokes alone", "screen/drawing.css", "stroke: none; pointer-events: all", "stroke: none",
+     "pictures"),
+    ("strips of a drawing have two scales", "kinds.py", "        picture.widen(picture.width())\n", "", "pictures"),
+    ("pictures side by side have two scales", "kinds.py", "picture.widen(max(it.width() for it in pictures))", "pass", "pages"),
+    ("what is ticked off isn't struck out", "changes.py", 'element("span", text)', "text", "pages"),
+    ("lines of a fault are shown twice", "faults.py", "if last and part.first <= end:", "if False:", "faults"),
+    ("numbers of a front are higher", "plot.py", "from pages.strip import SMALL, bounds", "from pages.strip import bounds\nSMALL = 11\n"
+     "from pages.strip import bounds", "pictures"),
     ("the output isn't given where the page can't be written", "command.py", "    ended = give_all(output, is_open)\n",
      "    ended = 0\n", "command"),
 ]
