@@ -78,8 +78,8 @@ PLANTED = [
     ("pictures side by side have two scales", "kinds.py", "picture.widen(max(it.width() for it in pictures))", "pass", "pages"),
     ("what is ticked off isn't struck out", "changes.py", 'element("span", text)', "text", "pages"),
     ("lines of a fault are shown twice", "faults.py", "if last and part.first <= end:", "if False:", "faults"),
-    ("numbers of a front are higher", "plot.py", "from pages.strip import SMALL, bounds", "from pages.strip import bounds\nSMALL = 11\n"
-     "from pages.strip import bounds", "pictures"),
+    ("numbers of a front are higher", "plot.py", "from pages.widths import width_of",
+     "from pages.widths import width_of\nSMALL = 11", "pictures"),
     ("the output isn't given where the page can't be written", "command.py", "    ended = give_all(output, is_open)\n",
      "    ended = 0\n", "command"),
 ]
