@@ -19,23 +19,19 @@ NAMINGS: dict[str, Callable[[int, str], str]] = {
 }
 
 
-def ladder_with_sidings(rungs: int) -> Station:
-    """four tracks with crossovers, and sidings above and below them; of 12 rungs it has as many nodes and pieces as there may be"""
-    station = ladder(rungs)
-    for at in range(rungs):
-        station.siding(station.tracks[3], 3000 * at + 2500, 3000 * at + 2900, True)
-        station.siding(station.tracks[0], 3000 * at + 700, 3000 * at + 1100, False)
-    return station
-
-
-def throats(tracks: int, rungs: int) -> Station:
-    """tracks side by side, each joined with the next by crossovers, so many times"""
+def braid(tracks: int, rungs: int, has_sidings: bool = False) -> Station:
+    """tracks side by side, so many times joined with the next by crossovers, every other ones abreast, and sidings beside them;
+    four tracks, twelve times and with sidings, have 128 nodes and 160 pieces, as many as there may be"""
     station = Station()
-    made = [station.track(0, 1000 * tracks * rungs) for _ in range(tracks)]
+    made = [station.track(0, 2000 * rungs) for _ in range(tracks)]
     for rung in range(rungs):
+        west = 2000 * rung + 200
         for at in range(tracks - 1):
-            west = 1000 * (tracks * rung + at) + 100
-            station.crossover(made[at], made[at + 1], west, west + 600, rung % 2 == 0)
+            shift = 800 * (at % 2)
+            station.crossover(made[at], made[at + 1], west + shift, west + shift + 300, rung % 2 == 0)
+        if has_sidings:
+            station.siding(made[-1], west + 800, west + 1100, True)
+            station.siding(made[0], west + 800, west + 1100, False)
     return station
 
 
@@ -48,7 +44,8 @@ MORE = [("loops above 6", loops(6, lambda at: True)), ("loops in turn 15", loops
         ("through station 4 4", through(4, 4, True)), ("terminus 7", terminus(7, True)), ("depot 9", depot(9, True))]
 LARGE = [("line 10", line(10)), ("ladder 5", ladder(5)), ("scissors 12", scissors(12)), ("passing places 15", passing(15, 2)),
          ("yard 10", yard(10)), ("loops 40", loops(40, lambda at: at % 2 == 0)), ("crossovers 30", crossovers(30)),
-         ("ladder 17", ladder(17)), ("throats 10 5", throats(10, 5)), ("ladder with sidings 12", ladder_with_sidings(12))]
+         ("four tracks 15", braid(4, 15)), ("eight tracks 7", braid(8, 7)), ("ten tracks 5", braid(10, 5)),
+         ("four tracks with sidings 12", braid(4, 12, True))]
 STATIONS = EVERYDAY + MORE + LARGE
 
 

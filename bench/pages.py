@@ -14,6 +14,7 @@ from __future__ import annotations
 
 import argparse
 import contextlib
+import json
 import os
 import re
 import shutil
@@ -22,7 +23,7 @@ import sys
 import tempfile
 import time
 from concurrent.futures import ProcessPoolExecutor
-from dataclasses import dataclass, field
+from dataclasses import asdict, dataclass, field
 from functools import partial
 from pathlib import Path
 from typing import Callable, Iterator
@@ -192,9 +193,8 @@ class Files:
     def words(self, kind: str) -> list[str]:
         """the words of a run of a kind; a sheet that it needs is made before"""
         if kind == "signals":
-            is_small = self.station.text().count("<switch") < 20
-            return ["signals", self.file("signals", self.station, signals_on_piece=2 if is_small else 1, every=1 if is_small else 3),
-                    *WORDS[kind]]
+            most, every = (2, 1) if self.station.text().count("<switch") < 20 else (1, 3)
+            return ["signals", self.file("signals", self.station, signals_on_piece=most, every=every), *WORDS[kind]]
         file = self.file("plain", self.station)
         if kind == "verify":
             return ["verify", file, self.sheet(file, self.number % 2 == 0)]
@@ -214,9 +214,11 @@ def pages_of(number: int, kinds: int, namings: int) -> Iterator[tuple[str, str]]
 
 
 def looked(tab: Tab, files: Files, kind: str, launcher: str) -> Looked:
-    """a page that is made, opened and looked at"""
+    """a page that is made, opened and looked at, or what is kept of that"""
     page = Path(f"{files.stem}.{kind}.html")
-    found = Looked(kind, page.name)
+    kept, found = page.with_suffix(".seen"), Looked(kind, page.name)
+    if kept.exists():
+        return Looked(**json.loads(kept.read_text(encoding="utf-8")))
     try:
         status, _ = run_pages(str(page), *files.words(kind), launcher=launcher)
         found.faults, seen = look(tab, page)
@@ -228,6 +230,7 @@ def looked(tab: Tab, files: Files, kind: str, launcher: str) -> Looked:
     found.least = min((it[3] / MM for it in texts), default=9.0)
     found.kilobytes = page.stat().st_size // 1024
     found.what = f"{page.name} (status {status}, {found.strips} strips, {found.kilobytes} KB, {found.seconds:.2f} s)"
+    kept.write_text(json.dumps(asdict(found)), encoding="utf-8")
     return found
 
 
@@ -252,8 +255,8 @@ def measure(words: argparse.Namespace) -> list[tuple[str, list[str]]]:
         ask = partial(measured, folder=folder, kinds=words.kinds, namings=words.namings)
         for number, pages in zip(range(words.first, words.stations), pool.map(ask, range(words.first, words.stations))):
             for it in pages:
-                print(f"{number} {it.what}: " + (f"{it.faults[0]}, and {len(it.faults) - 1} more" if it.faults else "as it is to be"),
-                      flush=True)
+                faults = f"{it.faults[0]}, and {len(it.faults) - 1} more" if it.faults else "as it is to be"
+                print(f"{number} {it.what}: {faults}", flush=True)
             found += pages
     table = Table("pages", HEAD)
     for kind in KINDS:
@@ -353,7 +356,8 @@ def read_words() -> argparse.Namespace:
     parser.add_argument("--kinds", type=int, default=len(KINDS), help="measure: kinds of page of each station (6)")
     parser.add_argument("--namings", type=int, default=1, help="measure: namings of each page, 6 for all (1)")
     parser.add_argument("--jobs", type=int, default=max(1, (os.cpu_count() or 2) // 2), help="measure: browsers side by side")
-    parser.add_argument("--folder", type=Path, help="measure: a folder that keeps the pages and what the program answered")
+    parser.add_argument("--folder", type=Path, help="measure: a folder that keeps the pages, what was seen "
+                        "of them and what the program answered; a run that was stopped goes on there")
     parser.add_argument("--write", action="store_true", help="measure, drive, largest: write the table into bench/results")
     words = parser.parse_args()
     if not os.access(PROGRAM, os.X_OK):

@@ -67,8 +67,8 @@ def search(tab: Tab) -> Iterator[Check]:
 
 
 def both_ways(tab: Tab, switch: str) -> Iterator[Check]:
-    yield "the list is beside the drawing", tab.run("""(() => { const list = document.querySelector('aside.list').getBoundingClientRect(),
-      drawing = document.querySelector('svg.strip').getBoundingClientRect();
+    yield "the list is beside the drawing", tab.run("""(() => {
+      const [list, drawing] = ['aside.list', 'svg.strip'].map(it => document.querySelector(it).getBoundingClientRect());
       return drawing.right <= list.left && list.top < drawing.bottom && list.right <= innerWidth })()""")
     tab.run(f"document.querySelector('{SIGN.format(switch)}').scrollIntoView({{block: 'center'}})")
     tab.move(*centre(tab, SIGN.format(switch)))
@@ -86,8 +86,8 @@ def in_sight(tab: Tab) -> Iterator[Check]:
     last = tab.run("rows.filter(it => it.dataset.key[0] == 'n').pop().dataset.key")
     for what, size in (("on a low screen", (1600, 420)), ("on a phone", (390, 800))):
         tab.size(*size, what == "on a phone")
-        tab.run(f"letGo(); window.scrollTo(0, 0); document.querySelector('{SIGN.format(last)}').scrollIntoView({{block: 'center', "
-                "inline: 'center'})")
+        tab.run("letGo(); window.scrollTo(0, 0)")
+        tab.run(f"document.querySelector('{SIGN.format(last)}').scrollIntoView({{block: 'center', inline: 'center'}})")
         tab.click(*centre(tab, SIGN.format(last)))
         yield f"what a sign says is in sight {what}", marked(tab, "chosen") == [last] and tab.run(IN_SIGHT)
         tab.click(*(centre(tab, ".said button") or (1, 1)))
@@ -267,7 +267,8 @@ def points(tab: Tab) -> Iterator[Check]:
     wanted = tab.run("document.activeElement.getAttribute('href')")
     tab.key("Enter")
     tab.run("new Promise(r => setTimeout(r, 60))")
-    yield "Tab and Enter open the drawing of a point", is_there and wanted == tab.run("'#' + document.querySelector('figure.shown').id")
+    shown = tab.run("'#' + document.querySelector('figure.shown').id")
+    yield "Tab and Enter open the drawing of a point", is_there and wanted == shown
 
 
 def versions(tab: Tab) -> Iterator[Check]:

@@ -66,7 +66,9 @@ def code(text: str) -> Element:
 
 
 def command(words: list[str]) -> Element:
-    return code(shlex.join(words))
+    """a command; an option isn't broken behind its first hyphen"""
+    return element("code", [[" " * (at > 0), element("span", word) if word.startswith("--") else shlex.quote(word)]
+                            for at, word in enumerate(words)], class_="command")
 
 
 def cell(title: str, *children: Child, wide: bool = False) -> Element:

@@ -61,16 +61,20 @@ def excerpt(name: str, file: bytes, number: int) -> Excerpt:
 
 
 def excerpts(places: list[tuple[str, int]], inputs: list[Input]) -> list[Excerpt]:
-    """an excerpt for each line that is meant, those close to each other in one"""
+    """an excerpt for each line that is meant, those that touch each other in one"""
     found: list[Excerpt] = []
     contents = {it.copy or it.facts.name: it for it in inputs if it.content is not None}
     for name, number in sorted(set(places)):
-        known = contents.get(name)
-        last = found[-1] if found else None
-        if known and last and last.name == known.facts.name and number < last.first + len(last.lines):
+        if name not in contents:
+            continue
+        part = excerpt(contents[name].facts.name, contents[name].content or b"", number)
+        last = found[-1] if found and found[-1].name == part.name else None
+        end = last.first + len(last.lines) if last else 0
+        if last and part.first <= end:
+            last.lines += part.lines[end - part.first:]
             last.meant.append(number)
-        elif known:
-            found.append(excerpt(known.facts.name, known.content or b"", number))
+        else:
+            found.append(part)
     return found
 
 

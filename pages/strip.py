@@ -198,7 +198,8 @@ class StripPlan:
         (x, y), east, is_left = self.at(signal.point), self.scene.station.heads_east(signal), self.scene.is_left
         parts, corners = signs.signal_sign(east, is_left)
         left, top, right, bottom = bounds([(a, b, a, b) for a, b in corners])
-        parts.insert(0, element("rect", class_="hit", x=shown(left), y=shown(top), width=shown(right - left), height=shown(bottom - top)))
+        parts.insert(0, element("rect", class_="hit", x=shown(left), y=shown(top), width=shown(right - left),
+                                height=shown(bottom - top)))
         turn = self.signal_slope(signal, east) if east is not None else 0.0
         way = {None: "of a way that isn't known", True: "for trains that run east", False: "for trains that run west"}[east]
         mileage = self.scene.station.signal_mileage(signal.name)

@@ -164,7 +164,8 @@ def body(page: Page, title: str) -> Iterable[Child]:
     if page.lead:
         yield element("div", page.lead, class_="lead")
     yield tools(page)
-    said = element("div", [element("section", element("h2", title_), *parts) for title_, parts in page.facts], class_="facts")
+    sections = [element("section", element("h2", title_), *parts) for title_, parts in page.facts]
+    said = element("div", sections, class_="facts") if sections else None
     sheet = element("details", element("summary", "The sheet, as a text"), element("pre", page.sheet)) if page.sheet else None
     left = element("div", figures(page), legend(page), said, facts.block(page.provenance, page.station.shown), shortened(page),
                    sheet,

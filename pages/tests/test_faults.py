@@ -5,9 +5,12 @@ import tempfile
 import unittest
 from pathlib import Path
 
-from pages.files import read_once
+from pages.facts import FileFacts
+from pages.faults import excerpts
+from pages.files import Input, read_once
 from pages.kinds import INPUTS, Page, make
 from pages.tests.fixtures import TOP, run_of
+from pages.whole import page_text
 from tool import words as table
 
 MUTUAL = (TOP / "cases/stations/mutual.xml").read_bytes()
@@ -42,6 +45,14 @@ class Faults(unittest.TestCase):
         targets = {str(it.attributes.get("id")) for figure in page.figures for part in figure.parts for it in part.all()}
         for line in lines:
             self.assertTrue(any(it.endswith(f"-{line}") for it in targets), targets)
+        self.assertEqual(page_text(page).count('class="facts"'), 0)
+
+    def test_lines_that_are_near_each_other_are_shown_once(self) -> None:
+        lines = [f"<a{number}/>" for number in range(1, 40)]
+        file = Input(FileFacts("x.xml"), "\n".join(lines).encode(), "own")
+        found = excerpts([("own", number) for number in (30, 4, 7, 12)], [file])
+        self.assertEqual([(it.first, it.lines, it.meant) for it in found],
+                         [(2, lines[1:14], [4, 7, 12]), (28, lines[27:32], [30])])
 
     def test_the_programs_own_line_is_there(self) -> None:
         self.assertIn("The program's own line: read failed 1", lead(page_of("read failed 1", 5)))

@@ -61,7 +61,7 @@ def fact(page: Page, title: str) -> str:
 
 
 def block(page: Page) -> str:
-    return " ".join(Read(page_text(page)).texts)
+    return re.sub(r"\s+", " ", " ".join(Read(page_text(page)).texts))
 
 
 @functools.cache
@@ -239,6 +239,11 @@ class Commands(unittest.TestCase):
     def test_a_front_without_drawings_says_so(self) -> None:
         self.assertIn("of which there is no drawing here", fact(make(sample("front_long")), "Pairs"))
 
+    def test_options_are_not_broken(self) -> None:
+        made = text_of("explain")
+        self.assertIn('<code class="command">./railplan explain loop.xml <span>--width</span> 4</code>', made)
+        self.assertIn(".command span { white-space: nowrap }", made)
+
     def test_unread_names_are_said(self) -> None:
         page = make(example(files={"examples/station.xml": b"<railml>\n<"}))
         self.assertIn("line 2", fact(page, "Names and ends"))
@@ -286,7 +291,7 @@ class Hostile(unittest.TestCase):
         self.assertFalse([it for it in read.attributes if it[1] == "href" and not it[2].startswith("#")])
         self.assertEqual(len(read.bare["script"]), 2)
         self.assertIn("<script>alert(1)</script>0n", read.texts)
-        self.assertIn("./railplan --html '</style><i>.html' signals '<i>.xml'", read.texts)
+        self.assertIn("./railplan --html '</style><i>.html' signals '<i>.xml'", "".join(read.texts))
         self.assertIn("‹U+FFFE›<!--6n", read.texts)
 
     def test_heading_and_title(self) -> None:
