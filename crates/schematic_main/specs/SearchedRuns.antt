@@ -1,5 +1,5 @@
--- Whole runs of the commands that search, none of whose reads failed, on files whose contents are told and that have no
--- fault; and how such a run ends. What a trace was told plays no part.
+-- Whole runs of draw, signals, front, redraw and explain, none of whose reads failed, on files whose contents are told
+-- and that have no fault; and how such a run ends. What a trace was told plays no part.
 use Rattle.std.specs.Prelude.{◌≡◌, ◌≢◌, ◌↔◌, ℕ, ⊤, List, None, codes}
 use Rattle.std.specs.declared.option.Option.{Option}
 use Rattle.plan_core.specs.declared.criterion.Criterion.{Criterion}
