@@ -13,5 +13,5 @@ pub mod DrawnRuns
 pub mod SignalledRuns
 pub mod FrontRuns
 pub mod RedrawnRuns
-pub mod ExplainedRuns
 pub mod SoReadBack
+pub mod ExplainedRuns

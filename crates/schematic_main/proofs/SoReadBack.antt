@@ -206,7 +206,8 @@ excludes_unmoved told input former sheet grid g o d text is lawful so =
 
 -- ---- explain
 
-no_laws_exist : (g : Graph) (names : List LawBreak) (without : List Drawing) → laws_text g names without ≡ codes "drawing exists\n" → ⊥
+-- laws aren't the text of a drawing that exists
+pub no_laws_exist : (g : Graph) (names : List LawBreak) (without : List Drawing) → laws_text g names without ≡ codes "drawing exists\n" → ⊥
 no_laws_exist g names without e = let z : ◌≡◌ {A = ℕ} 114 100 = ap (λ (xs : List ℕ). get_or xs 0 0) e in absurd (omega arith)
 
 pub exists_said : (told : Told) (input : List ℕ) (grid : GridSize) (g : Graph) (o : EdgeOrder) (text : List ℕ) → IsStationOf input (Some told) g o →
