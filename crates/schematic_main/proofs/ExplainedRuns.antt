@@ -1,5 +1,5 @@
 -- How a whole run of explain ends, and what it says.
-use Rattle.std.proofs.Common.{◌≡◌, ◌≢◌, ℕ, List, None, refl, lit<}
+use Rattle.std.proofs.Common.{◌≢◌, ℕ, List, None, refl, lit<}
 use Rattle.std.specs.Prelude.{⊤, map}
 use Rattle.plan_core.specs.Grid.{GridSize}
 use Rattle.plan_core.specs.Graph.{Graph}

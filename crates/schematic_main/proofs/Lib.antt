@@ -6,6 +6,8 @@ pub mod PassesLemmas
 pub mod CertifiedRuns
 pub mod VerifiedRuns
 pub mod HintedRuns
+pub mod SoInputs
+pub mod SoChecked
 pub mod SoLemmas
 pub mod SoExcludes
 pub mod SearchEnds
