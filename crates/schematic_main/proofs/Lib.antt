@@ -10,6 +10,7 @@ pub mod SoInputs
 pub mod SoChecked
 pub mod SoLemmas
 pub mod SoExcludes
+pub mod SoCertified
 pub mod SearchEnds
 pub mod DrawnRuns
 pub mod SignalledRuns
