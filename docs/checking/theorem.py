@@ -164,8 +164,8 @@ def rest_lines():
 def count_lines():
     """How much there is to read."""
     rows = [key for key in words() if key[:2] == ROWS]
-    counted = [("the rows of all commands", rows), ("of these, `draw`", [(*ROWS, "DrawIsSo")]),
-               ("of these, a station read from a file", [STATION]), ("of these, the best drawing", [BEST])]
+    counted = [("the rows of all commands", rows), ("of these, `check`", [(*ROWS, "CheckIsSo")]),
+               ("of these, `draw`", [(*ROWS, "DrawIsSo")]), ("of these, a station read from a file", [STATION]), ("of these, the best drawing", [BEST])]
     lines = ["| what | definitions | lines | files |", "|---|---|---|---|"]
     for said, roots in counted:
         found = resting_on(*roots)
