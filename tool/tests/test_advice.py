@@ -191,7 +191,8 @@ class TwoMileages(unittest.TestCase):
 
     def test_the_furthest_apart_and_how_many_more(self):
         self.assertEqual(self.said(edited(STATION, self.BEGIN, self.LOOP)), [self.SWITCH + ". 1 more is no further apart"])
-        self.assertEqual(self.said(turned(edited(STATION, self.BEGIN, self.END, self.LOOP))), [self.SWITCH + ". 2 more are no further apart"])
+        self.assertEqual(self.said(turned(edited(STATION, self.BEGIN, self.END, self.LOOP))), [
+            self.SWITCH + ". 2 more are no further apart"])
         self.assertEqual(self.said(edited(STATION, self.BEGIN, self.END)), [
             "joined at two mileages: switch W1 (km 12.310) and the begin of track track4 (km 12.300); drawn at the first. "
             "1 more is no further apart"])
