@@ -6,6 +6,7 @@ import subprocess
 from collections import Counter
 
 from tool import files, railml, running, words
+from tool.law_words import kilometres
 from tool.notes import Note
 from tool.places import of_line
 from tool.railml import Document, Element
@@ -241,6 +242,27 @@ def bent_tracks(document: Document) -> list[str]:
     return found
 
 
+def two_mileages(document: Document) -> list[str]:
+    """where a track's end and what it is joined to have two mileages: the two that are furthest apart, and how many more differ"""
+    graph, found = TrackGraph(document), []
+    for end in (railml.end_of(track, name) for track in document.tracks() for name in railml.ENDS):
+        places = (graph.node(end), end) if end else ()
+        mileages = [railml.mileage(it) for it in places]
+        if mileages and None not in mileages and mileages[0] != mileages[1]:
+            found.append((abs(mileages[0] - mileages[1]), places))
+    if not found:
+        return []
+    drawn, other = (with_kilometre(it) for it in max(found, key=lambda it: it[0])[1])
+    more = len(found) - 1
+    counted = f". {more} more {'is' if more == 1 else 'are'} no further apart" if more else ""
+    return [f"joined at two mileages: {drawn} and {other}; drawn at the first{counted}"]
+
+
+def with_kilometre(it: Element) -> str:
+    """an element in words, with its mileage; that of -0 is 0"""
+    return f"{railml.what(it)} (km {kilometres(f'{railml.mileage(it) + 0:f}')})"
+
+
 def passed_over(document: Document, command: str) -> list[str]:
     """what a track has besides its topology, by kinds; signals are drawn by signals"""
     kinds: Counter[str] = Counter()
@@ -311,7 +333,7 @@ def odd_picture(picture: str, said: list[str]) -> list[Note]:
 def not_shown(data: bytes, line: words.Line, said: list[str]) -> list[str]:
     """what a file has that the drawing of this answer doesn't show, for standard error and for pages"""
     document = railml.read(data)
-    found = slips(document) + bent_tracks(document) + prefixed(document, line.command)
+    found = slips(document) + bent_tracks(document) + two_mileages(document) + prefixed(document, line.command)
     return found + passed_over(document, line.command) + crowded_piece(document, line, said)
 
 

@@ -191,10 +191,12 @@ class Commands(unittest.TestCase):
         xml = (TOP / "examples/station.xml").read_text(encoding="utf-8")
         xml = xml.replace("<connections>", '<mileageChanges><mileageChange id="m"/></mileageChanges><connections>', 1)
         xml = xml.replace("</tracks>", "<x:track/></tracks>").replace("<switch ", '<switch trackContinueCourse="right" ', 1)
+        xml = xml.replace('pos="0" absPos="12520"', 'pos="0" absPos="19000"')
         page = page_of(["draw", "examples/station.xml"], (TOP / "examples/station.sheet").read_text(),
                        files={"examples/station.xml": xml.encode()})
         said = fact(page, "What the drawing doesn't show")
-        for piece in ("drawn straight.", "1 x:track has a prefix, so it is passed over.", "1 mileageChange"):
+        for piece in ("drawn straight.", "1 x:track has a prefix, so it is passed over.", "1 mileageChange",
+                      "switch W3 (km 12.520) and the begin of track track3 (km 19.000); drawn at the first."):
             self.assertIn(piece, said)
         plain = page_of(["draw", "examples/one.xml"], (TOP / "examples/one.sheet").read_text())
         self.assertNotIn("What the drawing doesn't show", [title for title, _ in plain.facts])

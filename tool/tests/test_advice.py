@@ -1,10 +1,13 @@
-"""What is said of an answer that is no fault: pictures that other programs may refuse."""
+"""What is said of an answer that is no fault: pictures that other programs may refuse, two mileages of what is joined."""
+import re
+import subprocess
 import tempfile
 import unittest
 from pathlib import Path
 from unittest import mock
 
 from tool import advice, words
+from tool.tests.places import PROGRAM, TOP
 
 
 class Pictures(unittest.TestCase):
@@ -128,6 +131,94 @@ class Larger(unittest.TestCase):
         said = self.said(self.row(41))
         self.assertIn("rows 0 to 8. 41 pieces of track lie one behind another, which takes 41 columns. A larger grid may do: ", said)
         self.assertTrue(said.endswith("draw f.xml --width 64 --height 12"), said)
+
+
+SHIFTED, STATION, CROSSED = "cases/stations/shifted.xml", "examples/station.xml", "cases/stations/crossed.xml"
+
+
+def edited(name, *edits):
+    """a station's text, in which each edit's text is replaced where it stands first"""
+    text = (TOP / name).read_text(encoding="utf-8")
+    for old, new in edits:
+        assert old in text, old
+        text = text.replace(old, new, 1)
+    return text
+
+
+def turned(text):
+    """the station with its tracks in the other order"""
+    before, *tracks, after = re.split(r"(<track .*?</track>)", text, flags=re.S)
+    return "".join([before, *tracks[::-1], after])
+
+
+class TwoMileages(unittest.TestCase):
+    # the edits of station.xml: the loop's begin, and the crossover's both ends
+    LOOP = ('absPos="12520"><connection id="track3.west"', 'absPos="19000"><connection id="track3.west"')
+    BEGIN = ('absPos="12310"><connection id="track4.west"', 'absPos="12300"><connection id="track4.west"')
+    END = ('absPos="12402.5"><connection id="track4.east"', 'absPos="12402.6"><connection id="track4.east"')
+    TRACKS = "joined at two mileages: the end of track a (km 0.600) and the begin of track b (km 0.610); drawn at the first"
+    SWITCH = "joined at two mileages: switch W3 (km 12.520) and the begin of track track3 (km 19.000); drawn at the first"
+
+    def said(self, text, command="draw"):
+        return advice.not_shown(text.encode(), words.read([command, "f"]), [])
+
+    def test_two_tracks(self):
+        for command in ("draw", "signals", "redraw"):
+            self.assertEqual(self.said(edited(SHIFTED), command), [self.TRACKS])
+
+    def test_the_end_that_is_listed_first_is_drawn(self):
+        self.assertEqual(self.said(turned(edited(SHIFTED))), [
+            "joined at two mileages: the begin of track b (km 0.610) and the end of track a (km 0.600); drawn at the first"])
+
+    def test_a_switch_is_drawn_whether_it_is_listed_first_or_not(self):
+        self.assertEqual(self.said(edited(STATION, self.LOOP)), [self.SWITCH])
+        self.assertEqual(self.said(turned(edited(STATION, self.LOOP))), [self.SWITCH])
+
+    def test_a_crossing(self):
+        self.assertEqual(self.said(edited(CROSSED, ('absPos="200"><connection id="sa"', 'absPos="230"><connection id="sa"'))), [
+            "joined at two mileages: crossing k (km 0.200) and the begin of track s (km 0.230); drawn at the first"])
+
+    def test_one_mileage(self):
+        for same in ("600", "600.000", " +600. "):
+            self.assertEqual(self.said(edited(SHIFTED, ('"610"', f'"{same}"'))), [])
+        for name in (STATION, CROSSED, "cases/stations/joints.xml"):
+            self.assertEqual(self.said(edited(name)), [])
+
+    def test_a_mileage_that_is_counted_from_the_begin(self):
+        said, = self.said(edited(STATION, (' absPos="13090"><connection id="track3.east"', '><connection id="track3.east"'), self.LOOP))
+        self.assertEqual(said, self.SWITCH + ". 1 more is no further apart")
+        self.assertEqual(self.said(edited(SHIFTED, ('pos="600"', 'pos="600" absPos="610"'))), [])
+
+    def test_the_furthest_apart_and_how_many_more(self):
+        self.assertEqual(self.said(edited(STATION, self.BEGIN, self.LOOP)), [self.SWITCH + ". 1 more is no further apart"])
+        self.assertEqual(self.said(turned(edited(STATION, self.BEGIN, self.END, self.LOOP))), [
+            self.SWITCH + ". 2 more are no further apart"])
+        self.assertEqual(self.said(edited(STATION, self.BEGIN, self.END)), [
+            "joined at two mileages: switch W1 (km 12.310) and the begin of track track4 (km 12.300); drawn at the first. "
+            "1 more is no further apart"])
+
+    def test_mileages_below_zero(self):
+        said, = self.said(edited(SHIFTED, ('"610"', '"-0"')))
+        self.assertIn("(km 0.600) and the begin of track b (km 0.000)", said)
+        said, = self.said(edited(SHIFTED, ('"610"', '"-12.5"')))
+        self.assertIn("(km 0.600) and the begin of track b (km -0.0125)", said)
+
+    def test_nothing_where_a_mileage_lacks(self):
+        self.assertEqual(self.said(edited(SHIFTED, (' absPos="610"', ""))), [])
+        self.assertEqual(self.said("<railml>"), [])
+
+    @unittest.skipUnless(PROGRAM.exists(), "there is no program")
+    def test_the_program_draws_at_the_first(self):
+        for text, node, other in ((edited(SHIFTED), "ae joint 600.000000", " 610.000000"),
+                                  (turned(edited(SHIFTED)), "bb joint 610.000000", " 600.000000"),
+                                  (edited(STATION, self.LOOP), "W3 switch east upper 12520.000000", " 19000.000000"),
+                                  (turned(edited(STATION, self.LOOP)), "W3 switch east upper 12520.000000", " 19000.000000")):
+            with tempfile.TemporaryDirectory() as folder:
+                path = Path(folder, "s.xml")
+                path.write_text(text, encoding="utf-8")
+                graph = subprocess.run([PROGRAM, "graph", path], capture_output=True, text=True).stdout
+            self.assertIn(f" {node}\n", graph)
+            self.assertNotIn(other, graph)
 
 
 if __name__ == "__main__":
