@@ -86,7 +86,7 @@ class Runs(Case):
         self.start("p.html", "--unproved", "draw", "a.xml", environment={"RAILPLAN_BUILD": "proved " + "d" * 64})
         self.assertNotIn("d" * 64, self.page())
         self.assertIn("a first look", self.page())
-        self.assertIn("--unproved draw a.xml", self.page())
+        self.assertIn("<span>--unproved</span> draw a.xml", self.page())
 
     def test_a_file_that_changes_during_the_search_changes_nothing(self) -> None:
         before = (self.base / "a.xml").read_bytes()
