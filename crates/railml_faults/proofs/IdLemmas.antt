@@ -5,15 +5,12 @@ use Rattle.std.proofs.lemmas.Bool.{cases_lt}
 use Rattle.std.proofs.lemmas.Option.{slice_get_read, same_Some, none-some}
 use Rattle.std.proofs.lemmas.Slice.Eq.{bytes_eq-Decides}
 use Rattle.std.specs.Borrow.{Bor}
-use Rattle.std.specs.BTreeMap.{BTreeMap, is_at}
-use Rattle.std.specs.Cmp.Lexicographic.{slice_cmp}
-use Rattle.std.specs.Ordering.{nat_cmp}
 use Rattle.std.specs.Map.{lookup}
 use Rattle.std.specs.Str.{bytes_eq}
 use Rattle.railml_read.specs.declared.rows.Elem.{Elem}
 use Rattle.railml_faults.specs.Rows.{bears_id, BearsId}
 use Rattle.railml_faults.specs.Faults.{Repeats}
-use Rattle.railml_faults.specs.Ids.{number_in, own_id, AddsId, IsKnownId, IsNewId, HasIdAt, KeepsIds}
+use Rattle.railml_faults.specs.Ids.{IdNumbers, number_in, own_id, AddsId, IsKnownId, IsNewId, HasIdAt, KeepsIds}
 
 pub row_at : (rows : List Elem) (n : ℕ) (row : Elem) → n < length rows → row ≡ get_or rows n row → slice_get rows n ≡ Some row
 row_at rows n row within is = slice_get_read rows (length rows) n row refl within is
@@ -32,7 +29,7 @@ later : (id_at : Elem → Option (List ℕ)) (rows : List Elem) (n j : ℕ) (id 
 later id_at rows n j id h = record { row = h.row; before = (let b = h.before in omega arith); is = h.is; has = h.has }
 
 -- what a row has is what it has as the last of the rows
-pub last_has : (id_at : Elem → Option (List ℕ)) (rows : List Elem) (n : ℕ) (row : Elem) → slice_get rows n ≡ Some row → (j : ℕ) (id : List ℕ) →
+last_has : (id_at : Elem → Option (List ℕ)) (rows : List Elem) (n : ℕ) (row : Elem) → slice_get rows n ≡ Some row → (j : ℕ) (id : List ℕ) →
     HasIdAt id_at rows (n + 1) j id → n ≤ j → id_at row ≡ Some id
 last_has id_at rows n row at j id h from =
     let before : j < n + 1 = h.before in
@@ -40,21 +37,21 @@ last_has id_at rows n row at j id h from =
     ap id_at (one_row rows n row h.row at (subst (λ k. slice_get rows k ≡ Some h.row) same h.is)) ∙ h.has
 
 -- any other has it among those before
-pub earlier_has : (id_at : Elem → Option (List ℕ)) (rows : List Elem) (n j : ℕ) (id : List ℕ) → HasIdAt id_at rows (n + 1) j id → j < n →
+earlier_has : (id_at : Elem → Option (List ℕ)) (rows : List Elem) (n j : ℕ) (id : List ℕ) → HasIdAt id_at rows (n + 1) j id → j < n →
     HasIdAt id_at rows n j id
 earlier_has id_at rows n j id h before = record { row = h.row; before = before; is = h.is; has = h.has }
 
 module _ (id_at : Elem → Option (List ℕ)) (rows : List Elem) where
-  pub keeps_start : (numbers : BTreeMap (Bor (List ℕ)) ℕ) → numbers.entries ≡ [] → KeepsIds id_at rows 0 numbers
+  pub keeps_start : (numbers : IdNumbers) → numbers.entries ≡ [] → KeepsIds id_at rows 0 numbers
   keeps_start numbers empty = record {
     found = λ id j at. absurd (none-some j (sym (none id) ∙ at));
     missed = λ id j at has. let before = has.before in absurd (omega arith);
   }
     where
       none : (id : List ℕ) → number_in numbers id ≡ None
-      none id = ap (lookup (is_at (λ (k : Bor (List ℕ)). slice_cmp nat_cmp id k.now))) empty
+      none id = ap (lookup (λ (k : Bor (List ℕ)). bytes_eq id k.now)) empty
 
-  pub keeps_more : (n : ℕ) (row : Elem) (old new : BTreeMap (Bor (List ℕ)) ℕ) → KeepsIds id_at rows n old → n < length rows → row ≡ get_or rows n row →
+  pub keeps_more : (n : ℕ) (row : Elem) (old new : IdNumbers) → KeepsIds id_at rows n old → n < length rows → row ≡ get_or rows n row →
       AddsId old new (id_at row) n → KeepsIds id_at rows (n + 1) new
   keeps_more n row old new kept within is adds = by (id_at row) refl adds
     where
@@ -103,10 +100,10 @@ module _ (id_at : Elem → Option (List ℕ)) (rows : List Elem) where
 bears : (rows : List Elem) (n j : ℕ) (id : List ℕ) → HasIdAt own_id rows n j id → BearsId rows j id
 bears rows n j id h = let parts = under (bears_id h.row.kind) h.row.attrs.id id h.has in record { row = h.row; is = h.is; bears = parts.0; has = parts.1 }
 
-pub owns : (rows : List Elem) (j : ℕ) (id : List ℕ) (h : BearsId rows j id) → own_id h.row ≡ Some id
+owns : (rows : List Elem) (j : ℕ) (id : List ℕ) (h : BearsId rows j id) → own_id h.row ≡ Some id
 owns rows j id h = ap (λ b. if b then h.row.attrs.id else None) h.bears ∙ h.has
 
-module _ (rows : List Elem) (n : ℕ) (row : Elem) (old : BTreeMap (Bor (List ℕ)) ℕ) (kept : KeepsIds own_id rows n old) (within : n < length rows)
+module _ (rows : List Elem) (n : ℕ) (row : Elem) (old : IdNumbers) (kept : KeepsIds own_id rows n old) (within : n < length rows)
     (is : row ≡ get_or rows n row) where
   pub repeats_again : IsKnownId old (own_id row) → Repeats rows n
   repeats_again again = by (own_id row) refl again

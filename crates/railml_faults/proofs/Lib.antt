@@ -9,6 +9,5 @@ pub mod LawLemmas
 pub mod PartLemmas
 pub mod OutsideLemmas
 pub mod IdLemmas
-pub mod DistinctLemmas
 pub mod ReferenceLemmas
 pub mod ChildLemmas

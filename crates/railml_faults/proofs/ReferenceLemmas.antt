@@ -3,15 +3,13 @@ use Rattle.std.proofs.Common.{◌≡◌, ◌⊎◌, ℕ, ◌<◌, ◌≤◌, Boo
 use Rattle.std.proofs.Common.{sym, ◌∙◌, ap, subst, inl, inr, arith, if◌then◌else◌}
 use Rattle.std.proofs.lemmas.Bool.{cases_lt}
 use Rattle.std.proofs.lemmas.Option.{same_Some, none-some, slice_get_within, slice_get-get_or}
-use Rattle.std.specs.Borrow.{Bor}
-use Rattle.std.specs.BTreeMap.{BTreeMap}
 use Rattle.std.specs.Option.{is_none, option_and_then}
 use Rattle.railml_read.specs.declared.rows.Elem.{Elem}
 use Rattle.railml_read.specs.declared.rows.ElemKind.{ElemKind}
 use Rattle.railml_read.specs.declared.rows.ElemKind.TheVariants.{Connection}
 use Rattle.railml_faults.specs.Rows.{same_kind, bears_id, id_of, BearsId, IsConnectionNamed}
 use Rattle.railml_faults.specs.Faults.{AreIdsDistinct, RefersTo, RefersToNone, IsNotReferredBack}
-use Rattle.railml_faults.specs.Ids.{number_in, connection_id, reference_of, HasIdAt, KeepsIds}
+use Rattle.railml_faults.specs.Ids.{IdNumbers, number_in, connection_id, reference_of, HasIdAt, KeepsIds}
 use Rattle.railml_faults.specs.Tables.{IsReferredTo, IsTargetOf, HasTargets, IsNotAnswered}
 use Rattle.railml_faults.proofs.IdLemmas.{one_row, row_at, under}
 
@@ -40,7 +38,7 @@ names row id kind has = ap (λ k. if same_kind k Connection then row.attrs.id el
 
 -- ---- the table of what is referred to
 
-pub target_entry : (rows : List Elem) (numbers : BTreeMap (Bor (List ℕ)) ℕ) (row : Elem) (target : Option ℕ) →
+pub target_entry : (rows : List Elem) (numbers : IdNumbers) (row : Elem) (target : Option ℕ) →
     KeepsIds connection_id rows (length rows) numbers → target ≡ option_and_then (number_in numbers) (reference_of row) → IsTargetOf rows row target
 target_entry rows numbers row target kept is = subst (IsTargetOf rows row) (sym is) (by (reference_of row) refl)
   where

@@ -1,21 +1,23 @@
--- Ids: which row's number an id is kept with, and ids that are listed to be told apart.
+-- Ids: which row's number an id is kept with.
 -- Private contracts alone cite this module.
-use Rattle.std.specs.Prelude.{◌≡◌, ◌≢◌, ◌<◌, ℕ, if◌then◌else◌, List, [], ◌∷◌, ◌++◌, Option, Some, None, bytes_eq}
-use Rattle.std.specs.Prelude.{slice_get, AllPairs, Contains, ⊤}
+use Rattle.std.specs.Prelude.{◌≡◌, ◌<◌, ℕ, if◌then◌else◌, List, Option, Some, None, bytes_eq, slice_get, ⊤}
 use Rattle.std.specs.Borrow.{Bor}
-use Rattle.std.specs.BTreeMap.{BTreeMap, get_by}
-use Rattle.std.specs.Cmp.Lexicographic.{slice_cmp}
-use Rattle.std.specs.Ordering.{nat_cmp}
+use Rattle.indexmap.specs.IndexMap.{IndexMap, get_by}
 use Rattle.railml_read.specs.declared.rows.Elem.{Elem}
 use Rattle.railml_read.specs.declared.rows.ElemKind.TheVariants.{Connection}
+use Rattle.railml_faults.specs.declared.hashes.IdHashes.{IdHashes}
 use Rattle.railml_faults.specs.Rows.{same_kind, bears_id}
 
+-- numbers of rows by their ids
+abbrev pub IdNumbers : Type 0
+IdNumbers = IndexMap (Bor (List ℕ)) ℕ IdHashes
+
 -- the number that an id is kept with
-abbrev pub number_in : BTreeMap (Bor (List ℕ)) ℕ → List ℕ → Option ℕ
-number_in numbers id = get_by (λ k. slice_cmp nat_cmp id k.now) numbers
+abbrev pub number_in : IdNumbers → List ℕ → Option ℕ
+number_in numbers id = get_by (λ k. bytes_eq id k.now) numbers
 
 -- one id has this number from now on, and each other the number that it had
-abbrev pub KeepsNumber : BTreeMap (Bor (List ℕ)) ℕ → BTreeMap (Bor (List ℕ)) ℕ → List ℕ → ℕ → Type 0
+abbrev pub KeepsNumber : IdNumbers → IdNumbers → List ℕ → ℕ → Type 0
 KeepsNumber old new id number = (q : List ℕ) → number_in new q
     ≡ (if bytes_eq id q then Some number else number_in old q)
 
@@ -32,16 +34,16 @@ abbrev pub reference_of : Elem → Option (List ℕ)
 reference_of row = if same_kind row.kind Connection then row.attrs.reference else None
 
 -- a row's id, if it has one, has this number from now on
-abbrev pub AddsId : BTreeMap (Bor (List ℕ)) ℕ → BTreeMap (Bor (List ℕ)) ℕ → Option (List ℕ) → ℕ → Type 0
+abbrev pub AddsId : IdNumbers → IdNumbers → Option (List ℕ) → ℕ → Type 0
 AddsId old new None number = (q : List ℕ) → number_in new q ≡ number_in old q
 AddsId old new (Some id) number = KeepsNumber old new id number
 
 -- there is an id, and it is kept; where there is one, it isn't
-abbrev pub IsKnownId : BTreeMap (Bor (List ℕ)) ℕ → Option (List ℕ) → Type 0
+abbrev pub IsKnownId : IdNumbers → Option (List ℕ) → Type 0
 IsKnownId numbers None = ⊥
 IsKnownId numbers (Some id) = (j : ℕ) × (number_in numbers id ≡ Some j)
 
-abbrev pub IsNewId : BTreeMap (Bor (List ℕ)) ℕ → Option (List ℕ) → Type 0
+abbrev pub IsNewId : IdNumbers → Option (List ℕ) → Type 0
 IsNewId numbers None = ⊤
 IsNewId numbers (Some id) = number_in numbers id ≡ None
 
@@ -53,38 +55,6 @@ pub record HasIdAt (id_at : Elem → Option (List ℕ)) (rows : List Elem) (n j 
   pub has : id_at row ≡ Some id
 
 -- ids of the first n rows are kept with the number of a row that has them, and no id is left out
-pub record KeepsIds (id_at : Elem → Option (List ℕ)) (rows : List Elem) (n : ℕ) (numbers : BTreeMap (Bor (List ℕ)) ℕ) :
-    Type 0 where
+pub record KeepsIds (id_at : Elem → Option (List ℕ)) (rows : List Elem) (n : ℕ) (numbers : IdNumbers) : Type 0 where
   pub found : (id : List ℕ) (j : ℕ) → number_in numbers id ≡ Some j → HasIdAt id_at rows n j id
   pub missed : (id : List ℕ) (j : ℕ) → number_in numbers id ≡ None → HasIdAt id_at rows n j id → ⊥
-
--- ---- ids that are listed
-
--- an id with its front and with the number of a row
-abbrev pub ListedId : Type 0
-ListedId = ℕ × Bor (List ℕ) × ℕ
-
--- the text of such an id
-abbrev pub text_of : ListedId → List ℕ
-text_of id = id.1.now
-
--- a row's id, if it has one, is listed with this number behind the others
-abbrev pub ListsOneMore : List ListedId → List ListedId → Option (List ℕ) → ℕ → Type 0
-ListsOneMore old new None number = new ≡ old
-ListsOneMore old new (Some id) number = (one : ListedId) × (new ≡ old ++ one ∷ [])
-    × (text_of one ≡ id) × (one.2 ≡ number)
-
--- an id is listed with this number
-pub record IsListedAs (ids : List ListedId) (id : List ℕ) (number : ℕ) : Type 0 where
-  pub one : ListedId
-  pub there : Contains ids one
-  pub text : text_of one ≡ id
-  pub numbered : one.2 ≡ number
-
--- the ids of the first n rows are listed with the rows' numbers
-abbrev pub ListsIds : List Elem → ℕ → List ListedId → Type 0
-ListsIds rows n ids = (j : ℕ) (id : List ℕ) → HasIdAt own_id rows n j id → IsListedAs ids id j
-
--- no text is listed twice
-abbrev pub AreTextsDistinct : List ListedId → Type 0
-AreTextsDistinct ids = AllPairs (λ (a b : ListedId). text_of a ≢ text_of b) ids

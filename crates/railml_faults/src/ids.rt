@@ -8,16 +8,15 @@ ghost use Rattle.railml_faults.specs.Ids.{number_in, KeepsNumber, AddsId, IsKnow
 ghost use Rattle.railml_faults.specs.Ids.{connection_id as id_of_connection, reference_of as reference, KeepsIds};
 ghost use Rattle.plan_core.specs.Searching.{FindsFirst};
 
-use crate::distinct_ids::are_ids_distinct;
+use crate::hashes::IdHashes;
 use crate::rows::{bears_id, is_kind};
+use indexmap::IndexMap;
 use plan_core::OutOfMemory;
 use railml_read::{Elem, ElemKind};
 use std::alloc::Global;
-use std::collections::BTreeMap;
 
-/// Numbers of rows by their ids. The ids come from a file, so they are ordered, and never hashed: whoever
-/// writes a file could give all of them one hash.
-pub(crate) type IdNumbers<'a> = BTreeMap<&'a str, u32>;
+/// Numbers of rows by their ids.
+pub(crate) type IdNumbers<'a> = IndexMap<&'a str, u32, IdHashes>;
 
 /// The number that an id is kept with.
 pub(crate) fn number_of(numbers: &IdNumbers<'_>, id: &str) -> Option<u32>
@@ -99,19 +98,7 @@ pub(crate) fn first_repeated(alloc: Global, rows: &[Elem]) -> Result<Option<usiz
     requires { AreFormed rows.now }
     ensures { IfOk result (λ found. FindsFirst (λ i _. Repeats rows.now i) rows.now found) }
 {
-    // Ids are sorted sooner than they are kept one by one, and hardly ever is one repeated.
-    if are_ids_distinct(alloc, rows)? {
-        return Ok(None);
-    }
-    first_kept_again(alloc, rows)
-}
-
-/// The first row whose id an earlier row bears, by keeping the ids one by one until one is kept already.
-fn first_kept_again(alloc: Global, rows: &[Elem]) -> Result<Option<usize>, OutOfMemory>
-    requires { AreFormed rows.now }
-    ensures { IfOk result (λ found. FindsFirst (λ i _. Repeats rows.now i) rows.now found) }
-{
-    let mut numbers = IdNumbers::new(alloc);
+    let mut numbers = IdNumbers::with_hasher(alloc, IdHashes::of(rows));
     for (i, row) in rows.iter().enumerate() {
         if keep_own(&mut numbers, row, i as u32)? {
             return Ok(Some(i));
@@ -142,7 +129,7 @@ pub(crate) fn connection_numbers(alloc: Global, rows: &[Elem]) -> Result<IdNumbe
     requires { AreFormed rows.now }
     ensures { IfOk result (λ numbers. KeepsIds id_of_connection rows.now (length rows.now) numbers) }
 {
-    let mut numbers = IdNumbers::new(alloc);
+    let mut numbers = IdNumbers::with_hasher(alloc, IdHashes::of(rows));
     for (i, row) in rows.iter().enumerate() {
         keep_connection(&mut numbers, row, i as u32)?;
     }

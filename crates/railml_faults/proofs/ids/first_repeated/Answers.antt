@@ -1,7 +1,7 @@
 use Rattle.railml_faults.specs.Ids.{own_id}
 use Rattle.railml_faults.proofs.IdLemmas.{keeps_more, repeats_again, repeats_none}
 use Rattle.plan_core.proofs.SearchLemmas.{found_first, none_more}
-use Rattle.railml_faults.proofs.ids.first_kept_again.Goals as goal
+use Rattle.railml_faults.proofs.ids.first_repeated.Goals as goal
 
 pub returns-then-branch : goal.returns-then-branch
 returns-then-branch c =

@@ -1,7 +1,7 @@
 use Rattle.railml_faults.specs.Faults.{Repeats}
 use Rattle.railml_faults.specs.Ids.{own_id, KeepsIds}
 use Rattle.plan_core.specs.Searching.{NoneBefore}
-use Rattle.railml_faults.proofs.ids.first_kept_again.Given as goal
+use Rattle.railml_faults.proofs.ids.first_repeated.Given as goal
 
 abbrev pub invariant-loop-i : goal.invariant-loop-i
 invariant-loop-i l = record {
