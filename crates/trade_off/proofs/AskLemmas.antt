@@ -1,6 +1,7 @@
 -- What answers to questions say, and what questions tell.
-use Rattle.std.proofs.Common.{◌≡◌, ◌≢◌, ℕ, ◌<◌, ◌≤◌, ◌⊎◌, List, [], ◌∷◌, ◌++◌, refl, sym, subst, inl, inr, arith, append-nil, append_assoc}
-use Rattle.std.specs.Prelude.{Any, Contains, Some, None, Option, MatchOption, ⊤}
+use Rattle.std.proofs.Common.{◌≡◌, ◌≢◌, ℕ, ◌<◌, ◌≤◌, ◌⊎◌, List, [], ◌∷◌, ◌++◌, refl, sym, ◌∙◌, ap, subst, inl, inr, arith, append-nil, append_assoc}
+use Rattle.std.specs.Prelude.{Any, Contains, Some, None, Option, MatchOption, ⊤, fold, map}
+use Rattle.std.proofs.lemmas.Grind.{fold-append}
 use Rattle.std.proofs.lemmas.List.Elements.{All-push, All-contains, Contains-append_left, All-contains_itself, All-weaker}
 use Rattle.std.proofs.lemmas.List.Quantifiers.{all_pairs_push}
 use Rattle.plan_core.specs.declared.criterion.Criterion.{Criterion}
@@ -8,10 +9,10 @@ use Rattle.plan_core.specs.Values.{values_of, value_of}
 use Rattle.plan_core.specs.Drawing.{Drawing}
 use Rattle.cnf_core.specs.Lit.{Literal}
 use Rattle.cnf_core.proofs.QuantifierLemmas.{some_from_satisfies}
-use Rattle.refute_log.specs.declared.line.LogLine.TheVariants.{Refuted as RefutedLine, Model}
+use Rattle.refute_log.specs.declared.line.LogLine.TheVariants.{Learnt, Query, Refuted as RefutedLine, Model}
 use Rattle.refute_log.specs.Told.{Lines}
 use Rattle.refute_log.specs.Cause.{IsCause}
-use Rattle.refute_log.specs.Log.{Derives, clause_lines}
+use Rattle.refute_log.specs.Log.{Derives, asked, clause_lines}
 use Rattle.refute_log.specs.Bounds.{SaysAtLeast, MeetsLog, CoversDrawings}
 use Rattle.refute_log.proofs.CertifiedLemmas.{refuted_holds, reached, says_more}
 use Rattle.search_least.specs.declared.oracle.Below.{Below}
@@ -20,13 +21,13 @@ use Rattle.search_least.specs.declared.oracle.Reply.TheVariants.{Found, Refuted,
 use Rattle.refute_log.specs.declared.stop.Stop.{Stop}
 use Rattle.search_least.specs.Task.{Task, IsLawful, greatest_of}
 use Rattle.refute_log.specs.Steps.{ToldBehind, Continues, KnowsSome}
-use Rattle.search_least.specs.Asked.{below_limit, AreMet, AreOnce, AreAgainst, IsReply, IsRightReply}
+use Rattle.search_least.specs.Asked.{below_limit, AreMet, AreOnce, AreAgainst, IsAsked, IsReply, IsRightReply}
 use Rattle.refute_log.proofs.StepLemmas.{stays, goes_on, becomes}
-use Rattle.search_least.proofs.QuestionLemmas.{ends_in, no_clauses_both, asks_no_clauses}
+use Rattle.search_least.proofs.QuestionLemmas.{ends_in, no_clauses_both, asks_no_clauses, negated_longer, query_stays}
 use Rattle.search_least.proofs.RunLemmas.{Laws}
 use Rattle.search_least.specs.Placed.{AreUnderBounds}
 use Rattle.search_least.proofs.PlacedLemmas.{asked_under_bounds}
-use Rattle.trade_off.specs.Least.{IsLeastUnder, NoneMeets, AreBeside, AreAsked}
+use Rattle.trade_off.specs.Least.{IsLeastUnder, NoneMeets, AreBeside, AsksUnder, AreAsked}
 
 pub less_or_more : (i j : ℕ) → (i ≤ j) ⊎ (j < i)
 less_or_more i j = grind arith
@@ -92,30 +93,67 @@ once_with held bounds c u is h = subst AreOnce (sym is) (all_pairs_push (λ (x y
 
 -- ---- what a run of questions tells
 
-pub asked_none : {S : Type 0} (knows log : S → Lines → Type 0) (count : S → ℕ) (s : S) (p : Task) → Continues knows log count s s (AreAsked p None)
-asked_none knows log count s p = stays knows log count s (AreAsked p None) (λ lines k. record {
+pub asked_none : {S : Type 0} (knows log : S → Lines → Type 0) (count : S → ℕ) (s : S) (p : Task) (Such : Task → List Below → Type 0) →
+    Continues knows log count s s (AreAsked p Such None)
+asked_none knows log count s p Such = stays knows log count s (AreAsked p Such None) (λ lines k. record {
   none = refl;
   placed = subst (AreUnderBounds p) (sym (append-nil lines));
   cause = tt;
 })
 
-asked_both : (p : Task) (stop : Option Stop) (lines xs ys : Lines) → AreAsked p None lines xs → AreAsked p stop (lines ++ xs) ys →
-    AreAsked p stop lines (xs ++ ys)
-asked_both p stop lines xs ys f g =
+asked_both : (p : Task) (First Such : Task → List Below → Type 0) (stop : Option Stop) (lines xs ys : Lines) → AreAsked p First None lines xs →
+    AreAsked p Such stop (lines ++ xs) ys → AreAsked p Such stop lines (xs ++ ys)
+asked_both p First Such stop lines xs ys f g =
     let same : (lines ++ xs) ++ ys ≡ lines ++ (xs ++ ys) = append_assoc lines xs ys in
     record {
       none = no_clauses_both xs ys f.none g.none;
       placed = λ h. subst (AreUnderBounds p) same (g.placed (f.placed h));
       cause = subst
-          (λ (ls : Lines). MatchOption stop ⊤ (λ s. IsCause p.budget p.room s ls)) same g.cause;
+          (λ (ls : Lines). MatchOption stop ⊤ (λ s. IsCause p.budget p.room s ls × AsksUnder (Such p) ls)) same g.cause;
     }
 
-pub asked_then : {S : Type 0} (knows log : S → Lines → Type 0) (count : S → ℕ) (a b e : S) (q p : Task) (stop : Option Stop) → q ≡ p →
-    Continues knows log count a b (AreAsked p None) → Continues knows log count b e (AreAsked q stop) → Continues knows log count a e (AreAsked p stop)
-asked_then knows log count a b e q p stop same f g =
-    goes_on knows log count a b e (AreAsked p None) (AreAsked p stop) (AreAsked p stop) f
-    (subst (λ (x : Task). Continues knows log count b e (AreAsked x stop)) same g)
-    (λ lines xs ys ka kb ke h k. asked_both p stop lines xs ys h k)
+pub asked_then : {S : Type 0} (knows log : S → Lines → Type 0) (count : S → ℕ) (a b e : S) (q p : Task) (First Such : Task → List Below → Type 0)
+    (stop : Option Stop) → q ≡ p →
+    Continues knows log count a b (AreAsked p First None) → Continues knows log count b e (AreAsked q Such stop) →
+    Continues knows log count a e (AreAsked p Such stop)
+asked_then knows log count a b e q p First Such stop same f g =
+    goes_on knows log count a b e (AreAsked p First None) (AreAsked p Such stop) (AreAsked p Such stop) f
+    (subst (λ (x : Task). Continues knows log count b e (AreAsked x Such stop)) same g)
+    (λ lines xs ys ka kb ke h k. asked_both p First Such stop lines xs ys h k)
+
+-- such bounds are others too
+pub asked_weaker : {S : Type 0} (knows log : S → Lines → Type 0) (count : S → ℕ) (a b : S) (p : Task) (Such Other : Task → List Below → Type 0)
+    (stop : Option Stop) → ((bounds : List Below) → Such p bounds → Other p bounds) →
+    Continues knows log count a b (AreAsked p Such stop) → Continues knows log count a b (AreAsked p Other stop)
+asked_weaker knows log count a b p Such Other stop weaker run =
+    becomes knows log count a b (AreAsked p Such stop) (AreAsked p Other stop) run (λ lines xs ka kb h. record {
+      none = h.none;
+      placed = h.placed;
+      cause = by stop (lines ++ xs) h.cause;
+    })
+  where
+    by : (stop : Option Stop) (lines : Lines) → MatchOption stop ⊤ (λ s. IsCause p.budget p.room s lines × AsksUnder (Such p) lines) →
+        MatchOption stop ⊤ (λ s. IsCause p.budget p.room s lines × AsksUnder (Other p) lines)
+    by None lines h = tt
+    by (Some s) lines h = (
+      h.0,
+      record {
+        bounds = h.1.bounds;
+        such = weaker h.1.bounds h.1.such;
+        query = h.1.query;
+        negated = h.1.negated;
+        latest = h.1.latest;
+      },
+    )
+
+-- without a stop nothing is said of them
+pub asked_on : {S : Type 0} (knows log : S → Lines → Type 0) (count : S → ℕ) (a b : S) (p : Task) (Such Other : Task → List Below → Type 0) →
+    Continues knows log count a b (AreAsked p Such None) → Continues knows log count a b (AreAsked p Other None)
+asked_on knows log count a b p Such Other run = becomes knows log count a b (AreAsked p Such None) (AreAsked p Other None) run (λ lines xs ka kb h. record {
+  none = h.none;
+  placed = h.placed;
+  cause = tt;
+})
 
 -- ---- one question
 
@@ -129,45 +167,58 @@ reply_stop (Found d) = None
 reply_stop Refuted = None
 reply_stop (Stopped stop) = Some stop
 
-reply_cause : (p : Task) (lines : Lines) (bounds : List Below) (reply : Reply) (more : Lines) → IsReply p lines bounds reply more →
-    MatchOption (reply_stop reply) ⊤ (λ s. IsCause p.budget p.room s (lines ++ more))
-reply_cause p lines bounds (Found d) more h = tt
-reply_cause p lines bounds Refuted more h = tt
-reply_cause p lines bounds (Stopped stop) more h = h.1
+reply_cause : (p : Task) (Such : List Below → Type 0) (lines : Lines) (bounds : List Below) (reply : Reply) (more : Lines) → Such bounds →
+    IsReply p lines bounds reply more →
+    MatchOption (reply_stop reply) ⊤ (λ s. IsCause p.budget p.room s (lines ++ more) × AsksUnder Such (lines ++ more))
+reply_cause p Such lines bounds (Found d) more such h = tt
+reply_cause p Such lines bounds Refuted more such h = tt
+reply_cause p Such lines bounds (Stopped stop) more such h =
+    let a : IsAsked lines bounds [] more = h.0 in (
+      h.1,
+      record {
+        bounds = bounds;
+        such = such;
+        query = a.query;
+        negated = negated_longer lines more bounds a.query a.negated;
+        latest = fold-append asked None lines more ∙ ap (fold asked (fold asked None lines))
+            (a.is ∙ ap (λ (ls : Lines). Query a.query ∷ ls) (append-nil (map Learnt a.clauses))) ∙ query_stays (Some a.query) a.clauses;
+      },
+    )
 
--- its bounds are of different criteria, and its answer is right, of the task that has another name
-pub record IsOneAsked (q p : Task) (bounds : List Below) (reply : Reply) : Type 0 where
+-- its bounds are such, and of different criteria, and its answer is right, of the task that has another name
+pub record IsOneAsked (q p : Task) (Such : Task → List Below → Type 0) (bounds : List Below) (reply : Reply) : Type 0 where
   pub same : q ≡ p
+  pub such : Such q bounds
   pub once : AreOnce bounds
   pub right : IsRightReply q bounds reply
 
-asks : {S : Type 0} (knows log : S → Lines → Type 0) (count : S → ℕ) (a e : S) (q p : Task) (bounds : List Below) (reply : Reply) →
-    IsOneAsked q p bounds reply →
-    Continues knows log count a e (λ lines more. IsReply q lines bounds reply more) → Continues knows log count a e (AreAsked p (reply_stop reply))
-asks knows log count a e q p bounds reply one asked =
-    subst (λ (x : Task). Continues knows log count a e (AreAsked x (reply_stop reply))) one.same
-    (becomes knows log count a e (λ lines more. IsReply q lines bounds reply more) (AreAsked q (reply_stop reply)) asked
+asks : {S : Type 0} (knows log : S → Lines → Type 0) (count : S → ℕ) (a e : S) (q p : Task) (Such : Task → List Below → Type 0) (bounds : List Below)
+    (reply : Reply) → IsOneAsked q p Such bounds reply →
+    Continues knows log count a e (λ lines more. IsReply q lines bounds reply more) → Continues knows log count a e (AreAsked p Such (reply_stop reply))
+asks knows log count a e q p Such bounds reply one asked =
+    subst (λ (x : Task). Continues knows log count a e (AreAsked x Such (reply_stop reply))) one.same
+    (becomes knows log count a e (λ lines more. IsReply q lines bounds reply more) (AreAsked q Such (reply_stop reply)) asked
     (λ lines xs ka ke h. record {
       none = reply_clauses q lines bounds reply xs h;
       placed = asked_under_bounds q lines bounds reply xs one.once one.right h;
-      cause = reply_cause q lines
-          bounds reply xs h;
+      cause = reply_cause q (Such q)
+          lines bounds reply xs one.such h;
     }))
 
-pub asks_found : {S : Type 0} (knows log : S → Lines → Type 0) (count : S → ℕ) (a e : S) (q p : Task) (bounds : List Below) (reply : Reply) (d : Drawing) →
-    IsOneAsked q p bounds reply → reply ≡ Found d →
-    Continues knows log count a e (λ lines more. IsReply q lines bounds reply more) → Continues knows log count a e (AreAsked p None)
-asks_found knows log count a e q p bounds reply d one was asked = subst (λ (r : Reply). Continues knows log count a e (AreAsked p (reply_stop r))) was
-    (asks knows log count a e q p bounds reply one asked)
+pub asks_found : {S : Type 0} (knows log : S → Lines → Type 0) (count : S → ℕ) (a e : S) (q p : Task) (Such : Task → List Below → Type 0) (bounds : List Below)
+    (reply : Reply) (d : Drawing) → IsOneAsked q p Such bounds reply → reply ≡ Found d →
+    Continues knows log count a e (λ lines more. IsReply q lines bounds reply more) → Continues knows log count a e (AreAsked p Such None)
+asks_found knows log count a e q p Such bounds reply d one was asked = subst (λ (r : Reply). Continues knows log count a e (AreAsked p Such (reply_stop r))) was
+    (asks knows log count a e q p Such bounds reply one asked)
 
-pub asks_refuted : {S : Type 0} (knows log : S → Lines → Type 0) (count : S → ℕ) (a e : S) (q p : Task) (bounds : List Below) (reply : Reply) →
-    IsOneAsked q p bounds reply → reply ≡ Refuted →
-    Continues knows log count a e (λ lines more. IsReply q lines bounds reply more) → Continues knows log count a e (AreAsked p None)
-asks_refuted knows log count a e q p bounds reply one was asked = subst (λ (r : Reply). Continues knows log count a e (AreAsked p (reply_stop r))) was
-    (asks knows log count a e q p bounds reply one asked)
+pub asks_refuted : {S : Type 0} (knows log : S → Lines → Type 0) (count : S → ℕ) (a e : S) (q p : Task) (Such : Task → List Below → Type 0)
+    (bounds : List Below) (reply : Reply) → IsOneAsked q p Such bounds reply → reply ≡ Refuted →
+    Continues knows log count a e (λ lines more. IsReply q lines bounds reply more) → Continues knows log count a e (AreAsked p Such None)
+asks_refuted knows log count a e q p Such bounds reply one was asked = subst (λ (r : Reply). Continues knows log count a e (AreAsked p Such (reply_stop r))) was
+    (asks knows log count a e q p Such bounds reply one asked)
 
-pub asks_stopped : {S : Type 0} (knows log : S → Lines → Type 0) (count : S → ℕ) (a e : S) (q p : Task) (bounds : List Below) (reply : Reply) (stop : Stop) →
-    IsOneAsked q p bounds reply → reply ≡ Stopped stop →
-    Continues knows log count a e (λ lines more. IsReply q lines bounds reply more) → Continues knows log count a e (AreAsked p (Some stop))
-asks_stopped knows log count a e q p bounds reply stop one was asked = subst (λ (r : Reply). Continues knows log count a e (AreAsked p (reply_stop r))) was
-    (asks knows log count a e q p bounds reply one asked)
+pub asks_stopped : {S : Type 0} (knows log : S → Lines → Type 0) (count : S → ℕ) (a e : S) (q p : Task) (Such : Task → List Below → Type 0)
+    (bounds : List Below) (reply : Reply) (stop : Stop) → IsOneAsked q p Such bounds reply → reply ≡ Stopped stop →
+    Continues knows log count a e (λ lines more. IsReply q lines bounds reply more) → Continues knows log count a e (AreAsked p Such (Some stop))
+asks_stopped knows log count a e q p Such bounds reply stop one was asked = subst
+    (λ (r : Reply). Continues knows log count a e (AreAsked p Such (reply_stop r))) was (asks knows log count a e q p Such bounds reply one asked)

@@ -24,14 +24,15 @@ use Rattle.trade_off.proofs.AskLemmas.{reply_clauses}
 -- ---- questions tell no clauses
 
 -- an error behind questions: in a later call, or in one that tells nothing
-pub asked_later : {S : Type 0} (knows log : S → Lines → Type 0) (count : S → ℕ) (a b e : S) (p : Task) (stop : Option Stop) →
-    Continues knows log count a b (AreAsked p stop) → Leaves [] (knows b) (log b) (log e) → Leaves [] (knows a) (log a) (log e)
-asked_later knows log count a b e p stop run after = leaves_later knows log count a b e (AreAsked p stop) [] [] run (λ lines more h. h.none) after
+pub asked_later : {S : Type 0} (knows log : S → Lines → Type 0) (count : S → ℕ) (a b e : S) (p : Task) (Such : Task → List Below → Type 0) (stop : Option Stop)
+    →
+    Continues knows log count a b (AreAsked p Such stop) → Leaves [] (knows b) (log b) (log e) → Leaves [] (knows a) (log a) (log e)
+asked_later knows log count a b e p Such stop run after = leaves_later knows log count a b e (AreAsked p Such stop) [] [] run (λ lines more h. h.none) after
 
-pub asked_here : {S : Type 0} (knows log : S → Lines → Type 0) (count : S → ℕ) (a b : S) (p : Task) (stop : Option Stop) →
-    Continues knows log count a b (AreAsked p stop) → ((lines : Lines) → knows b lines → Derives lines) → ((x y : Lines) → log b x → log b y → x ≡ y) →
+pub asked_here : {S : Type 0} (knows log : S → Lines → Type 0) (count : S → ℕ) (a b : S) (p : Task) (Such : Task → List Below → Type 0) (stop : Option Stop) →
+    Continues knows log count a b (AreAsked p Such stop) → ((lines : Lines) → knows b lines → Derives lines) → ((x y : Lines) → log b x → log b y → x ≡ y) →
     Leaves [] (knows a) (log a) (log b)
-asked_here knows log count a b p stop run derives one = leaves_here knows log count a b (AreAsked p stop) run (λ lines more h. h.none) derives one
+asked_here knows log count a b p Such stop run derives one = leaves_here knows log count a b (AreAsked p Such stop) run (λ lines more h. h.none) derives one
 
 pub replied_later : {S : Type 0} (knows log : S → Lines → Type 0) (count : S → ℕ) (a b e : S) (p : Task) (bounds : List Below) (reply : Reply) →
     Continues knows log count a b (λ lines more. IsReply p lines bounds reply more) → Leaves [] (knows b) (log b) (log e) → Leaves [] (knows a) (log a) (log e)

@@ -1,5 +1,5 @@
 -- The lines of a search for the front.
-use Rattle.std.proofs.Common.{◌≡◌, ◌≢◌, ℕ, ◌+◌, ◌<◌, ◌≤◌, Bool, true, false, cond, [], ◌∷◌, ◌++◌, length, refl, sym, ◌∙◌, ap, subst, inl, inr, arith}
+use Rattle.std.proofs.Common.{◌≡◌, ◌≢◌, ℕ, ◌+◌, ◌<◌, ◌≤◌, Bool, true, false, cond, List, [], ◌∷◌, ◌++◌, length, refl, sym, ◌∙◌, ap, subst, inl, inr, arith}
 use Rattle.std.proofs.Common.{append-nil, append_assoc}
 use Rattle.std.specs.Prelude.{Some, None, Option, flat_map}
 use Rattle.std.proofs.lemmas.Grind.{flat_map-append}
@@ -28,7 +28,10 @@ use Rattle.trade_off.specs.declared.outcome.FrontEnd.TheVariants.{Whole, Empty, 
 use Rattle.search_least.specs.Placed.{AreUnderBounds}
 use Rattle.search_least.proofs.PlacedLemmas.{sums_under_bounds, first_under_bounds}
 use Rattle.trade_off.specs.Least.{AreAsked}
-use Rattle.trade_off.specs.Outcome.{front_lines, IsFrontCause, IsFrontLog, IsBuiltFront, stop_behind}
+use Rattle.trade_off.specs.Outcome.{front_lines, AsksBehind, IsFrontCause, IsFrontLog, IsBuiltFront, stop_behind}
+use Rattle.trade_off.specs.Front.{Pairs}
+use Rattle.trade_off.specs.Next.{AsksNext, limit_behind}
+use Rattle.search_least.specs.declared.oracle.Below.{Below}
 
 -- ---- the lines of both criteria
 
@@ -189,10 +192,10 @@ pub record FrontLaws {S : Type 0} (knows : S → Lines → Type 0) (s : S) (p : 
 pub laws_at : {S : Type 0} (knows : S → Lines → Type 0) (s : S) (q p : Task) → q ≡ p → FrontLaws knows s q → FrontLaws knows s p
 laws_at knows s q p same laws = subst (FrontLaws knows s) same laws
 
-front_log : {S : Type 0} (knows : S → Lines → Type 0) (s : S) (p : Task) (a b : Criterion) (ending : FrontEnd) (lines : Lines) → FrontLaws knows s p →
-    knows s lines → BeginsLines (clause_lines lines) (front_lines p a b) →
-    AreUnderBounds p lines → IsFrontCause p a b ending lines → IsFrontLog p a b ending lines
-front_log knows s p a b ending lines laws k begins placed cause = record {
+front_log : {S : Type 0} (knows : S → Lines → Type 0) (s : S) (p : Task) (a b : Criterion) (pairs : Pairs) (ending : FrontEnd) (lines : Lines) →
+    FrontLaws knows s p → knows s lines → BeginsLines (clause_lines lines) (front_lines p a b) →
+    AreUnderBounds p lines → IsFrontCause p a b pairs ending lines → IsFrontLog p a b pairs ending lines
+front_log knows s p a b pairs ending lines laws k begins placed cause = record {
   formed = laws.formed lines k;
   derives = laws.derives lines k;
   due = laws.due lines k;
@@ -204,11 +207,11 @@ front_log knows s p a b ending lines laws k begins placed cause = record {
   cause = cause;
 }
 
-pub tells_no_room : {S : Type 0} (knows log : S → Lines → Type 0) (count : S → ℕ) (s e : S) (p : Task) (a b : Criterion) (r : Built) → r ≡ NoRoom →
-    FrontLaws knows e p → knows s (first_lines p) →
+pub tells_no_room : {S : Type 0} (knows log : S → Lines → Type 0) (count : S → ℕ) (s e : S) (p : Task) (a b : Criterion) (pairs : Pairs) (r : Built) →
+    r ≡ NoRoom → FrontLaws knows e p → knows s (first_lines p) →
     Continues knows log count s e (λ lines more. lines ≡ first_lines p → IsBuiltFront p a b r (lines ++ more)) →
-    ToldBehind (knows e) (log s) (log e) (count s) (count e) (first_lines p) (λ more. IsFrontLog p a b Room (first_lines p ++ more))
-tells_no_room knows log count s e p a b r was laws start goes =
+    ToldBehind (knows e) (log s) (log e) (count s) (count e) (first_lines p) (λ more. IsFrontLog p a b pairs Room (first_lines p ++ more))
+tells_no_room knows log count s e p a b pairs r was laws start goes =
     let t : ToldBehind (knows e) (log s) (log e) (count s) (count e) (first_lines p)
     (λ more. first_lines p ≡ first_lines p → IsBuiltFront p a b r (first_lines p ++ more)) = goes (first_lines p) start in
     let got : IsBuiltFront p a b NoRoom (first_lines p ++ t.more) = subst (λ (x : Built). IsBuiltFront p a b x (first_lines p ++ t.more)) was (t.does refl) in
@@ -217,46 +220,50 @@ tells_no_room knows log count s e p a b r was laws start goes =
       knows = t.knows;
       told = t.told;
       counted = t.counted;
-      does = front_log knows e p a b Room (first_lines p ++ t.more) laws t.knows got.1
-          got.0 (inl got.2);
+      does = front_log knows e p a b pairs Room (first_lines p ++ t.more) laws t.knows
+          got.1 got.0 (inl got.2);
     }
 
-told_still : (p : Task) (stop : Option Stop) (lines xs ys : Lines) → AreAsked p stop (lines ++ xs) ys →
+told_still : (p : Task) (Such : Task → List Below → Type 0) (stop : Option Stop) (lines xs ys : Lines) → AreAsked p Such stop (lines ++ xs) ys →
     clause_lines (lines ++ (xs ++ ys)) ≡ clause_lines (lines ++ xs)
-told_still p stop lines xs ys h = ap clause_lines (sym (append_assoc lines xs ys)) ∙ clause_lines_append (lines ++ xs) ys
+told_still p Such stop lines xs ys h = ap clause_lines (sym (append_assoc lines xs ys)) ∙ clause_lines_append (lines ++ xs) ys
     ∙ ap (λ (ls : Lines). clause_lines (lines ++ xs) ++ ls) h.none ∙ append-nil (clause_lines (lines ++ xs))
 
-cause_of : (p : Task) (a b : Criterion) (ending : FrontEnd) (lines xs ys : Lines) → clause_lines (lines ++ xs) ≡ front_lines p a b →
-    AreAsked p (stop_behind ending) (lines ++ xs) ys → IsFrontCause p a b ending (lines ++ (xs ++ ys))
-cause_of p a b Whole lines xs ys told h = told_still p None lines xs ys h ∙ told
-cause_of p a b Empty lines xs ys told h = told_still p None lines xs ys h ∙ told
-cause_of p a b Conflicts lines xs ys told h = subst (IsCause p.budget p.room BudgetSpent) (append_assoc lines xs ys) h.cause
-cause_of p a b Room lines xs ys told h = inr (
-  told_still p (Some RoomFull) lines xs ys h
-      ∙ told,
-  subst (IsCause p.budget p.room RoomFull) (append_assoc lines xs ys) h.cause,
-)
+-- the bounds that are asked under
+abbrev NextBehind : Criterion → Criterion → Pairs → Task → List Below → Type 0
+NextBehind a b pairs = AsksNext a b (limit_behind pairs)
 
-pub tells_front : {S : Type 0} (knows log : S → Lines → Type 0) (count : S → ℕ) (s t e : S) (q p : Task) (a b : Criterion) (r : Built) (ending : FrontEnd) →
-    q ≡ p → r ≡ AllOfThem → FrontLaws knows e p → knows s (first_lines p) →
+cause_of : (p : Task) (a b : Criterion) (pairs : Pairs) (ending : FrontEnd) (lines xs ys : Lines) → clause_lines (lines ++ xs) ≡ front_lines p a b →
+    AreAsked p (NextBehind a b pairs) (stop_behind ending) (lines ++ xs) ys → IsFrontCause p a b pairs ending (lines ++ (xs ++ ys))
+cause_of p a b pairs Whole lines xs ys told h = told_still p (NextBehind a b pairs) None lines xs ys h ∙ told
+cause_of p a b pairs Empty lines xs ys told h = told_still p (NextBehind a b pairs) None lines xs ys h ∙ told
+cause_of p a b pairs Conflicts lines xs ys told h = subst (λ (ls : Lines). IsCause p.budget p.room BudgetSpent ls × AsksBehind p a b pairs ls)
+    (append_assoc lines xs ys) h.cause
+cause_of p a b pairs Room lines xs ys told h =
+    let stop = subst (λ (ls : Lines). IsCause p.budget p.room RoomFull ls × AsksBehind p a b pairs ls) (append_assoc lines xs ys) h.cause in
+    inr (told_still p (NextBehind a b pairs) (Some RoomFull) lines xs ys h ∙ told, stop.0, stop.1)
+
+pub tells_front : {S : Type 0} (knows log : S → Lines → Type 0) (count : S → ℕ) (s t e : S) (q p : Task) (a b : Criterion) (pairs : Pairs) (r : Built)
+    (ending : FrontEnd) → q ≡ p → r ≡ AllOfThem → FrontLaws knows e p → knows s (first_lines p) →
     Continues knows log count s t (λ lines more. lines ≡ first_lines p → IsBuiltFront p a b r (lines ++ more)) →
-    Continues knows log count t e (AreAsked q (stop_behind ending)) →
-    ToldBehind (knows e) (log s) (log e) (count s) (count e) (first_lines p) (λ more. IsFrontLog p a b ending (first_lines p ++ more))
-tells_front knows log count s t e q p a b r ending same was laws start f g =
+    Continues knows log count t e (AreAsked q (NextBehind a b pairs) (stop_behind ending)) →
+    ToldBehind (knows e) (log s) (log e) (count s) (count e) (first_lines p) (λ more. IsFrontLog p a b pairs ending (first_lines p ++ more))
+tells_front knows log count s t e q p a b pairs r ending same was laws start f g =
     let from = first_lines p in
-    let h : Continues knows log count t e (AreAsked p (stop_behind ending)) = subst
-    (λ (x : Task). Continues knows log count t e (AreAsked x (stop_behind ending))) same g in
-    let both : Continues knows log count s e (λ lines more. lines ≡ from → IsFrontLog p a b ending (lines ++ more)) =
-    goes_on knows log count s t e (λ lines more. lines ≡ from → IsBuiltFront p a b r (lines ++ more)) (AreAsked p (stop_behind ending))
-    (λ lines more. lines ≡ from → IsFrontLog p a b ending (lines ++ more)) f h
+    let h : Continues knows log count t e (AreAsked p (NextBehind a b pairs) (stop_behind ending)) = subst
+    (λ (x : Task). Continues knows log count t e (AreAsked x (NextBehind a b pairs) (stop_behind ending))) same g in
+    let both : Continues knows log count s e (λ lines more. lines ≡ from → IsFrontLog p a b pairs ending (lines ++ more)) =
+    goes_on knows log count s t e (λ lines more. lines ≡ from → IsBuiltFront p a b r (lines ++ more)) (AreAsked p (NextBehind a b pairs) (stop_behind ending))
+    (λ lines more. lines ≡ from → IsFrontLog p a b pairs ending (lines ++ more)) f h
     (λ lines xs ys ks kt ke one two is.
     let built : IsBuiltFront p a b AllOfThem (lines ++ xs) = subst (λ (x : Built). IsBuiltFront p a b x (lines ++ xs)) was (one is) in
     let told : clause_lines (lines ++ xs) ≡ front_lines p a b = built.1 in
-    let whole : clause_lines (lines ++ (xs ++ ys)) ≡ front_lines p a b = told_still p (stop_behind ending) lines xs ys two ∙ told in
-    front_log knows e p a b ending (lines ++ (xs ++ ys)) laws (subst (knows e) (append_assoc lines xs ys) ke)
+    let whole : clause_lines (lines ++ (xs ++ ys)) ≡ front_lines p a b = told_still p (NextBehind a b pairs) (stop_behind ending) lines xs ys two ∙ told in
+    front_log knows e p a b pairs ending (lines ++ (xs ++ ys)) laws (subst (knows e) (append_assoc lines xs ys) ke)
     ([], sym whole ∙ sym (append-nil (clause_lines (lines ++ (xs ++ ys))))) (subst (AreUnderBounds p) (append_assoc lines xs ys) (two.placed built.0))
-    (cause_of p a b ending lines xs ys told two)) in
-    let all : ToldBehind (knows e) (log s) (log e) (count s) (count e) from (λ more. from ≡ from → IsFrontLog p a b ending (from ++ more)) = both from start in
+    (cause_of p a b pairs ending lines xs ys told two)) in
+    let all : ToldBehind (knows e) (log s) (log e) (count s) (count e) from (λ more. from ≡ from → IsFrontLog p a b pairs ending (from ++ more)) = both from
+    start in
     record { more = all.more; knows = all.knows; told = all.told; counted = all.counted; does = all.does refl }
 
 -- ---- the bounds of one criterion, and of none where its greatest value is 0

@@ -9,6 +9,7 @@ ghost use Rattle.search_least.specs.State.{hold as hold_of};
 ghost use Rattle.refute_log.specs.Steps.{Continues, KnowsSome, Leaves};
 ghost use Rattle.trade_off.specs.Least.{IsLeastUnder, AreAsked};
 ghost use Rattle.trade_off.specs.Next.{IsUnder, under, IsNext, IsNextPair, IsSecondOf, stop_of, IsSoFar};
+ghost use Rattle.trade_off.specs.Next.{AsksSecond, AsksNext, limit_behind};
 ghost use Rattle.trade_off.specs.Outcome.{IsRightFront, stop_behind};
 
 use crate::lowering::lower;
@@ -84,7 +85,7 @@ fn second_from<O: Oracle>(
     ensures caps { OnOk result (O.caps oracle.new ≡ O.caps oracle.old) }
     ensures next { IfOk result (IsSecondOf (O.task oracle.old) a b least) }
     ensures lines { IfOk result (λ r. Continues O.knows O.log O.learnt oracle.old oracle.new
-        (AreAsked (O.task oracle.old) (stop_of r))) }
+        (AreAsked (O.task oracle.old) (AsksSecond a b least) (stop_of r))) }
     ensures leaves { OnErr result (Leaves [] (O.knows oracle.old) (O.log oracle.old) (O.log oracle.new)) }
     ensures later { O.is_later oracle.old oracle.new }
     ensures faults { O.faults oracle.old ≤ O.faults oracle.new }
@@ -124,7 +125,7 @@ fn pair_from<O: Oracle>(
     ensures caps { OnOk result (O.caps oracle.new ≡ O.caps oracle.old) }
     ensures next { IfOk result (IsNext (IsLawful (O.task oracle.old)) a b limit) }
     ensures lines { IfOk result (λ r. Continues O.knows O.log O.learnt oracle.old oracle.new
-        (AreAsked (O.task oracle.old) (stop_of r))) }
+        (AreAsked (O.task oracle.old) (AsksNext a b limit) (stop_of r))) }
     ensures leaves { OnErr result (Leaves [] (O.knows oracle.old) (O.log oracle.old) (O.log oracle.new)) }
     ensures later { O.is_later oracle.old oracle.new }
     ensures faults { O.faults oracle.old ≤ O.faults oracle.new }
@@ -159,7 +160,7 @@ fn next_pair<O: Oracle>(
     ensures caps { OnOk result (O.caps oracle.new ≡ O.caps oracle.old) }
     ensures next { IfOk result (IsNext (IsLawful (O.task oracle.old)) a b limit) }
     ensures lines { IfOk result (λ r. Continues O.knows O.log O.learnt oracle.old oracle.new
-        (AreAsked (O.task oracle.old) (stop_of r))) }
+        (AreAsked (O.task oracle.old) (AsksNext a b limit) (stop_of r))) }
     ensures leaves { OnErr result (Leaves [] (O.knows oracle.old) (O.log oracle.old) (O.log oracle.new)) }
     ensures later { O.is_later oracle.old oracle.new }
     ensures faults { O.faults oracle.old ≤ O.faults oracle.new }
@@ -192,7 +193,7 @@ fn further_pairs<O: Oracle>(
     ensures task { O.task oracle.new ≡ O.task oracle.old }
     ensures right { IfOk result (λ r. IsRightFront (IsLawful (O.task oracle.old)) a b r.pairs r.ending) }
     ensures lines { IfOk result (λ r. Continues O.knows O.log O.learnt oracle.old oracle.new
-        (AreAsked (O.task oracle.old) (stop_behind r.ending))) }
+        (AreAsked (O.task oracle.old) (AsksNext a b (limit_behind r.pairs)) (stop_behind r.ending))) }
     ensures leaves { OnErr result (Leaves [] (O.knows oracle.old) (O.log oracle.old) (O.log oracle.new)) }
     ensures later { O.is_later oracle.old oracle.new }
     ensures faults { O.faults oracle.old ≤ O.faults oracle.new }
@@ -243,7 +244,7 @@ pub(crate) fn collect<O: Oracle>(
     ensures task { O.task oracle.new ≡ O.task oracle.old }
     ensures right { IfOk result (λ r. IsRightFront (IsLawful (O.task oracle.old)) a b r.pairs r.ending) }
     ensures lines { IfOk result (λ r. Continues O.knows O.log O.learnt oracle.old oracle.new
-        (AreAsked (O.task oracle.old) (stop_behind r.ending))) }
+        (AreAsked (O.task oracle.old) (AsksNext a b (limit_behind r.pairs)) (stop_behind r.ending))) }
     ensures leaves { OnErr result (Leaves [] (O.knows oracle.old) (O.log oracle.old) (O.log oracle.new)) }
     ensures later { O.is_later oracle.old oracle.new }
     ensures faults { O.faults oracle.old ≤ O.faults oracle.new }

@@ -31,7 +31,7 @@ pub fn find_front<O: Oracle>(
     ensures right { IfOk result (λ r. IsRightFront (IsLawful (O.task oracle.old)) a b r.pairs r.ending) }
     ensures lines { IfOk result (λ r. let p = O.task oracle.old in let l = first_lines p in
         ToldBehind (O.knows oracle.new) (O.log oracle.old) (O.log oracle.new) (O.learnt oracle.old)
-        (O.learnt oracle.new) l (λ m. IsFrontLog p a b r.ending (l ++ m))) }
+        (O.learnt oracle.new) l (λ m. IsFrontLog p a b r.pairs r.ending (l ++ m))) }
     ensures left { let p = O.task oracle.old in
         OnErr result (O.log oracle.old (first_lines p) → (lines : Lines) → O.log oracle.new lines →
         IsFrontLeft p a b lines) }

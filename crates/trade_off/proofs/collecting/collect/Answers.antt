@@ -7,9 +7,10 @@ use Rattle.refute_log.specs.Steps.{Continues}
 use Rattle.trade_off.specs.declared.collecting.Next.{Next}
 use Rattle.trade_off.specs.declared.collecting.Next.TheVariants.{Pair, NoMore}
 use Rattle.trade_off.specs.Least.{AreAsked}
-use Rattle.trade_off.specs.Next.{IsNextPair, stop_of}
+use Rattle.trade_off.specs.Next.{IsNextPair, stop_of, AsksNext, limit_behind}
+use Rattle.trade_off.specs.Front.{Pairs}
 use Rattle.trade_off.specs.Outcome.{IsRightFront, stop_behind}
-use Rattle.trade_off.proofs.AskLemmas.{asked_then}
+use Rattle.trade_off.proofs.AskLemmas.{asked_then, asked_on}
 use Rattle.trade_off.proofs.FrontLemmas.{right_empty, right_stopped_first, stopped_behind, next_is}
 use Rattle.refute_log.proofs.StepLemmas.{on_err_weaker}
 use Rattle.trade_off.proofs.LeftLemmas.{asked_later}
@@ -40,10 +41,13 @@ returns-in-Pair-clause-lines g c = let o = g.O.Oracle in
     let a = c.args.oracle.now in
     let b = c.next_pair.new.oracle in
     let e = c.further_pairs.new.oracle in
-    IfOk-weaker c.further_pairs.result (λ r. Continues o.knows o.log o.learnt b e (AreAsked (o.task b) (stop_behind r.ending)))
-    (λ r. Continues o.knows o.log o.learnt a e (AreAsked (o.task a) (stop_behind r.ending)))
-    (λ r h. asked_then o.knows o.log o.learnt a b e (o.task b) (o.task a) (stop_behind r.ending) c.in_ok-first.ensures.task
-    (subst (λ (x : Next). Continues o.knows o.log o.learnt a b (AreAsked (o.task a) (stop_of x))) c.in-Pair.is c.in_ok-first.ensures.lines) h)
+    IfOk-weaker c.further_pairs.result (λ r. Continues o.knows o.log o.learnt b e
+    (AreAsked (o.task b) (AsksNext c.args.a c.args.b (limit_behind r.pairs)) (stop_behind r.ending)))
+    (λ r. Continues o.knows o.log o.learnt a e (AreAsked (o.task a) (AsksNext c.args.a c.args.b (limit_behind r.pairs)) (stop_behind r.ending)))
+    (λ r h. asked_then o.knows o.log o.learnt a b e (o.task b) (o.task a) (AsksNext c.args.a c.args.b None) (AsksNext c.args.a c.args.b (limit_behind r.pairs))
+    (stop_behind r.ending) c.in_ok-first.ensures.task
+    (subst (λ (x : Next). Continues o.knows o.log o.learnt a b (AreAsked (o.task a) (AsksNext c.args.a c.args.b None) (stop_of x))) c.in-Pair.is
+    c.in_ok-first.ensures.lines) h)
     c.further_pairs.ensures.lines
 
 pub returns-in-NoMore-clause-right : goal.returns-in-NoMore-clause-right
@@ -55,7 +59,10 @@ returns-in-NoMore-clause-right g c = let o = g.O.Oracle in
 pub returns-in-NoMore-clause-lines : goal.returns-in-NoMore-clause-lines
 returns-in-NoMore-clause-lines g c = let o = g.O.Oracle in
     let a = c.args.oracle.now in
-    subst (λ (x : Next). Continues o.knows o.log o.learnt a c.next_pair.new.oracle (AreAsked (o.task a) (stop_of x))) c.in-NoMore.is c.in_ok-first.ensures.lines
+    asked_on o.knows o.log o.learnt a c.next_pair.new.oracle (o.task a) (AsksNext c.args.a c.args.b None)
+    (AsksNext c.args.a c.args.b (limit_behind c.new.result))
+    (subst (λ (x : Next). Continues o.knows o.log o.learnt a c.next_pair.new.oracle (AreAsked (o.task a) (AsksNext c.args.a c.args.b None) (stop_of x)))
+    c.in-NoMore.is c.in_ok-first.ensures.lines)
 
 pub returns-in-Stopped-clause-right : goal.returns-in-Stopped-clause-right
 returns-in-Stopped-clause-right g c = let o = g.O.Oracle in
@@ -65,10 +72,12 @@ returns-in-Stopped-clause-right g c = let o = g.O.Oracle in
 pub returns-in-Stopped-clause-lines : goal.returns-in-Stopped-clause-lines
 returns-in-Stopped-clause-lines g c = let o = g.O.Oracle in
     let a = c.args.oracle.now in
-    subst (λ (s : Option Stop). Continues o.knows o.log o.learnt a c.next_pair.new.oracle (AreAsked (o.task a) s))
+    subst (λ (ps : Pairs). Continues o.knows o.log o.learnt a c.next_pair.new.oracle
+    (AreAsked (o.task a) (AsksNext c.args.a c.args.b (limit_behind ps)) (stop_behind c.stopped_by.result))) (sym c.new-in-Stopped.ensures)
+    (subst (λ (s : Option Stop). Continues o.knows o.log o.learnt a c.next_pair.new.oracle (AreAsked (o.task a) (AsksNext c.args.a c.args.b None) s))
     (sym (stopped_behind c.in-Stopped.stop c.stopped_by.result c.stopped_by.ensures))
-    (subst (λ (x : Next). Continues o.knows o.log o.learnt a c.next_pair.new.oracle (AreAsked (o.task a) (stop_of x))) c.in-Stopped.is
-    c.in_ok-first.ensures.lines)
+    (subst (λ (x : Next). Continues o.knows o.log o.learnt a c.next_pair.new.oracle (AreAsked (o.task a) (AsksNext c.args.a c.args.b None) (stop_of x)))
+    c.in-Stopped.is c.in_ok-first.ensures.lines))
 
 pub returns-in_err-first-clause-leaves : goal.returns-in_err-first-clause-leaves
 returns-in_err-first-clause-leaves g c = let o = g.O.Oracle in
@@ -77,4 +86,4 @@ returns-in_err-first-clause-leaves g c = let o = g.O.Oracle in
 pub returns-in-Pair-clause-leaves : goal.returns-in-Pair-clause-leaves
 returns-in-Pair-clause-leaves g c = let o = g.O.Oracle in
     on_err_weaker c.further_pairs.result _ _ (asked_later o.knows o.log o.learnt c.args.oracle.now c.next_pair.new.oracle c.further_pairs.new.oracle
-    (o.task c.args.oracle.now) (stop_of c.in_ok-first.field-0) c.in_ok-first.ensures.lines) c.further_pairs.ensures.leaves
+    (o.task c.args.oracle.now) (AsksNext c.args.a c.args.b None) (stop_of c.in_ok-first.field-0) c.in_ok-first.ensures.lines) c.further_pairs.ensures.leaves

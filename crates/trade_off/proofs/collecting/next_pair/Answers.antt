@@ -1,4 +1,4 @@
-use Rattle.std.proofs.Common.{refl, sym, ◌∙◌, ap, subst, List}
+use Rattle.std.proofs.Common.{refl, sym, ◌∙◌, ap, subst, List, inl}
 use Rattle.std.specs.Prelude.{IfOk, MatchOption, ⊤, ◌≤◌}
 use Rattle.std.proofs.lemmas.Result.{IfOk-weaker}
 use Rattle.plan_core.specs.Values.{values_of}
@@ -7,7 +7,7 @@ use Rattle.search_least.specs.Asked.{AreMet, IsReply}
 use Rattle.search_least.specs.Task.{Task, IsLawful, greatest_of}
 use Rattle.refute_log.specs.Steps.{Continues}
 use Rattle.trade_off.specs.Least.{AreAsked}
-use Rattle.trade_off.specs.Next.{IsNext, stop_of}
+use Rattle.trade_off.specs.Next.{IsNext, stop_of, AsksNext}
 use Rattle.refute_log.proofs.StepLemmas.{known_after, on_err_weaker, leaves_same}
 use Rattle.trade_off.proofs.AskLemmas.{asked_then, asks_found, asks_refuted, asks_stopped, refuted_none, laws_back}
 use Rattle.trade_off.proofs.NextLemmas.{under_within, under_once, none_from, found_fact}
@@ -76,22 +76,26 @@ returns-in-Refuted-clause-next g c = let o = g.O.Oracle in
 pub returns-in-Refuted-clause-lines : goal.returns-in-Refuted-clause-lines
 returns-in-Refuted-clause-lines g c = let o = g.O.Oracle in
     let a = c.args.oracle.now in
-    asks_refuted o.knows o.log o.learnt a c.ask.new.self (o.task a) (o.task a) c.deref.result.now c.in_ok-first.field-0
+    asks_refuted o.knows o.log o.learnt a c.ask.new.self (o.task a) (o.task a) (AsksNext c.args.a c.args.b c.args.limit) c.deref.result.now
+    c.in_ok-first.field-0
     (record {
       same = refl;
-      once = under_once c.args.b c.args.limit c.deref.result.now (c.deref.ensures.value
-          ∙ c.in_ok-bounds.ensures);
+      such = inl (c.deref.ensures.value ∙ c.in_ok-bounds.ensures);
+      once = under_once c.args.b c.args.limit c.deref.result.now
+          (c.deref.ensures.value ∙ c.in_ok-bounds.ensures);
       right = c.in_ok-first.ensures.right;
     }) c.in-Refuted.is c.in_ok-first.ensures.lines
 
 pub returns-clause-lines : goal.returns-clause-lines
 returns-clause-lines g c = let o = g.O.Oracle in
     let a = c.args.oracle.now in
-    asks_stopped o.knows o.log o.learnt a c.ask.new.self (o.task a) (o.task a) c.deref.result.now c.in_ok-first.field-0 c.in-Stopped.stop
+    asks_stopped o.knows o.log o.learnt a c.ask.new.self (o.task a) (o.task a) (AsksNext c.args.a c.args.b c.args.limit) c.deref.result.now
+    c.in_ok-first.field-0 c.in-Stopped.stop
     (record {
       same = refl;
-      once = under_once c.args.b c.args.limit c.deref.result.now (c.deref.ensures.value
-          ∙ c.in_ok-bounds.ensures);
+      such = inl (c.deref.ensures.value ∙ c.in_ok-bounds.ensures);
+      once = under_once c.args.b c.args.limit c.deref.result.now
+          (c.deref.ensures.value ∙ c.in_ok-bounds.ensures);
       right = c.in_ok-first.ensures.right;
     }) c.in-Stopped.is c.in_ok-first.ensures.lines
 
@@ -105,14 +109,17 @@ returns-in-Found-clause-lines g c = let o = g.O.Oracle in
     let a = c.args.oracle.now in
     let b = c.ask.new.self in
     let e = c.pair_from.new.oracle in
-    IfOk-weaker c.pair_from.result (λ r. Continues o.knows o.log o.learnt b e (AreAsked (o.task b) (stop_of r)))
-    (λ r. Continues o.knows o.log o.learnt a e (AreAsked (o.task a) (stop_of r)))
-    (λ r h. asked_then o.knows o.log o.learnt a b e (o.task b) (o.task a) (stop_of r) c.in_ok-first.ensures.task
-    (asks_found o.knows o.log o.learnt a b (o.task a) (o.task a) c.deref.result.now c.in_ok-first.field-0 c.in-Found.first
+    IfOk-weaker c.pair_from.result (λ r. Continues o.knows o.log o.learnt b e (AreAsked (o.task b) (AsksNext c.args.a c.args.b c.args.limit) (stop_of r)))
+    (λ r. Continues o.knows o.log o.learnt a e (AreAsked (o.task a) (AsksNext c.args.a c.args.b c.args.limit) (stop_of r)))
+    (λ r h. asked_then o.knows o.log o.learnt a b e (o.task b) (o.task a) (AsksNext c.args.a c.args.b c.args.limit) (AsksNext c.args.a c.args.b c.args.limit)
+    (stop_of r) c.in_ok-first.ensures.task
+    (asks_found o.knows o.log o.learnt a b (o.task a) (o.task a) (AsksNext c.args.a c.args.b c.args.limit) c.deref.result.now c.in_ok-first.field-0
+    c.in-Found.first
     (record {
       same = refl;
-      once = under_once c.args.b c.args.limit c.deref.result.now (c.deref.ensures.value
-          ∙ c.in_ok-bounds.ensures);
+      such = inl (c.deref.ensures.value ∙ c.in_ok-bounds.ensures);
+      once = under_once c.args.b c.args.limit c.deref.result.now
+          (c.deref.ensures.value ∙ c.in_ok-bounds.ensures);
       right = c.in_ok-first.ensures.right;
     }) c.in-Found.is c.in_ok-first.ensures.lines) h)
     c.pair_from.ensures.lines

@@ -1,15 +1,15 @@
-use Rattle.std.proofs.Common.{sym, ◌∙◌, ap, subst, List}
-use Rattle.std.specs.Prelude.{Option}
+use Rattle.std.proofs.Common.{◌≡◌, ◌++◌, ◌∷◌, [], sym, ◌∙◌, ap, subst, List, inl, inr}
+use Rattle.std.specs.Prelude.{Option, Some}
 use Rattle.std.proofs.lemmas.Result.{IfOk-weaker}
 use Rattle.plan_core.specs.Values.{values_of}
 use Rattle.search_least.specs.declared.oracle.Below.{Below}
 use Rattle.refute_log.specs.declared.stop.Stop.{Stop}
-use Rattle.search_least.specs.Asked.{AreMet}
+use Rattle.search_least.specs.Asked.{below_limit, AreMet}
 use Rattle.search_least.specs.Task.{Task, IsLawful, greatest_of}
 use Rattle.refute_log.specs.Steps.{Continues}
-use Rattle.trade_off.specs.Least.{AreAsked}
-use Rattle.trade_off.specs.Next.{IsNext, IsSecondOf, stop_of}
-use Rattle.trade_off.proofs.AskLemmas.{asked_then}
+use Rattle.trade_off.specs.Least.{IsLeastUnder, LowersUnder, AreAsked}
+use Rattle.trade_off.specs.Next.{IsNext, IsSecondOf, stop_of, under, HasLeastFirst, AsksSecond, AsksNext}
+use Rattle.trade_off.proofs.AskLemmas.{asked_then, asked_weaker}
 use Rattle.trade_off.proofs.NextLemmas.{under_within, under_beside, next_from}
 use Rattle.refute_log.proofs.StepLemmas.{on_err_weaker, leaves_same}
 use Rattle.trade_off.proofs.LeftLemmas.{asked_later}
@@ -43,18 +43,35 @@ second_from-requires-clause-lawful g c = let o = g.O.Oracle in
 
 pub returns-in-Some-clause-lines : goal.returns-in-Some-clause-lines
 returns-in-Some-clause-lines g c = let o = g.O.Oracle in
-    subst (λ (s : Option Stop). Continues o.knows o.log o.learnt c.args.oracle.now c.lower.new.oracle (AreAsked (o.task c.args.oracle.now) s)) c.in-Some.is
-    c.in_ok-lowered.ensures.lines
+    let s = c.args.oracle.now in
+    let p = o.task s in
+    let such = LowersUnder c.deref.result.now c.args.a in
+    let held : c.deref.result.now ≡ under c.args.b c.args.limit = c.deref.ensures.value ∙ c.in_ok-held.ensures in
+    asked_weaker o.knows o.log o.learnt s c.lower.new.oracle p such (AsksNext c.args.a c.args.b c.args.limit) (Some c.in-Some.stop)
+    (λ bounds x. inr (inl (x.0, x.1 ∙ ap (λ (hs : List Below). hs ++ below_limit c.args.a x.0 ∷ []) held)))
+    (subst (λ (x : Option Stop). Continues o.knows o.log o.learnt s c.lower.new.oracle (AreAsked p such x)) c.in-Some.is c.in_ok-lowered.ensures.lines)
 
 pub returns-clause-lines : goal.returns-clause-lines
 returns-clause-lines g c = let o = g.O.Oracle in
     let a = c.args.oracle.now in
     let b = c.lower.new.oracle in
     let e = c.second_from.new.oracle in
-    IfOk-weaker c.second_from.result (λ r. Continues o.knows o.log o.learnt b e (AreAsked (o.task b) (stop_of r)))
-    (λ r. Continues o.knows o.log o.learnt a e (AreAsked (o.task a) (stop_of r)))
-    (λ r h. asked_then o.knows o.log o.learnt a b e (o.task b) (o.task a) (stop_of r) c.lower.ensures.task
-    (subst (λ (s : Option Stop). Continues o.knows o.log o.learnt a b (AreAsked (o.task a) s)) c.in-None.is c.in_ok-lowered.ensures.lines) h)
+    let p = o.task a in
+    let d = c.in_ok-lowered.lowered.least in
+    let first = LowersUnder c.deref.result.now c.args.a in
+    let second = AsksSecond c.args.a c.args.b d in
+    let next = AsksNext c.args.a c.args.b c.args.limit in
+    let held : c.deref.result.now ≡ under c.args.b c.args.limit = c.deref.ensures.value ∙ c.in_ok-held.ensures in
+    let least : HasLeastFirst p c.args.a c.args.b c.args.limit d = record {
+      lawful = c.in_ok-lowered.ensures.lawful;
+      met = subst (AreMet (values_of d)) held c.in_ok-lowered.ensures.met;
+      least = subst (λ (hs : List Below). IsLeastUnder p hs c.args.a d) held (c.in_ok-lowered.ensures.least c.in-None.is);
+    } in
+    IfOk-weaker c.second_from.result (λ r. Continues o.knows o.log o.learnt b e (AreAsked (o.task b) second (stop_of r)))
+    (λ r. Continues o.knows o.log o.learnt a e (AreAsked p next (stop_of r)))
+    (λ r h. asked_weaker o.knows o.log o.learnt a e p second next (stop_of r) (λ bounds x. inr (inr (d, least, x)))
+    (asked_then o.knows o.log o.learnt a b e (o.task b) p first second (stop_of r) c.lower.ensures.task
+    (subst (λ (s : Option Stop). Continues o.knows o.log o.learnt a b (AreAsked p first s)) c.in-None.is c.in_ok-lowered.ensures.lines) h))
     c.second_from.ensures.lines
 
 pub returns-clause-next : goal.returns-clause-next
@@ -80,4 +97,5 @@ returns-in_err-lowered-clause-leaves g c = let o = g.O.Oracle in
 pub returns-clause-leaves : goal.returns-clause-leaves
 returns-clause-leaves g c = let o = g.O.Oracle in
     on_err_weaker c.second_from.result _ _ (asked_later o.knows o.log o.learnt c.args.oracle.now c.lower.new.oracle c.second_from.new.oracle
-    (o.task c.args.oracle.now) c.in_ok-lowered.lowered.stop c.in_ok-lowered.ensures.lines) c.second_from.ensures.leaves
+    (o.task c.args.oracle.now) (LowersUnder c.deref.result.now c.args.a) c.in_ok-lowered.lowered.stop c.in_ok-lowered.ensures.lines)
+    c.second_from.ensures.leaves
