@@ -1,5 +1,5 @@
 -- What the outcome of a search for the front says of drawings, and what its lines are.
-use Rattle.std.specs.Prelude.{◌≡◌, ◌≤◌, ◌⊎◌, [], ◌∷◌, length, flat_map, Option, None, Some}
+use Rattle.std.specs.Prelude.{◌≡◌, ◌≤◌, ◌⊎◌, [], ◌∷◌, ◌++◌, length, flat_map, Option, None, Some}
 use Rattle.plan_core.specs.declared.criterion.Criterion.{Criterion}
 use Rattle.plan_core.specs.Drawing.{Drawing}
 use Rattle.cnf_core.specs.Clause.{words_of}
@@ -15,6 +15,7 @@ use Rattle.search_least.specs.declared.oracle.Built.TheVariants.{Whole as AllOfT
 use Rattle.refute_log.specs.declared.stop.Stop.{Stop}
 use Rattle.refute_log.specs.declared.stop.Stop.TheVariants.{BudgetSpent, RoomFull}
 use Rattle.search_least.specs.Task.{Task, greatest_of}
+use Rattle.search_least.specs.Outcome.{first_lines}
 use Rattle.search_least.specs.Placed.{AreUnderBounds}
 use Rattle.trade_off.specs.declared.outcome.FrontEnd.{FrontEnd}
 use Rattle.trade_off.specs.declared.outcome.FrontEnd.TheVariants.{Whole, Empty, Conflicts, Room}
@@ -58,6 +59,10 @@ pub record IsFrontLog (p : Task) (a b : Criterion) (pairs : Pairs) (ending : Fro
   pub within : length (flat_map learnt lines) ≤ p.budget
   pub placed : AreUnderBounds p lines
   pub cause : IsFrontCause p a b pairs ending lines
+
+-- the same of the lines behind the formula's
+abbrev pub IsFrontAfter : Task → Criterion → Criterion → Pairs → FrontEnd → Lines → Type 0
+IsFrontAfter p a b pairs ending more = IsFrontLog p a b pairs ending (first_lines p ++ more)
 
 -- the lines of a search for the front that ended with an error
 pub record IsFrontLeft (p : Task) (a b : Criterion) (lines : Lines) : Type 0 where
