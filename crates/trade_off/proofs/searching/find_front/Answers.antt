@@ -1,4 +1,4 @@
-use Rattle.std.proofs.Common.{◌≡◌, ◌++◌, sym, ◌∙◌, ap, subst}
+use Rattle.std.proofs.Common.{◌≡◌, ◌++◌, [], sym, ◌∙◌, ap, subst}
 use Rattle.std.specs.Prelude.{IfOk}
 use Rattle.std.proofs.lemmas.Result.{IfOk-weaker}
 use Rattle.search_least.specs.Task.{Task, IsLawful, greatest_of}
@@ -6,8 +6,7 @@ use Rattle.search_least.specs.Outcome.{first_lines}
 use Rattle.refute_log.specs.Steps.{ToldBehind, Continues}
 use Rattle.trade_off.specs.Front.{IsFrontUpTo}
 use Rattle.trade_off.specs.Least.{AreAsked}
-use Rattle.trade_off.specs.Next.{AsksNext, limit_behind}
-use Rattle.trade_off.specs.Outcome.{IsRightFront, IsFrontLog, IsBuiltFront, stop_behind}
+use Rattle.trade_off.specs.Outcome.{IsRightFront, IsFrontLog, IsBuiltFront, EndsFront}
 use Rattle.refute_log.proofs.StepLemmas.{known_after, on_err_weaker}
 use Rattle.trade_off.proofs.FrontLemmas.{up_to_none}
 use Rattle.trade_off.proofs.TellLemmas.{laws_at, tells_no_room, tells_front}
@@ -65,8 +64,8 @@ returns-in-Whole-clause-lines g c = let o = g.O.Oracle in
     let t = c.build_both.new.oracle in
     let e = c.collect.new.oracle in
     let p = o.task s in
-    IfOk-weaker c.collect.result (λ r. Continues o.knows o.log o.learnt t e (AreAsked (o.task t) (AsksNext c.args.a c.args.b (limit_behind r.pairs))
-    (stop_behind r.ending)))
+    IfOk-weaker c.collect.result
+    (λ r. Continues o.knows o.log o.learnt t e (AreAsked (o.task t) c.args.b [] (EndsFront (o.task t) c.args.a c.args.b r.pairs r.ending)))
     (λ r. ToldBehind (o.knows e) (o.log s) (o.log e) (o.learnt s) (o.learnt e) (first_lines p)
     (λ more. IsFrontLog p c.args.a c.args.b r.pairs r.ending (first_lines p ++ more)))
     (λ r h. tells_front o.knows o.log o.learnt s t e (o.task t) p c.args.a c.args.b r.pairs c.in_ok-build_both.field-0 r.ending c.build_both.ensures.task
