@@ -17,6 +17,7 @@ use Rattle.search_least.specs.Placed.{IsUnderBounds}
 use Rattle.search_least.proofs.BehindLemmas.{behind_none}
 use Rattle.refute_log.specs.declared.stop.Stop.TheVariants.{RoomFull}
 use Rattle.trade_off.specs.declared.outcome.FrontEnd.TheVariants.{Room}
+use Rattle.trade_off.specs.Front.{Pairs}
 use Rattle.trade_off.specs.Outcome.{front_lines, IsFrontLog}
 use Rattle.trade_off.proofs.TellLemmas.{words_front}
 use Rattle.lex_minimise.specs.Task.{task_of}
@@ -40,11 +41,11 @@ front_passes y budget room a b (inr h) =
     let more : words_of (flat_map given (first_lines p)) ≤ words_of (flat_map given (front_lines p a b)) = words_front (first_lines p) _ in
     inr (omega (arith, h, words, more))
 
-pub no_room_front : (y : Layout) (budget room : ℕ) (a b : Criterion) →
+pub no_room_front : (y : Layout) (budget room : ℕ) (a b : Criterion) (pairs : Pairs) →
     (VARS < formula_size y.graph (is_above y.order) (is_overlap y.order) y.grid) ⊎
     (room < words_of (formula_clauses y.graph (is_above y.order) (is_overlap y.order) y.grid)) →
-    IsFrontLog (task_of y budget room) a b Room []
-no_room_front y budget room a b full =
+    IsFrontLog (task_of y budget room) a b pairs Room []
+no_room_front y budget room a b pairs full =
     let p = task_of y budget room in
     let end : IsUnfoundEnd p (a ∷ b ∷ []) 0 RoomFull [] = no_room_end y budget room (a ∷ b ∷ []) full in
     let s = end.searched in

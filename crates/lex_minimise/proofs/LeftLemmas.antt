@@ -244,7 +244,12 @@ pub values_unbegun : (y : Layout) (budget room : ℕ) (order : List Criterion) (
     (lines : Lines) → log lines → IsLeastLeft (task_of y budget room) order lines
 values_unbegun y budget room order log one none lines is =
     let p = task_of y budget room in
-    subst (IsLeastLeft p order) (one [] lines none is) (record { derives = derives_none; cap = λ c. 0; begins = (first_lines p, unbounded p order) })
+    subst (IsLeastLeft p order) (one [] lines none is) (record {
+      derives = derives_none;
+      cap = λ c. 0;
+      within = λ c. omega arith;
+      begins = (first_lines p, unbounded p order);
+    })
 
 -- an error in the formula's clauses
 pub values_begun : (y : Layout) (budget room : ℕ) (order : List Criterion) (e : Encoding) (f : Cnf) (old : Kept) (l0 l1 : Lines → Type 0) → IsFirst y room e →
@@ -254,4 +259,4 @@ values_begun y budget room order e f old l0 l1 first is blank_is h none lines to
     let p = task_of y budget room in
     let left = formula_left y budget room (expected_lines p.encoding order (λ c. 0)) [] e f old l0 l1 first is blank_is
     (unbounded p order ∙ sym (append-nil (first_lines p))) h none lines told in
-    record { derives = left.0; cap = λ c. 0; begins = left.1 }
+    record { derives = left.0; cap = λ c. 0; within = λ c. omega arith; begins = left.1 }

@@ -1,5 +1,5 @@
 // The front of two criteria, with the solver.
-ghost use Rattle.std.specs.Prelude.{◌≡◌, ◌≢◌, ◌≤◌, ◌++◌, [], IfOk, OnErr, IsErrOf};
+ghost use Rattle.std.specs.Prelude.{◌≡◌, ◌≢◌, ◌≤◌, [], IfOk, OnErr, IsErrOf};
 ghost use Rattle.outside_io.specs.Counts.{Rose};
 ghost use Rattle.cnf_core.specs.declared.limits.TheConstants.{ROOM};
 ghost use Rattle.track_order.specs.Order.{IsOrderOf};
@@ -9,7 +9,7 @@ ghost use Rattle.cdcl_core.specs.Kept.{blank};
 ghost use Rattle.search_least.specs.Task.{IsLawful};
 ghost use Rattle.refute_log.specs.Steps.{ToldBehind};
 ghost use Rattle.search_least.specs.Outcome.{first_lines};
-ghost use Rattle.trade_off.specs.Outcome.{IsRightFront, IsFrontLog, IsFrontLeft};
+ghost use Rattle.trade_off.specs.Outcome.{IsRightFront, IsFrontLog, IsFrontAfter, IsFrontLeft};
 ghost use Rattle.drawing_cnf.specs.Layout.{layout};
 ghost use Rattle.lex_minimise.specs.Task.{task_of};
 ghost use Rattle.lex_minimise.specs.Told.{IsLogOfSolver};
@@ -44,7 +44,7 @@ fn front_from<L: LogSink>(
     ensures right { IfOk result (λ r. IsRightFront (IsLawful (task_with known.old)) a b r.pairs r.ending) }
     ensures lines { let p = task_with known.old in
         IfOk result (λ r. ToldBehind (IsLogOfSolver solver.new) (L.tells log.old) (L.tells log.new) (L.learnt log.old)
-        (L.learnt log.new) (first_lines p) (λ m. IsFrontLog p a b r.ending (first_lines p ++ m))) }
+        (L.learnt log.new) (first_lines p) (IsFrontAfter p a b r.pairs r.ending)) }
     ensures left { let p = task_with known.old in
         OnErr result (L.tells log.old (first_lines p) → (lines : Lines) → L.tells log.new lines →
         IsFrontLeft p a b lines) }
@@ -78,7 +78,7 @@ pub fn front_with<L: LogSink>(
         IfOk result (λ r. IsRightFront (IsLawful p) a b r.pairs r.ending) }
     ensures lines { let p = task_of (layout g.now t.now grid.now) limits.now.budget limits.now.room in
         IfOk result (λ r. (ls : Lines) × told_to L.tells L.learnt log.old log.new ls
-        × IsFrontLog p a b r.ending ls × IsLogOfSolver solver.new ls) }
+        × IsFrontLog p a b r.pairs r.ending ls × IsLogOfSolver solver.new ls) }
     ensures left { let p = task_of (layout g.now t.now grid.now) limits.now.budget limits.now.room in
         OnErr result (L.tells log.old [] → (lines : Lines) → L.tells log.new lines → IsFrontLeft p a b lines) }
     ensures later { L.is_later log.old log.new }
@@ -130,7 +130,7 @@ pub fn front<L: LogSink>(
         IfOk result (λ r. IsRightFront (IsLawful p) a b r.pairs r.ending) }
     ensures lines { let p = task_of (layout g.now t.now grid.now) budget room in
         IfOk result (λ r. (lines : Lines) × told_to L.tells L.learnt log.old log.new lines
-        × IsFrontLog p a b r.ending lines) }
+        × IsFrontLog p a b r.pairs r.ending lines) }
     ensures left { let p = task_of (layout g.now t.now grid.now) budget room in
         OnErr result (L.tells log.old [] → (lines : Lines) → L.tells log.new lines → IsFrontLeft p a b lines) }
     ensures later { L.is_later log.old log.new }

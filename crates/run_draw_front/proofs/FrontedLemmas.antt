@@ -20,7 +20,7 @@ use Rattle.run_input.specs.Met.{Met}
 pub fronted : (grid : GridSize) (a b : Criterion) (budget : ℕ) (asked : FrontJob) (IsTold : Lines → Type 0) (g : Graph) (o : EdgeOrder) (pairs : Pairs)
     (ending : FrontEnd) (status : Status) (text : List ℕ) → front_job grid a b budget ≡ asked →
     IsRightFront (IsLawful (task_of (layout g o grid) budget ROOM)) a b pairs ending →
-    (lines : Lines) × IsTold lines × IsFrontLog (task_of (layout g o grid) budget ROOM) a b ending lines →
+    (lines : Lines) × IsTold lines × IsFrontLog (task_of (layout g o grid) budget ROOM) a b pairs ending lines →
     status ≡ status_of_front ending → text ≡ front_text a b pairs ending → IsFrontAnswer asked IsTold g o status text
 fronted grid a b budget asked IsTold g o pairs ending status text same right log status_is spelled =
     subst (λ (j : FrontJob). IsFrontAnswer j IsTold g o status text) same (record {
@@ -42,10 +42,10 @@ pub left_of_parts : (grid : GridSize) (a b : Criterion) (budget : ℕ) (asked : 
 left_of_parts grid a b budget asked g o lines same left = subst (λ (j : FrontJob). IsLeftOfFront j g o lines) same left
 
 -- the whole search was told
-pub told_front_left : (grid : GridSize) (a b : Criterion) (budget : ℕ) (asked : FrontJob) (g : Graph) (o : EdgeOrder) (ending : FrontEnd) (told : Lines)
-    (old new : Lines → Type 0) → front_job grid a b budget ≡ asked → IsFrontLog (task_of (layout g o grid) budget ROOM) a b ending told →
+pub told_front_left : (grid : GridSize) (a b : Criterion) (budget : ℕ) (asked : FrontJob) (g : Graph) (o : EdgeOrder) (pairs : Pairs) (ending : FrontEnd)
+    (told : Lines) (old new : Lines → Type 0) → front_job grid a b budget ≡ asked → IsFrontLog (task_of (layout g o grid) budget ROOM) a b pairs ending told →
     ((x y : Lines) → new x → new y → x ≡ y) → AddsAll old new told → old [] → (lines : Lines) → new lines → IsLeftOfFront asked g o lines
-told_front_left grid a b budget asked g o ending told old new same log one adds none lines is =
+told_front_left grid a b budget asked g o pairs ending told old new same log one adds none lines is =
     subst (IsLeftOfFront asked g o) (one told lines (adds [] none) is) (left_of_parts grid a b budget asked g o told same (record {
       derives = log.derives;
       begins = log.begins;

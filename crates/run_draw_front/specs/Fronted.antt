@@ -51,7 +51,7 @@ pub record IsFrontAnswer (asked : FrontJob) (IsTold : Lines → Type 0) (g : Gra
   pub right : IsRightFront (IsLawful (front_task g o asked)) asked.first asked.second pairs ending
   pub lines : Lines
   pub told : IsTold lines
-  pub log : IsFrontLog (front_task g o asked) asked.first asked.second ending lines
+  pub log : IsFrontLog (front_task g o asked) asked.first asked.second pairs ending lines
   pub status_is : status ≡ status_of_front ending
   pub spelled : text ≡ front_text asked.first asked.second pairs ending
 

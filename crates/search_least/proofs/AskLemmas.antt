@@ -20,7 +20,7 @@ use Rattle.refute_log.specs.Steps.{ToldBehind, Continues, KnowsSome}
 use Rattle.refute_log.proofs.StepLemmas.{stays, goes_on, becomes, learnt_no_clauses}
 use Rattle.search_least.proofs.QuestionLemmas.{no_clauses_both, none_in, not_model, not_nothing, query_stays, question_queries}
 use Rattle.search_least.proofs.BehindLemmas.{behind_unended, behind_ended}
-use Rattle.search_least.specs.Asked.{Queries, queries}
+use Rattle.search_least.specs.Asked.{Queries}
 use Rattle.search_least.specs.declared.questions.Answer.{Answer}
 use Rattle.search_least.specs.declared.questions.Answer.TheVariants.{Found, Refuted, Stopped}
 use Rattle.search_least.specs.declared.fewest.Fewest.{Fewest}
@@ -28,7 +28,7 @@ use Rattle.search_least.specs.declared.fewest.Fewest.TheVariants.{Best}
 use Rattle.search_least.specs.CountTask.{CountTask, IsOne, TellsCount, CoversCounts}
 use Rattle.refute_log.specs.Cause.{IsCause}
 use Rattle.search_least.specs.CountAsked.{IsBelow, IsLimit, query_of, SaysReached, IsAsked, IsAnswer, IsRightAnswer}
-use Rattle.search_least.specs.CountPlaced.{AsksFor, HasComeTo, IsNextLimit, IsCountPlaced, AreCountsAsked}
+use Rattle.search_least.specs.CountPlaced.{AsksFor, MeetsModelled, HasComeTo, IsNextLimit, IsCountPlaced, AreCountsAsked}
 use Rattle.search_least.specs.Fewest.{IsStoppedSearch, IsEnd, stopped_with}
 use Rattle.search_least.specs.Run.{RefutesNothing, IsAskedDownTo, IsRunOfDrawings, IsRunToEnd}
 
@@ -112,10 +112,21 @@ latest_query p limit ending lines more still a =
 pub comes_to : (p : CountTask) (limit : Option ℕ) (n : ℕ) (lines more : Lines) → IsAsked p limit (Model ∷ []) more → IsBelow limit n →
     HasComeTo p (lines ++ more) n
 comes_to p limit n lines more a below = record {
-  limit = limit;
+  met = record {
+    limit = limit;
+    modelled = ap (λ (q : Queries). q.modelled) (question_queries lines (query_of p limit) a.clauses (Model ∷ []) more a.is);
+    below = below;
+  };
   latest = latest_query p limit (Model ∷ []) lines more (λ q. refl) a;
-  modelled = ap (λ (q : Queries). q.modelled) (question_queries lines (query_of p limit) a.clauses (Model ∷ []) more a.is);
-  below = below;
+}
+
+-- without an answer the last Model line stays the last
+met_still : (p : CountTask) (limit : Option ℕ) (n : ℕ) (lines more : Lines) → IsAsked p limit [] more → MeetsModelled p lines n →
+    MeetsModelled p (lines ++ more) n
+met_still p limit n lines more a m = record {
+  limit = m.limit;
+  modelled = ap (λ (q : Queries). q.modelled) (question_queries lines (query_of p limit) a.clauses [] more a.is) ∙ m.modelled;
+  below = m.below;
 }
 
 -- each line of it stands where it may
@@ -225,7 +236,7 @@ ends_refuted knows log count a b e q p f n r d one was is run asked =
     let got : IsAnswer p (lines ++ xs) (Some n) Refuted ys = subst (λ (x : Answer). IsAnswer p (lines ++ xs) (Some n) x ys) was here in
     record {
       none = no_clauses_both xs ys so_far.none (asks_no_clauses p (Some n) (RefutedLine got.0 ∷ []) ys got.2 refl);
-      end = λ nothing positive. record {
+      end = λ nothing down positive. record {
         clause = got.0;
         among = subst (λ (ls : Lines). Contains ls (RefutedLine got.0)) (append_assoc lines xs ys)
             (ends_in p (Some n) (lines ++ xs) ys (RefutedLine got.0) got.2);
@@ -240,7 +251,7 @@ ends_zero knows log count a b p f n d nil run =
     becomes knows log count a b (IsRunOfDrawings p f n) (IsRunToEnd p f (Best d)) run
     (λ lines xs ka kb so_far. record {
       none = so_far.none;
-      end = λ nothing positive. absurd (omega (arith, nil, positive));
+      end = λ nothing down positive. absurd (omega (arith, nil, positive));
       placed = λ h. (so_far.placed h).placed;
     })
 
@@ -264,13 +275,16 @@ ends_stopped knows log count a b e q p f n r d stop outcome one was is count_is 
     let got : IsAnswer p (lines ++ xs) limit (Stopped stop) ys = subst (λ (x : Answer). IsAnswer p (lines ++ xs) limit x ys) was here in
     record {
       none = no_clauses_both xs ys so_far.none (asks_no_clauses p limit [] ys got.0 refl);
-      end = λ nothing. stopped_end p stop (Some d) outcome (lines ++ (xs ++ ys)) is (
+      end = λ nothing down. stopped_end p stop (Some d) outcome (lines ++ (xs ++ ys)) is (
         subst (IsCause p.budget p.room stop) (append_assoc lines xs ys) got.1,
         subst RefutesNothing (append_assoc lines xs ys) (no_refuted p limit [] (lines ++ xs) ys got.0 not_nothing (so_far.nothing nothing)),
         (
           subst (λ (k : ℕ). 1 ≤ k) count_is (one.within).0,
           subst (AsksFor p (Some (p.count d))) (append_assoc lines xs ys)
               (latest_query p limit [] (lines ++ xs) ys (λ x. refl) got.0 ∙ ap (λ (k : ℕ). Some (query_of p (Some k))) count_is),
+          subst (λ (ls : Lines). MeetsModelled p ls (p.count d)) (append_assoc lines xs ys)
+              (subst (MeetsModelled p ((lines ++ xs) ++ ys)) count_is
+              (met_still p limit n (lines ++ xs) ys got.0 (so_far.placed down).comes.met)),
         ),
       );
       placed = placed_behind q p f n r lines xs ys so_far one here;

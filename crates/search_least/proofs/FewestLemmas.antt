@@ -24,8 +24,8 @@ use Rattle.search_least.specs.declared.fewest.Fewest.TheVariants.{NoDrawing}
 use Rattle.search_least.specs.CountTask.{CountTask, IsOne}
 use Rattle.search_least.specs.CountAsked.{IsBelow, SaysReached, IsAsked, IsAnswer, IsRightAnswer}
 use Rattle.search_least.specs.Fewest.{IsRightFewest, IsEnd, IsFewestLog, stopped_with}
-use Rattle.search_least.specs.CountPlaced.{HasComeTo, IsNextLimit, IsCountPlaced, AreCountsAsked}
-use Rattle.search_least.specs.Run.{RefutesNothing, IsRunToEnd}
+use Rattle.search_least.specs.CountPlaced.{IsNextLimit, IsCountPlaced, AreCountsAsked}
+use Rattle.search_least.specs.Run.{RefutesNothing, IsAskedDownTo, IsRunToEnd}
 use Rattle.search_least.proofs.BehindLemmas.{behind_none, behind_mapped}
 use Rattle.search_least.proofs.AskLemmas.{asks_no_clauses, no_refuted, no_model, ends_in, stopped_end, counts_asked, comes_to, latest_query}
 
@@ -97,13 +97,14 @@ first_found knows log count a b e q p r d outcome same was right asked run =
     (λ lines xs ys ka kb ke answer end is.
     let got : IsAsked p None (Model ∷ []) xs = subst (λ (x : Answer). IsAnswer p lines None x xs) was answer in
     let nothing : RefutesNothing lines = subst RefutesNothing (sym is) (formulas_refute_nothing p.clauses) in
+    let down : IsAskedDownTo p (p.count d) (lines ++ xs) = record {
+      placed = counts_asked p None lines xs r answer right (any_is_next p lines is) (formulas_placed p lines is);
+      comes = comes_to p None (p.count d) lines xs got tt;
+    } in
     record {
       none = both xs ys (asks_no_clauses p None (Model ∷ []) xs got refl) end.none;
-      end = subst (IsEnd p outcome) (append_assoc lines xs ys) (end.end (no_refuted p None (Model ∷ []) lines xs got not_model nothing));
-      placed = subst (AreCountsAsked p) (append_assoc lines xs ys) (end.placed (record {
-        placed = counts_asked p None lines xs r answer right (any_is_next p lines is) (formulas_placed p lines is);
-        comes = comes_to p None (p.count d) lines xs got tt;
-      }));
+      end = subst (IsEnd p outcome) (append_assoc lines xs ys) (end.end (no_refuted p None (Model ∷ []) lines xs got not_model nothing) down);
+      placed = subst (AreCountsAsked p) (append_assoc lines xs ys) (end.placed down);
     })
   where
     both : (xs ys : Lines) → clause_lines xs ≡ [] → clause_lines ys ≡ [] → clause_lines (xs ++ ys) ≡ []

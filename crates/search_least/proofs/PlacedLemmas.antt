@@ -140,20 +140,28 @@ placed_built p order now e first c (suc n) r h =
     (bounds_placed p order (now ++ clauses) c 1 (e.bounds first c (suc n)) (reached_formulas p order now c (e.sum first c (suc n)) r)
     (behind_mapped (IsPlaced p order) Formula now (e.sum first c (suc n)) (λ before f. tt) h))
 
--- in a search under bounds they may stand anywhere
-bounds_anywhere : (p : Task) (now : Lines) (c : Criterion) (k : ℕ) (xs : List Var) → AreUnderBounds p now → AreUnderBounds p (now ++ bound_lines c k xs)
-bounds_anywhere p now c k [] h = subst (AreUnderBounds p) (sym (append-nil now)) h
-bounds_anywhere p now c k (x ∷ xs) h =
-    subst (AreUnderBounds p) (append_assoc now (Bound c k x ∷ []) (bound_lines c (k + 1) xs))
-    (bounds_anywhere p (now ++ Bound c k x ∷ []) c (k + 1) xs (behind_more (IsUnderBounds p) now (Bound c k x) h tt))
+-- in a search under bounds they may stand anywhere, as the formula's
+pub record TakesClauses (IsSo : Lines → LogLine → Type 0) : Type 0 where
+  pub formula : (before : Lines) (c : List Literal) → IsSo before (Formula c)
+  pub bound : (before : Lines) (c : Criterion) (k : ℕ) (x : Var) → IsSo before (Bound c k x)
 
-pub sums_under_bounds : (p : Task) (now : Lines) (e : Problem) (first : ℕ) (c : Criterion) (n : ℕ) → AreUnderBounds p now →
-    AreUnderBounds p (now ++ sum_lines e first c n)
-sums_under_bounds p now e first c zero h = subst (AreUnderBounds p) (sym (append-nil now)) h
-sums_under_bounds p now e first c (suc n) h =
+bounds_anywhere : (IsSo : Lines → LogLine → Type 0) (now : Lines) (c : Criterion) (k : ℕ) (xs : List Var) → TakesClauses IsSo → EachBehind IsSo now →
+    EachBehind IsSo (now ++ bound_lines c k xs)
+bounds_anywhere IsSo now c k [] takes h = subst (EachBehind IsSo) (sym (append-nil now)) h
+bounds_anywhere IsSo now c k (x ∷ xs) takes h =
+    subst (EachBehind IsSo) (append_assoc now (Bound c k x ∷ []) (bound_lines c (k + 1) xs))
+    (bounds_anywhere IsSo (now ++ Bound c k x ∷ []) c (k + 1) xs takes (behind_more IsSo now (Bound c k x) h (takes.bound now c k x)))
+
+pub sums_anywhere : (IsSo : Lines → LogLine → Type 0) (now : Lines) (e : Problem) (first : ℕ) (c : Criterion) (n : ℕ) → TakesClauses IsSo →
+    EachBehind IsSo now → EachBehind IsSo (now ++ sum_lines e first c n)
+sums_anywhere IsSo now e first c zero takes h = subst (EachBehind IsSo) (sym (append-nil now)) h
+sums_anywhere IsSo now e first c (suc n) takes h =
     let clauses : Lines = map Formula (e.sum first c (suc n)) in
-    subst (AreUnderBounds p) (append_assoc now clauses (bound_lines c 1 (e.bounds first c (suc n))))
-    (bounds_anywhere p (now ++ clauses) c 1 (e.bounds first c (suc n)) (behind_mapped (IsUnderBounds p) Formula now (e.sum first c (suc n)) (λ before f. tt) h))
+    subst (EachBehind IsSo) (append_assoc now clauses (bound_lines c 1 (e.bounds first c (suc n))))
+    (bounds_anywhere IsSo (now ++ clauses) c 1 (e.bounds first c (suc n)) takes (behind_mapped IsSo Formula now (e.sum first c (suc n)) takes.formula h))
 
-pub first_under_bounds : (p : Task) → AreUnderBounds p (map Formula p.encoding.clauses)
-first_under_bounds p = behind_mapped (IsUnderBounds p) Formula [] p.encoding.clauses (λ before c. tt) (behind_none (IsUnderBounds p))
+pub first_anywhere : (IsSo : Lines → LogLine → Type 0) (p : Task) → TakesClauses IsSo → EachBehind IsSo (map Formula p.encoding.clauses)
+first_anywhere IsSo p takes = behind_mapped IsSo Formula [] p.encoding.clauses takes.formula (behind_none IsSo)
+
+pub clauses_under_bounds : (p : Task) → TakesClauses (IsUnderBounds p)
+clauses_under_bounds p = record { formula = λ before c. tt; bound = λ before c k x. tt }

@@ -23,13 +23,16 @@ pub record HasCount (p : CountTask) (before : Lines) : Type 0 where
   pub latest : AsksFor p limit before
   pub below : IsBelow limit (p.count drawing)
 
--- the search has come to this number: a Model line answers the latest query, and that asked for a count below a greater
--- limit, or for any
-pub record HasComeTo (p : CountTask) (before : Lines) (n : ℕ) : Type 0 where
+-- the last Model line answers a query that asked for a count below a greater limit, or for any
+pub record MeetsModelled (p : CountTask) (lines : Lines) (n : ℕ) : Type 0 where
   pub limit : Option ℕ
-  pub latest : AsksFor p limit before
-  pub modelled : (queries before).modelled ≡ Some (query_of p limit)
+  pub modelled : (queries lines).modelled ≡ Some (query_of p limit)
   pub below : IsBelow limit n
+
+-- the search has come to this number: such a Model line answers the latest query
+pub record HasComeTo (p : CountTask) (before : Lines) (n : ℕ) : Type 0 where
+  pub met : MeetsModelled p before n
+  pub latest : AsksFor p met.limit before
 
 -- the limit may be asked for next: at first none, so that any drawing is asked for; then, once the latest query has its
 -- Model line, one with a literal that is smaller than the latest limit

@@ -13,7 +13,7 @@ use Rattle.refute_log.specs.declared.stop.Stop.TheVariants.{BudgetSpent, RoomFul
 use Rattle.search_least.specs.declared.fewest.Fewest.{Fewest}
 use Rattle.search_least.specs.declared.fewest.Fewest.TheVariants.{Best, NoDrawing, Spent, Room}
 use Rattle.search_least.specs.CountTask.{CountTask, IsOne}
-use Rattle.search_least.specs.CountPlaced.{AsksFor, AreCountsAsked}
+use Rattle.search_least.specs.CountPlaced.{AsksFor, MeetsModelled, AreCountsAsked}
 use Rattle.refute_log.specs.Cause.{IsCause}
 
 -- what it says of drawings
@@ -29,14 +29,14 @@ pub record RefutesFewer (p : CountTask) (lines : Lines) (n : ℕ) : Type 0 where
   pub among : Contains lines (Refuted clause)
   pub each : All (λ l. l ≡ p.at_least n) clause
 
--- where a search stopped: nothing was refuted; with a drawing its count is positive and the latest query asks for less
--- (limits fall, so that each query before asked for any or below a greater number); without one no model was found and
--- the latest query asks for any
+-- where a search stopped: nothing was refuted; with a drawing its count is positive, the latest query asks for less,
+-- and the last Model line answers one before it, for any or below a greater number (limits fall, so that no Model line
+-- stands for less); without one no model was found and the latest query asks for any
 abbrev pub IsStoppedSearch : CountTask → Stop → Option Drawing → Lines → Type 0
 IsStoppedSearch p stop best lines = IsCause p.budget p.room stop lines
     × ((clause : List Literal) → Contains lines (Refuted clause) → ⊥)
     × MatchOption best ((Contains lines Model → ⊥) × AsksFor p None lines)
-    (λ d. (1 ≤ p.count d) × AsksFor p (Some (p.count d)) lines)
+    (λ d. (1 ≤ p.count d) × AsksFor p (Some (p.count d)) lines × MeetsModelled p lines (p.count d))
 
 -- the end of the lines: a Refuted line that leaves no count smaller than the drawing's, if that is
 -- positive; one without literals, where there is no drawing; or the search stopped for its cause, with

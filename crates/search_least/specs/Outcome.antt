@@ -99,10 +99,11 @@ IsOutcome p order (Spent best settled) lines = IsStoppedEnd p order settled Budg
 IsOutcome p order (Room best settled) lines = IsStoppedEnd p order settled RoomFull best lines
 
 -- the lines of a search for least values that ended with an error: they derive, and their Formula and Bound lines begin
--- those that are expected with some caps
+-- those that are expected with some caps, each at most the criterion's greatest value
 pub record IsLeastLeft (p : Task) (order : List Criterion) (lines : Lines) : Type 0 where
   pub derives : Derives lines
   pub cap : Criterion → ℕ
+  pub within : (c : Criterion) → cap c ≤ greatest_of p c
   pub begins : BeginsLines (clause_lines lines) (expected_lines p.encoding order cap)
 
 -- the outcome of a search that stopped

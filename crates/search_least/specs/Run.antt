@@ -25,9 +25,9 @@ pub record IsRunOfDrawings (p : CountTask) (first last : ℕ) (lines more : Line
   pub nothing : RefutesNothing lines → RefutesNothing (lines ++ more)
   pub placed : IsAskedDownTo p first lines → IsAskedDownTo p last (lines ++ more)
 
--- a run of questions from the first number to this end tells no clauses of the formula; where the lines before it
--- refute nothing, all together have this end; and its lines stand where they may
+-- a run of questions from the first number to this end tells no clauses of the formula; where the search has come to
+-- that number, its lines stand where they may, and where the lines before it refute nothing, all together have this end
 pub record IsRunToEnd (p : CountTask) (first : ℕ) (outcome : Fewest) (lines more : Lines) : Type 0 where
   pub none : clause_lines more ≡ []
-  pub end : RefutesNothing lines → IsEnd p outcome (lines ++ more)
+  pub end : RefutesNothing lines → IsAskedDownTo p first lines → IsEnd p outcome (lines ++ more)
   pub placed : IsAskedDownTo p first lines → AreCountsAsked p (lines ++ more)

@@ -6,7 +6,7 @@ use Rattle.plan_core.specs.declared.criterion.Criterion.{Criterion}
 use Rattle.plan_core.specs.Values.{values_of, value_of}
 use Rattle.plan_core.specs.Drawing.{Drawing}
 use Rattle.refute_log.specs.Told.{Lines}
-use Rattle.refute_log.specs.Log.{clause_lines}
+use Rattle.refute_log.specs.Log.{clause_lines, Derives}
 use Rattle.refute_log.specs.Expected.{expected_lines, expected_vars, IsAllExpected}
 use Rattle.search_least.specs.declared.oracle.Below.{Below}
 use Rattle.search_least.specs.declared.advancing.Advanced.{Advanced}
@@ -91,11 +91,12 @@ BoundedTo p order i held (Some stop) s d cap lines = StoppedAt p order s stop d 
 abbrev pub BoundedSo : Task → List Criterion → ℕ → List Below → Advanced → (Criterion → ℕ) → Lines → Type 0
 BoundedSo p order i held r cap lines = BoundedTo p order i held r.stop r.settled r.best cap lines
 
--- whatever the log tells after an error is left of a search, where what it told before was known and was so
+-- whatever the log tells after an error derives, where what it told before was known; where this was so too, it is left
+-- of a search
 abbrev pub LeavesSearch : Task → List Criterion → (before : Lines → Type 0) → (known log_old log_new : Lines → Type 0) →
     Type 0
-LeavesSearch p order before known log_old log_new = (lines : Lines) → known lines → before lines → log_old lines →
-    (told : Lines) → log_new told → IsLeastLeft p order told
+LeavesSearch p order before known log_old log_new = (lines : Lines) → known lines → log_old lines →
+    (told : Lines) → log_new told → Derives told × (before lines → IsLeastLeft p order told)
 
 -- what is so of the lines before leads to what is so with the further ones
 abbrev pub LeadsTo : (before behind : Lines → Type 0) → Lines → Lines → Type 0

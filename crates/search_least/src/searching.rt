@@ -4,7 +4,7 @@ ghost use Rattle.std.specs.Prelude.{slice_get, Some};
 ghost use Rattle.outside_io.specs.Counts.{Rose};
 ghost use Rattle.plan_core.specs.Order.{IsOrder};
 ghost use Rattle.search_least.specs.Task.{IsLawful};
-ghost use Rattle.refute_log.specs.Steps.{ToldBehind, Continues};
+ghost use Rattle.refute_log.specs.Steps.{ToldBehind, Continues, StillDerives};
 ghost use Rattle.search_least.specs.State.{Counted, SearchState, LeavesSearch};
 ghost use Rattle.search_least.specs.Outcome.{IsOutcome, IsRightOutcome, IsFresh, IsLeastLeft, first_lines};
 ghost use Rattle.refute_log.specs.Told.{Lines};
@@ -81,8 +81,9 @@ fn search<O: Oracle>(alloc: Global, oracle: &mut O, wanted: &Order) -> Result<Ou
 
 /// A lawful drawing with the least values in the wanted order, or as far as the search comes. The oracle knows the
 /// drawings' clauses, and no bound yet. What the outcome says of drawings holds with every log. The search gives the
-/// log further lines behind the clauses; together they are the lines of a search with this outcome. After an error the
-/// log derives, and its Formula and Bound lines are the first of those that are expected.
+/// log further lines behind the clauses; together they are the lines of a search with this outcome. After an error a
+/// log whose lines were known derives, and where they were the clauses, its Formula and Bound lines are the first of
+/// those that are expected.
 pub fn least_values<O: Oracle>(
     alloc: Global,
     oracle: &mut O,
@@ -96,6 +97,7 @@ pub fn least_values<O: Oracle>(
         ToldBehind (O.knows oracle.new) (O.log oracle.old) (O.log oracle.new) (O.learnt oracle.old)
         (O.learnt oracle.new) l (λ m. IsOutcome p wanted.now o (l ++ m))) }
     ensures task { O.task oracle.new ≡ O.task oracle.old }
+    ensures still { OnErr result (StillDerives (O.knows oracle.old) (O.log oracle.old) (O.log oracle.new)) }
     ensures left { let p = O.task oracle.old in
         OnErr result (O.log oracle.old (first_lines p) → (lines : Lines) → O.log oracle.new lines →
         IsLeastLeft p wanted.now lines) }

@@ -1,13 +1,11 @@
 -- What a log tells after an error in a search for the front.
 use Rattle.std.proofs.Common.{◌≡◌, ℕ, ◌+◌, List, [], ◌∷◌, ◌++◌, refl, sym, ◌∙◌, ap, subst, append-nil, append_assoc}
-use Rattle.std.specs.Prelude.{Option}
 use Rattle.plan_core.specs.declared.criterion.Criterion.{Criterion}
 use Rattle.refute_log.specs.Told.{Lines}
 use Rattle.refute_log.specs.Log.{Derives, clause_lines}
 use Rattle.refute_log.specs.Steps.{ToldBehind, Continues, Leaves}
 use Rattle.refute_log.proofs.StepLemmas.{leaves_later, leaves_here}
 use Rattle.refute_log.specs.Expected.{sum_lines, sum_vars_of, sums}
-use Rattle.refute_log.specs.declared.stop.Stop.{Stop}
 use Rattle.search_least.specs.declared.oracle.Below.{Below}
 use Rattle.search_least.specs.declared.oracle.Reply.{Reply}
 use Rattle.search_least.specs.declared.oracle.Built.{Built}
@@ -24,14 +22,19 @@ use Rattle.trade_off.proofs.AskLemmas.{reply_clauses}
 -- ---- questions tell no clauses
 
 -- an error behind questions: in a later call, or in one that tells nothing
-pub asked_later : {S : Type 0} (knows log : S → Lines → Type 0) (count : S → ℕ) (a b e : S) (p : Task) (stop : Option Stop) →
-    Continues knows log count a b (AreAsked p stop) → Leaves [] (knows b) (log b) (log e) → Leaves [] (knows a) (log a) (log e)
-asked_later knows log count a b e p stop run after = leaves_later knows log count a b e (AreAsked p stop) [] [] run (λ lines more h. h.none) after
+pub asked_later : {S : Type 0} (knows log : S → Lines → Type 0) (count : S → ℕ) (a b e : S) (p : Task) (c : Criterion) (first : List Below)
+    (EndsSo : Lines → Type 0) →
+    Continues knows log count a b (AreAsked p c first EndsSo) → Leaves [] (knows b) (log b) (log e) → Leaves [] (knows a) (log a) (log e)
+asked_later knows log count a b e p c first EndsSo run after = leaves_later knows log count a b e (AreAsked p c first EndsSo) [] [] run (λ lines more h. h.none)
+    after
 
-pub asked_here : {S : Type 0} (knows log : S → Lines → Type 0) (count : S → ℕ) (a b : S) (p : Task) (stop : Option Stop) →
-    Continues knows log count a b (AreAsked p stop) → ((lines : Lines) → knows b lines → Derives lines) → ((x y : Lines) → log b x → log b y → x ≡ y) →
-    Leaves [] (knows a) (log a) (log b)
-asked_here knows log count a b p stop run derives one = leaves_here knows log count a b (AreAsked p stop) run (λ lines more h. h.none) derives one
+pub asked_here : {S : Type 0} (knows log : S → Lines → Type 0) (count : S → ℕ) (a b : S) (p : Task) (c : Criterion) (first : List Below)
+    (EndsSo : Lines → Type 0) →
+    Continues knows log count a b (AreAsked p c first EndsSo) → ((lines : Lines) → knows b lines → Derives lines) →
+    ((x y : Lines) → log b x → log b y → x ≡ y) → Leaves [] (knows a) (log a) (log b)
+asked_here knows log count a b p c first EndsSo run derives one = leaves_here knows log count a b (AreAsked p c first EndsSo) run (λ lines more h. h.none)
+    derives
+    one
 
 pub replied_later : {S : Type 0} (knows log : S → Lines → Type 0) (count : S → ℕ) (a b e : S) (p : Task) (bounds : List Below) (reply : Reply) →
     Continues knows log count a b (λ lines more. IsReply p lines bounds reply more) → Leaves [] (knows b) (log b) (log e) → Leaves [] (knows a) (log a) (log e)

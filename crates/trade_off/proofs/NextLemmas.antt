@@ -7,6 +7,7 @@ use Rattle.plan_core.specs.declared.criterion.Criterion.{Criterion}
 use Rattle.plan_core.specs.Values.{values_of, value_of}
 use Rattle.plan_core.specs.Drawing.{Drawing}
 use Rattle.plan_core.proofs.LimitLemmas.{value-le-limit}
+use Rattle.refute_log.specs.Told.{Lines}
 use Rattle.search_least.specs.declared.oracle.Below.{Below}
 use Rattle.search_least.specs.declared.oracle.Reply.{Reply}
 use Rattle.search_least.specs.declared.oracle.Reply.TheVariants.{Found}
@@ -17,7 +18,8 @@ use Rattle.trade_off.specs.declared.collecting.Next.{Next}
 use Rattle.trade_off.specs.declared.collecting.Next.TheVariants.{Pair, NoMore, Stopped}
 use Rattle.trade_off.specs.Front.{IsAttained}
 use Rattle.trade_off.specs.Least.{IsLeastUnder, NoneMeets, AreBeside}
-use Rattle.trade_off.specs.Next.{IsUnder, under, IsNext, IsSecond, IsSecondOf}
+use Rattle.trade_off.specs.Next.{IsUnder, under, IsNext, IsSecond, IsSecondOf, EndsNext}
+use Rattle.trade_off.proofs.AskLemmas.{stops_as}
 
 -- ---- one bound, or none
 
@@ -154,3 +156,11 @@ none_from p a b limit bounds is none = λ k l at low. none at.drawing at.is_one 
 -- the second number of an attained pair isn't above the greatest value
 pub attained_within : (p : Task) (a b : Criterion) (n m : ℕ) → IsAttained (IsLawful p) a b n m → m ≤ greatest_of p b
 attained_within p a b n m at = subst (λ k. k ≤ greatest_of p b) at.second (value-le-limit p.graph p.above p.grid at.drawing at.is_one b)
+
+-- such bounds are others too
+pub next_as : (p : Task) (Such Other : List Below → Type 0) (b : Criterion) (next : Next) (lines : Lines) →
+    ((bounds : List Below) → Such bounds → Other bounds) →
+    EndsNext p Such b next lines → EndsNext p Other b next lines
+next_as p Such Other b (Pair n m) lines weaker h = h
+next_as p Such Other b NoMore lines weaker h = tt
+next_as p Such Other b (Stopped stop) lines weaker h = stops_as p Such Other b stop lines weaker h

@@ -1,11 +1,12 @@
 -- The lines of a search for the front.
 use Rattle.std.proofs.Common.{◌≡◌, ◌≢◌, ℕ, ◌+◌, ◌<◌, ◌≤◌, Bool, true, false, cond, [], ◌∷◌, ◌++◌, length, refl, sym, ◌∙◌, ap, subst, inl, inr, arith}
 use Rattle.std.proofs.Common.{append-nil, append_assoc}
-use Rattle.std.specs.Prelude.{Some, None, Option, flat_map}
+use Rattle.std.specs.Prelude.{flat_map}
 use Rattle.std.proofs.lemmas.Grind.{flat_map-append}
 use Rattle.plan_core.specs.declared.criterion.Criterion.{Criterion}
 use Rattle.cnf_core.specs.Clause.{Clauses, words_of}
 use Rattle.refute_log.specs.Lines.{MayAllBeTold}
+use Rattle.refute_log.specs.declared.line.LogLine.{LogLine}
 use Rattle.refute_log.specs.Told.{Lines}
 use Rattle.refute_log.specs.Log.{added, given, learnt, Derives, Due, BeginsLines, clause_lines}
 use Rattle.refute_log.specs.Bounds.{CoversDrawings}
@@ -14,10 +15,7 @@ use Rattle.refute_log.specs.Full.{CapsPass}
 use Rattle.refute_log.proofs.ExpectedLemmas.{same_tells, with_cap_here, with_cap_other}
 use Rattle.search_least.specs.declared.oracle.Built.{Built}
 use Rattle.search_least.specs.declared.oracle.Built.TheVariants.{Whole as AllOfThem, NoRoom}
-use Rattle.refute_log.specs.declared.stop.Stop.{Stop}
-use Rattle.refute_log.specs.declared.stop.Stop.TheVariants.{BudgetSpent, RoomFull}
 use Rattle.search_least.specs.Task.{Task, greatest_of}
-use Rattle.refute_log.specs.Cause.{IsCause}
 use Rattle.search_least.specs.Built.{SumPasses, IsBuild, AreBuiltTo}
 use Rattle.search_least.specs.Outcome.{first_lines}
 use Rattle.refute_log.specs.Steps.{ToldBehind, Continues}
@@ -25,10 +23,11 @@ use Rattle.refute_log.proofs.StepLemmas.{stays, goes_on, becomes, clause_lines_a
 use Rattle.search_least.proofs.BuildLemmas.{formulas_are_clauses, sum_is_clauses}
 use Rattle.trade_off.specs.declared.outcome.FrontEnd.{FrontEnd}
 use Rattle.trade_off.specs.declared.outcome.FrontEnd.TheVariants.{Whole, Empty, Conflicts, Room}
-use Rattle.search_least.specs.Placed.{AreUnderBounds}
-use Rattle.search_least.proofs.PlacedLemmas.{sums_under_bounds, first_under_bounds}
-use Rattle.trade_off.specs.Least.{AreAsked}
-use Rattle.trade_off.specs.Outcome.{front_lines, IsFrontCause, IsFrontLog, IsBuiltFront, stop_behind}
+use Rattle.search_least.specs.Placed.{EachBehind, IsUnderBounds, AreUnderBounds}
+use Rattle.search_least.proofs.PlacedLemmas.{TakesClauses, sums_anywhere, first_anywhere, clauses_under_bounds}
+use Rattle.trade_off.specs.Least.{IsNoLess, HasComeDown, AreAsked}
+use Rattle.trade_off.specs.Outcome.{front_lines, IsFrontCause, IsFrontLog, IsBuiltFront, EndsFront}
+use Rattle.trade_off.specs.Front.{Pairs}
 
 -- ---- the lines of both criteria
 
@@ -94,12 +93,17 @@ second_passes p a b lines is (inr h) =
     ∙ append_assoc (first_lines p) (first_sum p a) (second_sum p a b) ∙ sym (front_is p a b) in
     inr (subst (λ (ls : Lines). p.room < words_of (flat_map given ls) + words_of (flat_map learnt lines)) one h)
 
--- they may stand in a search under bounds
-first_placed : (p : Task) (a : Criterion) → AreUnderBounds p (first_lines p ++ first_sum p a)
-first_placed p a = sums_under_bounds p (first_lines p) p.encoding p.encoding.vars a (greatest_of p a) (first_under_bounds p)
+-- they may stand in a search under bounds, and are no queries
+first_placed : (IsSo : Lines → LogLine → Type 0) (p : Task) (a : Criterion) → TakesClauses IsSo → EachBehind IsSo (first_lines p ++ first_sum p a)
+first_placed IsSo p a takes = sums_anywhere IsSo (first_lines p) p.encoding p.encoding.vars a (greatest_of p a) takes (first_anywhere IsSo p takes)
 
-second_placed : (p : Task) (a b : Criterion) → AreUnderBounds p ((first_lines p ++ first_sum p a) ++ second_sum p a b)
-second_placed p a b = sums_under_bounds p (first_lines p ++ first_sum p a) p.encoding (second_vars p a) b (greatest_of p b) (first_placed p a)
+second_placed : (IsSo : Lines → LogLine → Type 0) (p : Task) (a b : Criterion) → TakesClauses IsSo →
+    EachBehind IsSo ((first_lines p ++ first_sum p a) ++ second_sum p a b)
+second_placed IsSo p a b takes = sums_anywhere IsSo (first_lines p ++ first_sum p a) p.encoding (second_vars p a) b (greatest_of p b) takes
+    (first_placed IsSo p a takes)
+
+no_queries : (c : Criterion) → TakesClauses (IsNoLess c [])
+no_queries c = record { formula = λ before k. tt; bound = λ before d n x. tt }
 
 -- ---- both are told, or a front of them
 
@@ -131,7 +135,7 @@ no_room_for_first knows log count s e p a b vars r was start goes =
     (subst (λ (x : Built). IsBuild p vars a (greatest_of p a) x lines xs) was h) in
     let same : lines ++ xs ≡ lines = ap (λ (ls : Lines). lines ++ ls) got.0 ∙ append-nil lines in
     let whole : lines ++ xs ≡ first_lines p = same ∙ is in (
-      subst (AreUnderBounds p) (sym whole) (first_under_bounds p),
+      subst (AreUnderBounds p) (sym whole) (first_anywhere (IsUnderBounds p) p (clauses_under_bounds p)),
       begins_first p a b (lines ++ xs) whole,
       first_passes p a b (lines ++ xs) whole
           (subst (SumPasses p p.encoding.vars a (greatest_of p a)) (sym same) got.1),
@@ -143,15 +147,17 @@ second_built p a b AllOfThem lines xs ys is one two =
     let whole : lines ++ (xs ++ ys) ≡ first_lines p ++ (first_sum p a ++ second_sum p a b) =
     ap (λ (ls : Lines). ls ++ (xs ++ ys)) is ∙ ap (λ (ls : Lines). first_lines p ++ (ls ++ ys)) one
     ∙ ap (λ (ls : Lines). first_lines p ++ (first_sum p a ++ ls)) two in (
-      subst (AreUnderBounds p) (append_assoc (first_lines p) (first_sum p a) (second_sum p a b) ∙ sym whole) (second_placed p a b),
-      ap clause_lines whole
-          ∙ told_both p a b,
+      subst (AreUnderBounds p) (append_assoc (first_lines p) (first_sum p a) (second_sum p a b) ∙ sym whole)
+          (second_placed (IsUnderBounds p) p a b (clauses_under_bounds p)),
+      ap clause_lines whole ∙ told_both p a b,
+      subst (HasComeDown b []) (append_assoc (first_lines p) (first_sum p a) (second_sum p a b) ∙ sym whole)
+          (second_placed (IsNoLess b []) p a b (no_queries b)),
     )
 second_built p a b NoRoom lines xs ys is one two =
     let same : lines ++ (xs ++ ys) ≡ lines ++ xs = ap (λ (ls : Lines). lines ++ (xs ++ ls)) two.0 ∙ ap (λ (ls : Lines). lines ++ ls) (append-nil xs) in
     let whole : lines ++ (xs ++ ys) ≡ first_lines p ++ first_sum p a = same ∙ ap (λ (ls : Lines). ls ++ xs) is
     ∙ ap (λ (ls : Lines). first_lines p ++ ls) one in (
-      subst (AreUnderBounds p) (sym whole) (first_placed p a),
+      subst (AreUnderBounds p) (sym whole) (first_placed (IsUnderBounds p) p a (clauses_under_bounds p)),
       begins_second p a b (lines ++ (xs ++ ys)) whole,
       second_passes p a b (lines ++ (xs ++ ys)) whole
           (subst (SumPasses p (second_vars p a) b (greatest_of p b)) (sym same) two.1),
@@ -189,10 +195,10 @@ pub record FrontLaws {S : Type 0} (knows : S → Lines → Type 0) (s : S) (p : 
 pub laws_at : {S : Type 0} (knows : S → Lines → Type 0) (s : S) (q p : Task) → q ≡ p → FrontLaws knows s q → FrontLaws knows s p
 laws_at knows s q p same laws = subst (FrontLaws knows s) same laws
 
-front_log : {S : Type 0} (knows : S → Lines → Type 0) (s : S) (p : Task) (a b : Criterion) (ending : FrontEnd) (lines : Lines) → FrontLaws knows s p →
-    knows s lines → BeginsLines (clause_lines lines) (front_lines p a b) →
-    AreUnderBounds p lines → IsFrontCause p a b ending lines → IsFrontLog p a b ending lines
-front_log knows s p a b ending lines laws k begins placed cause = record {
+front_log : {S : Type 0} (knows : S → Lines → Type 0) (s : S) (p : Task) (a b : Criterion) (pairs : Pairs) (ending : FrontEnd) (lines : Lines) →
+    FrontLaws knows s p → knows s lines → BeginsLines (clause_lines lines) (front_lines p a b) →
+    AreUnderBounds p lines → IsFrontCause p a b pairs ending lines → IsFrontLog p a b pairs ending lines
+front_log knows s p a b pairs ending lines laws k begins placed cause = record {
   formed = laws.formed lines k;
   derives = laws.derives lines k;
   due = laws.due lines k;
@@ -204,11 +210,11 @@ front_log knows s p a b ending lines laws k begins placed cause = record {
   cause = cause;
 }
 
-pub tells_no_room : {S : Type 0} (knows log : S → Lines → Type 0) (count : S → ℕ) (s e : S) (p : Task) (a b : Criterion) (r : Built) → r ≡ NoRoom →
-    FrontLaws knows e p → knows s (first_lines p) →
+pub tells_no_room : {S : Type 0} (knows log : S → Lines → Type 0) (count : S → ℕ) (s e : S) (p : Task) (a b : Criterion) (pairs : Pairs) (r : Built) →
+    r ≡ NoRoom → FrontLaws knows e p → knows s (first_lines p) →
     Continues knows log count s e (λ lines more. lines ≡ first_lines p → IsBuiltFront p a b r (lines ++ more)) →
-    ToldBehind (knows e) (log s) (log e) (count s) (count e) (first_lines p) (λ more. IsFrontLog p a b Room (first_lines p ++ more))
-tells_no_room knows log count s e p a b r was laws start goes =
+    ToldBehind (knows e) (log s) (log e) (count s) (count e) (first_lines p) (λ more. IsFrontLog p a b pairs Room (first_lines p ++ more))
+tells_no_room knows log count s e p a b pairs r was laws start goes =
     let t : ToldBehind (knows e) (log s) (log e) (count s) (count e) (first_lines p)
     (λ more. first_lines p ≡ first_lines p → IsBuiltFront p a b r (first_lines p ++ more)) = goes (first_lines p) start in
     let got : IsBuiltFront p a b NoRoom (first_lines p ++ t.more) = subst (λ (x : Built). IsBuiltFront p a b x (first_lines p ++ t.more)) was (t.does refl) in
@@ -217,46 +223,42 @@ tells_no_room knows log count s e p a b r was laws start goes =
       knows = t.knows;
       told = t.told;
       counted = t.counted;
-      does = front_log knows e p a b Room (first_lines p ++ t.more) laws t.knows got.1
-          got.0 (inl got.2);
+      does = front_log knows e p a b pairs Room (first_lines p ++ t.more) laws t.knows
+          got.1 got.0 (inl got.2);
     }
 
-told_still : (p : Task) (stop : Option Stop) (lines xs ys : Lines) → AreAsked p stop (lines ++ xs) ys →
-    clause_lines (lines ++ (xs ++ ys)) ≡ clause_lines (lines ++ xs)
-told_still p stop lines xs ys h = ap clause_lines (sym (append_assoc lines xs ys)) ∙ clause_lines_append (lines ++ xs) ys
-    ∙ ap (λ (ls : Lines). clause_lines (lines ++ xs) ++ ls) h.none ∙ append-nil (clause_lines (lines ++ xs))
+told_still : (lines xs ys : Lines) → clause_lines ys ≡ [] → clause_lines (lines ++ (xs ++ ys)) ≡ clause_lines (lines ++ xs)
+told_still lines xs ys none = ap clause_lines (sym (append_assoc lines xs ys)) ∙ clause_lines_append (lines ++ xs) ys
+    ∙ ap (λ (ls : Lines). clause_lines (lines ++ xs) ++ ls) none ∙ append-nil (clause_lines (lines ++ xs))
 
-cause_of : (p : Task) (a b : Criterion) (ending : FrontEnd) (lines xs ys : Lines) → clause_lines (lines ++ xs) ≡ front_lines p a b →
-    AreAsked p (stop_behind ending) (lines ++ xs) ys → IsFrontCause p a b ending (lines ++ (xs ++ ys))
-cause_of p a b Whole lines xs ys told h = told_still p None lines xs ys h ∙ told
-cause_of p a b Empty lines xs ys told h = told_still p None lines xs ys h ∙ told
-cause_of p a b Conflicts lines xs ys told h = subst (IsCause p.budget p.room BudgetSpent) (append_assoc lines xs ys) h.cause
-cause_of p a b Room lines xs ys told h = inr (
-  told_still p (Some RoomFull) lines xs ys h
-      ∙ told,
-  subst (IsCause p.budget p.room RoomFull) (append_assoc lines xs ys) h.cause,
-)
+cause_of : (p : Task) (a b : Criterion) (pairs : Pairs) (ending : FrontEnd) (lines : Lines) → clause_lines lines ≡ front_lines p a b →
+    EndsFront p a b pairs ending lines → IsFrontCause p a b pairs ending lines
+cause_of p a b pairs Whole lines told h = told
+cause_of p a b pairs Empty lines told h = told
+cause_of p a b pairs Conflicts lines told h = h
+cause_of p a b pairs Room lines told h = inr (told, h.0, h.1)
 
-pub tells_front : {S : Type 0} (knows log : S → Lines → Type 0) (count : S → ℕ) (s t e : S) (q p : Task) (a b : Criterion) (r : Built) (ending : FrontEnd) →
-    q ≡ p → r ≡ AllOfThem → FrontLaws knows e p → knows s (first_lines p) →
+pub tells_front : {S : Type 0} (knows log : S → Lines → Type 0) (count : S → ℕ) (s t e : S) (q p : Task) (a b : Criterion) (pairs : Pairs) (r : Built)
+    (ending : FrontEnd) → q ≡ p → r ≡ AllOfThem → FrontLaws knows e p → knows s (first_lines p) →
     Continues knows log count s t (λ lines more. lines ≡ first_lines p → IsBuiltFront p a b r (lines ++ more)) →
-    Continues knows log count t e (AreAsked q (stop_behind ending)) →
-    ToldBehind (knows e) (log s) (log e) (count s) (count e) (first_lines p) (λ more. IsFrontLog p a b ending (first_lines p ++ more))
-tells_front knows log count s t e q p a b r ending same was laws start f g =
+    Continues knows log count t e (AreAsked q b [] (EndsFront q a b pairs ending)) →
+    ToldBehind (knows e) (log s) (log e) (count s) (count e) (first_lines p) (λ more. IsFrontLog p a b pairs ending (first_lines p ++ more))
+tells_front knows log count s t e q p a b pairs r ending same was laws start f g =
     let from = first_lines p in
-    let h : Continues knows log count t e (AreAsked p (stop_behind ending)) = subst
-    (λ (x : Task). Continues knows log count t e (AreAsked x (stop_behind ending))) same g in
-    let both : Continues knows log count s e (λ lines more. lines ≡ from → IsFrontLog p a b ending (lines ++ more)) =
-    goes_on knows log count s t e (λ lines more. lines ≡ from → IsBuiltFront p a b r (lines ++ more)) (AreAsked p (stop_behind ending))
-    (λ lines more. lines ≡ from → IsFrontLog p a b ending (lines ++ more)) f h
+    let h : Continues knows log count t e (AreAsked p b [] (EndsFront p a b pairs ending)) = subst
+    (λ (x : Task). Continues knows log count t e (AreAsked x b [] (EndsFront x a b pairs ending))) same g in
+    let both : Continues knows log count s e (λ lines more. lines ≡ from → IsFrontLog p a b pairs ending (lines ++ more)) =
+    goes_on knows log count s t e (λ lines more. lines ≡ from → IsBuiltFront p a b r (lines ++ more)) (AreAsked p b [] (EndsFront p a b pairs ending))
+    (λ lines more. lines ≡ from → IsFrontLog p a b pairs ending (lines ++ more)) f h
     (λ lines xs ys ks kt ke one two is.
     let built : IsBuiltFront p a b AllOfThem (lines ++ xs) = subst (λ (x : Built). IsBuiltFront p a b x (lines ++ xs)) was (one is) in
     let told : clause_lines (lines ++ xs) ≡ front_lines p a b = built.1 in
-    let whole : clause_lines (lines ++ (xs ++ ys)) ≡ front_lines p a b = told_still p (stop_behind ending) lines xs ys two ∙ told in
-    front_log knows e p a b ending (lines ++ (xs ++ ys)) laws (subst (knows e) (append_assoc lines xs ys) ke)
+    let whole : clause_lines (lines ++ (xs ++ ys)) ≡ front_lines p a b = told_still lines xs ys two.none ∙ told in
+    front_log knows e p a b pairs ending (lines ++ (xs ++ ys)) laws (subst (knows e) (append_assoc lines xs ys) ke)
     ([], sym whole ∙ sym (append-nil (clause_lines (lines ++ (xs ++ ys))))) (subst (AreUnderBounds p) (append_assoc lines xs ys) (two.placed built.0))
-    (cause_of p a b ending lines xs ys told two)) in
-    let all : ToldBehind (knows e) (log s) (log e) (count s) (count e) from (λ more. from ≡ from → IsFrontLog p a b ending (from ++ more)) = both from start in
+    (cause_of p a b pairs ending (lines ++ (xs ++ ys)) whole (subst (EndsFront p a b pairs ending) (append_assoc lines xs ys) (two.ends built.2)))) in
+    let all : ToldBehind (knows e) (log s) (log e) (count s) (count e) from (λ more. from ≡ from → IsFrontLog p a b pairs ending (from ++ more)) = both from
+    start in
     record { more = all.more; knows = all.knows; told = all.told; counted = all.counted; does = all.does refl }
 
 -- ---- the bounds of one criterion, and of none where its greatest value is 0

@@ -1,15 +1,17 @@
 -- Which pair comes next, and what is so before each.
-use Rattle.std.specs.Prelude.{◌≡◌, ◌≤◌, ◌<◌, ⊤, ℕ, List, [], ◌∷◌, All, Contains, Option, None, Some}
+use Rattle.std.specs.Prelude.{◌≡◌, ◌≤◌, ◌<◌, ◌⊎◌, ⊤, ℕ, List, [], ◌∷◌, All, Contains, Option, None, Some, fold}
 use Rattle.plan_core.specs.declared.criterion.Criterion.{Criterion}
 use Rattle.plan_core.specs.Drawing.{Drawing}
 use Rattle.plan_core.specs.Values.{values_of, value_of}
 use Rattle.search_least.specs.declared.oracle.Below.{Below}
-use Rattle.refute_log.specs.declared.stop.Stop.{Stop}
-use Rattle.search_least.specs.Task.{Task, IsLawful}
-use Rattle.search_least.specs.Asked.{below_limit}
+use Rattle.refute_log.specs.Told.{Lines}
+use Rattle.search_least.specs.Task.{Task, IsLawful, greatest_of}
+use Rattle.search_least.specs.Asked.{below_limit, AreMet}
+use Rattle.search_least.specs.State.{hold}
 use Rattle.trade_off.specs.declared.collecting.Next.{Next}
 use Rattle.trade_off.specs.declared.collecting.Next.TheVariants.{Pair, NoMore, Stopped}
 use Rattle.trade_off.specs.Front.{Pairs, IsAttained, AreOnFront}
+use Rattle.trade_off.specs.Least.{IsLeastUnder, LowersUnder, HasComeDown, StopsUnder}
 
 -- the number is below the limit, where there is one
 abbrev pub IsUnder : Option ℕ → ℕ → Type 0
@@ -36,12 +38,6 @@ IsNext IsOne a b limit (Pair n m) = IsNextPair IsOne a b limit n m
 IsNext IsOne a b limit NoMore = (k l : ℕ) → IsAttained IsOne a b k l → IsUnder limit l → ⊥
 IsNext IsOne a b limit (Stopped stop) = ⊤
 
--- why the search stopped, if it did
-abbrev pub stop_of : Next → Option Stop
-stop_of (Pair n m) = None
-stop_of NoMore = None
-stop_of (Stopped stop) = Some stop
-
 -- behind a drawing with the least first number: the least second number with it
 pub record IsSecond (p : Task) (a b : Criterion) (before : Drawing) (n m : ℕ) : Type 0 where
   pub drawing : Drawing
@@ -65,3 +61,36 @@ pub record IsSoFar (IsOne : Drawing → Type 0) (a b : Criterion) (limit : ℕ) 
   pub behind : (n m : ℕ) → IsAttained IsOne a b n m → m < limit → All (λ x. x.0 < n) pairs
   pub before : (n m : ℕ) → IsAttained IsOne a b n m → limit ≤ m → (x : ℕ × ℕ) × Contains pairs x × (x.0 ≤ n) × (x.1 ≤ m)
   pub some : (d : Drawing) × IsOne d
+
+-- ---- what is asked
+
+-- of the lawful drawings whose second number is below the limit it has the least first number
+pub record HasLeastFirst (p : Task) (a b : Criterion) (limit : Option ℕ) (d : Drawing) : Type 0 where
+  pub lawful : IsLawful p d
+  pub met : AreMet (values_of d) (under b limit)
+  pub least : IsLeastUnder p (under b limit) a d
+
+-- with the drawing's first number held: less of the second
+abbrev pub AsksSecond : Criterion → Criterion → Drawing → Task → List Below → Type 0
+AsksSecond a b d p bounds = LowersUnder (hold a (value_of (values_of d) a) (greatest_of p a)) b p bounds
+
+-- for the next pair below the limit on the second number: any drawing below it, one with less of the first number, or
+-- with the least first number held, one with less of the second
+abbrev pub AsksNext : Criterion → Criterion → Option ℕ → Task → List Below → Type 0
+AsksNext a b limit p bounds = (bounds ≡ under b limit) ⊎ LowersUnder (under b limit) a p bounds
+    ⊎ ((d : Drawing) × HasLeastFirst p a b limit d × AsksSecond a b d p bounds)
+
+-- how it is asked for: with a pair the limits of b have come down to its second number; or the search stopped in such a
+-- question
+abbrev pub EndsNext : Task → (List Below → Type 0) → Criterion → Next → Lines → Type 0
+EndsNext p Such b (Pair n m) lines = HasComeDown b (under b (Some m)) lines
+EndsNext p Such b NoMore lines = ⊤
+EndsNext p Such b (Stopped stop) lines = StopsUnder p Such b stop lines
+
+-- the limit behind one more pair: its second number
+abbrev pub limit_after : Option ℕ → ℕ × ℕ → Option ℕ
+limit_after limit x = Some x.1
+
+-- the limit behind these pairs: the second number of the last, or none where there is no pair
+abbrev pub limit_behind : Pairs → Option ℕ
+limit_behind pairs = fold limit_after None pairs

@@ -1,5 +1,5 @@
 -- What the outcome of a search for the front says of drawings, and what its lines are.
-use Rattle.std.specs.Prelude.{◌≡◌, ◌≤◌, ◌⊎◌, [], ◌∷◌, length, flat_map, Option, None, Some}
+use Rattle.std.specs.Prelude.{◌≡◌, ◌≤◌, ◌⊎◌, ⊤, [], ◌∷◌, ◌++◌, length, flat_map, Option, None, Some, MatchOption}
 use Rattle.plan_core.specs.declared.criterion.Criterion.{Criterion}
 use Rattle.plan_core.specs.Drawing.{Drawing}
 use Rattle.cnf_core.specs.Clause.{words_of}
@@ -15,10 +15,13 @@ use Rattle.search_least.specs.declared.oracle.Built.TheVariants.{Whole as AllOfT
 use Rattle.refute_log.specs.declared.stop.Stop.{Stop}
 use Rattle.refute_log.specs.declared.stop.Stop.TheVariants.{BudgetSpent, RoomFull}
 use Rattle.search_least.specs.Task.{Task, greatest_of}
+use Rattle.search_least.specs.Outcome.{first_lines}
 use Rattle.search_least.specs.Placed.{AreUnderBounds}
 use Rattle.trade_off.specs.declared.outcome.FrontEnd.{FrontEnd}
 use Rattle.trade_off.specs.declared.outcome.FrontEnd.TheVariants.{Whole, Empty, Conflicts, Room}
 use Rattle.trade_off.specs.Front.{Pairs, IsWholeFront, IsFrontUpTo}
+use Rattle.trade_off.specs.Least.{HasComeDown, AsksUnder}
+use Rattle.trade_off.specs.Next.{AsksNext, limit_behind}
 
 -- what these pairs with this end say of the drawings
 abbrev pub IsRightFront : (Drawing → Type 0) → Criterion → Criterion → Pairs → FrontEnd → Type 0
@@ -31,18 +34,23 @@ IsRightFront IsOne a b pairs Room = IsFrontUpTo IsOne a b pairs
 abbrev pub front_lines : Task → Criterion → Criterion → Lines
 front_lines p a b = expected_lines p.encoding (a ∷ b ∷ []) (greatest_of p)
 
+-- the latest query asks for the pair that comes next behind these, and none before it for less of b
+abbrev pub AsksBehind : Task → Criterion → Criterion → Pairs → Lines → Type 0
+AsksBehind p a b pairs lines = AsksUnder (AsksNext a b (limit_behind pairs) p) b lines
+
 -- why it ended so: with the whole or without a drawing all of these lines were told; else as many clauses were learnt
 -- as the budget allows, and the last query is open; or these lines have no room beside what was learnt, or one more
--- clause has none behind them all
-abbrev pub IsFrontCause : Task → Criterion → Criterion → FrontEnd → Lines → Type 0
-IsFrontCause p a b Whole lines = clause_lines lines ≡ front_lines p a b
-IsFrontCause p a b Empty lines = clause_lines lines ≡ front_lines p a b
-IsFrontCause p a b Conflicts lines = IsCause p.budget p.room BudgetSpent lines
-IsFrontCause p a b Room lines = CapsPass p.encoding (a ∷ b ∷ []) lines p.room (greatest_of p)
-    ⊎ ((clause_lines lines ≡ front_lines p a b) × IsCause p.budget p.room RoomFull lines)
+-- clause has none behind them all. In a question it asks for the pair behind those that are printed, and none before it
+-- asks for less of b
+abbrev pub IsFrontCause : Task → Criterion → Criterion → Pairs → FrontEnd → Lines → Type 0
+IsFrontCause p a b pairs Whole lines = clause_lines lines ≡ front_lines p a b
+IsFrontCause p a b pairs Empty lines = clause_lines lines ≡ front_lines p a b
+IsFrontCause p a b pairs Conflicts lines = IsCause p.budget p.room BudgetSpent lines × AsksBehind p a b pairs lines
+IsFrontCause p a b pairs Room lines = CapsPass p.encoding (a ∷ b ∷ []) lines p.room (greatest_of p)
+    ⊎ ((clause_lines lines ≡ front_lines p a b) × IsCause p.budget p.room RoomFull lines × AsksBehind p a b pairs lines)
 
--- the lines of a search for the front with this end
-pub record IsFrontLog (p : Task) (a b : Criterion) (ending : FrontEnd) (lines : Lines) : Type 0 where
+-- the lines of a search for the front with these pairs and this end
+pub record IsFrontLog (p : Task) (a b : Criterion) (pairs : Pairs) (ending : FrontEnd) (lines : Lines) : Type 0 where
   pub formed : MayAllBeTold lines
   pub derives : Derives lines
   pub due : Due lines
@@ -51,7 +59,11 @@ pub record IsFrontLog (p : Task) (a b : Criterion) (ending : FrontEnd) (lines : 
   pub fits : words_of (flat_map added lines) ≤ p.room
   pub within : length (flat_map learnt lines) ≤ p.budget
   pub placed : AreUnderBounds p lines
-  pub cause : IsFrontCause p a b ending lines
+  pub cause : IsFrontCause p a b pairs ending lines
+
+-- the same of the lines behind the formula's
+abbrev pub IsFrontAfter : Task → Criterion → Criterion → Pairs → FrontEnd → Lines → Type 0
+IsFrontAfter p a b pairs ending more = IsFrontLog p a b pairs ending (first_lines p ++ more)
 
 -- the lines of a search for the front that ended with an error
 pub record IsFrontLeft (p : Task) (a b : Criterion) (lines : Lines) : Type 0 where
@@ -70,9 +82,16 @@ stop_behind Empty = None
 stop_behind Conflicts = Some BudgetSpent
 stop_behind Room = Some RoomFull
 
--- all of the lines were told, or the first of them, and all have no room; there is no question yet but under bounds
+-- why a search with these pairs stopped, if it did
+abbrev pub EndsFront : Task → Criterion → Criterion → Pairs → FrontEnd → Lines → Type 0
+EndsFront p a b pairs ending lines = MatchOption (stop_behind ending) ⊤ (λ stop.
+    IsCause p.budget p.room stop lines × AsksBehind p a b pairs lines)
+
+-- all of the lines were told, or the first of them, and all have no room; there is no question yet but under bounds,
+-- and none has a bound of b
 abbrev pub IsBuiltFront : Task → Criterion → Criterion → Built → Lines → Type 0
-IsBuiltFront p a b AllOfThem lines = AreUnderBounds p lines × (clause_lines lines ≡ front_lines p a b)
+IsBuiltFront p a b AllOfThem lines =
+    AreUnderBounds p lines × (clause_lines lines ≡ front_lines p a b) × HasComeDown b [] lines
 IsBuiltFront p a b NoRoom lines =
     AreUnderBounds p lines × BeginsLines (clause_lines lines) (front_lines p a b)
     × CapsPass p.encoding (a ∷ b ∷ []) lines p.room (greatest_of p)

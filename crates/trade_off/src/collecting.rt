@@ -8,8 +8,9 @@ ghost use Rattle.search_least.specs.Task.{IsLawful, greatest_of};
 ghost use Rattle.search_least.specs.State.{hold as hold_of};
 ghost use Rattle.refute_log.specs.Steps.{Continues, KnowsSome, Leaves};
 ghost use Rattle.trade_off.specs.Least.{IsLeastUnder, AreAsked};
-ghost use Rattle.trade_off.specs.Next.{IsUnder, under, IsNext, IsNextPair, IsSecondOf, stop_of, IsSoFar};
-ghost use Rattle.trade_off.specs.Outcome.{IsRightFront, stop_behind};
+ghost use Rattle.trade_off.specs.Next.{IsUnder, under, IsNext, IsNextPair, IsSecondOf, IsSoFar};
+ghost use Rattle.trade_off.specs.Next.{AsksSecond, AsksNext, EndsNext};
+ghost use Rattle.trade_off.specs.Outcome.{IsRightFront, EndsFront};
 
 use crate::lowering::lower;
 use crate::outcome::stopped_by;
@@ -83,8 +84,9 @@ fn second_from<O: Oracle>(
     ensures task { O.task oracle.new ≡ O.task oracle.old }
     ensures caps { OnOk result (O.caps oracle.new ≡ O.caps oracle.old) }
     ensures next { IfOk result (IsSecondOf (O.task oracle.old) a b least) }
-    ensures lines { IfOk result (λ r. Continues O.knows O.log O.learnt oracle.old oracle.new
-        (AreAsked (O.task oracle.old) (stop_of r))) }
+    ensures lines { let p = O.task oracle.old in
+        IfOk result (λ r. Continues O.knows O.log O.learnt oracle.old oracle.new
+        (AreAsked p b (under b (Some (value_of (values_of least) b))) (EndsNext p (AsksSecond a b least p) b r))) }
     ensures leaves { OnErr result (Leaves [] (O.knows oracle.old) (O.log oracle.old) (O.log oracle.new)) }
     ensures later { O.is_later oracle.old oracle.new }
     ensures faults { O.faults oracle.old ≤ O.faults oracle.new }
@@ -123,8 +125,9 @@ fn pair_from<O: Oracle>(
     ensures task { O.task oracle.new ≡ O.task oracle.old }
     ensures caps { OnOk result (O.caps oracle.new ≡ O.caps oracle.old) }
     ensures next { IfOk result (IsNext (IsLawful (O.task oracle.old)) a b limit) }
-    ensures lines { IfOk result (λ r. Continues O.knows O.log O.learnt oracle.old oracle.new
-        (AreAsked (O.task oracle.old) (stop_of r))) }
+    ensures lines { let p = O.task oracle.old in
+        IfOk result (λ r. Continues O.knows O.log O.learnt oracle.old oracle.new
+        (AreAsked p b (under b limit) (EndsNext p (AsksNext a b limit p) b r))) }
     ensures leaves { OnErr result (Leaves [] (O.knows oracle.old) (O.log oracle.old) (O.log oracle.new)) }
     ensures later { O.is_later oracle.old oracle.new }
     ensures faults { O.faults oracle.old ≤ O.faults oracle.new }
@@ -158,8 +161,9 @@ fn next_pair<O: Oracle>(
     ensures task { O.task oracle.new ≡ O.task oracle.old }
     ensures caps { OnOk result (O.caps oracle.new ≡ O.caps oracle.old) }
     ensures next { IfOk result (IsNext (IsLawful (O.task oracle.old)) a b limit) }
-    ensures lines { IfOk result (λ r. Continues O.knows O.log O.learnt oracle.old oracle.new
-        (AreAsked (O.task oracle.old) (stop_of r))) }
+    ensures lines { let p = O.task oracle.old in
+        IfOk result (λ r. Continues O.knows O.log O.learnt oracle.old oracle.new
+        (AreAsked p b (under b limit) (EndsNext p (AsksNext a b limit p) b r))) }
     ensures leaves { OnErr result (Leaves [] (O.knows oracle.old) (O.log oracle.old) (O.log oracle.new)) }
     ensures later { O.is_later oracle.old oracle.new }
     ensures faults { O.faults oracle.old ≤ O.faults oracle.new }
@@ -191,8 +195,9 @@ fn further_pairs<O: Oracle>(
     ensures known { OnOk result (KnowsSome O.knows oracle.new) }
     ensures task { O.task oracle.new ≡ O.task oracle.old }
     ensures right { IfOk result (λ r. IsRightFront (IsLawful (O.task oracle.old)) a b r.pairs r.ending) }
-    ensures lines { IfOk result (λ r. Continues O.knows O.log O.learnt oracle.old oracle.new
-        (AreAsked (O.task oracle.old) (stop_behind r.ending))) }
+    ensures lines { let p = O.task oracle.old in
+        IfOk result (λ r. Continues O.knows O.log O.learnt oracle.old oracle.new
+        (AreAsked p b (under b (Some second)) (EndsFront p a b r.pairs r.ending))) }
     ensures leaves { OnErr result (Leaves [] (O.knows oracle.old) (O.log oracle.old) (O.log oracle.new)) }
     ensures later { O.is_later oracle.old oracle.new }
     ensures faults { O.faults oracle.old ≤ O.faults oracle.new }
@@ -242,8 +247,9 @@ pub(crate) fn collect<O: Oracle>(
     ensures known { OnOk result (KnowsSome O.knows oracle.new) }
     ensures task { O.task oracle.new ≡ O.task oracle.old }
     ensures right { IfOk result (λ r. IsRightFront (IsLawful (O.task oracle.old)) a b r.pairs r.ending) }
-    ensures lines { IfOk result (λ r. Continues O.knows O.log O.learnt oracle.old oracle.new
-        (AreAsked (O.task oracle.old) (stop_behind r.ending))) }
+    ensures lines { let p = O.task oracle.old in
+        IfOk result (λ r. Continues O.knows O.log O.learnt oracle.old oracle.new
+        (AreAsked p b [] (EndsFront p a b r.pairs r.ending))) }
     ensures leaves { OnErr result (Leaves [] (O.knows oracle.old) (O.log oracle.old) (O.log oracle.new)) }
     ensures later { O.is_later oracle.old oracle.new }
     ensures faults { O.faults oracle.old ≤ O.faults oracle.new }

@@ -1,11 +1,12 @@
 // The least value of one criterion, under bounds.
 ghost use Rattle.std.specs.Prelude.{◌≡◌, ◌≤◌, ◌++◌, ◌∷◌, [], All, IfOk, OnOk, OnErr, IsErrOf, None};
 ghost use Rattle.outside_io.specs.Counts.{Rose};
+ghost use Rattle.plan_core.specs.declared.criterion.Criterion.{Criterion as Measure};
 ghost use Rattle.plan_core.specs.Values.{values_of, value_of};
 ghost use Rattle.search_least.specs.Asked.{below_limit, AreMet, IsWithinCap};
 ghost use Rattle.search_least.specs.Task.{IsLawful, greatest_of};
 ghost use Rattle.refute_log.specs.Steps.{Continues, KnowsSome, Leaves};
-ghost use Rattle.trade_off.specs.Least.{IsLeastUnder, AreBeside, AreAsked};
+ghost use Rattle.trade_off.specs.Least.{IsLeastUnder, AreBeside, lowered, EndsLowered, AreAsked};
 
 use plan_core::{Criterion, OutOfMemory};
 use plan_geometry::{Drawing, values};
@@ -60,8 +61,9 @@ pub(crate) fn lower<O: Oracle>(
     ensures met { IfOk result (λ r. AreMet (values_of r.least) held.now) }
     ensures no_more { IfOk result (λ r. value_of (values_of r.least) c ≤ value_of (values_of first) c) }
     ensures least { IfOk result (λ r. r.stop ≡ None → IsLeastUnder (O.task oracle.old) held.now c r.least) }
-    ensures lines { IfOk result (λ r. Continues O.knows O.log O.learnt oracle.old oracle.new
-        (AreAsked (O.task oracle.old) r.stop)) }
+    ensures lines { let p = O.task oracle.old in
+        IfOk result (λ r. (m : Measure) → Continues O.knows O.log O.learnt oracle.old oracle.new
+        (AreAsked p m (lowered held.now c first) (EndsLowered p held.now c m r.least r.stop))) }
     ensures leaves { OnErr result (Leaves [] (O.knows oracle.old) (O.log oracle.old) (O.log oracle.new)) }
     ensures later { O.is_later oracle.old oracle.new }
     ensures faults { O.faults oracle.old ≤ O.faults oracle.new }

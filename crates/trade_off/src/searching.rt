@@ -1,11 +1,11 @@
 // The whole search for the front.
-ghost use Rattle.std.specs.Prelude.{◌≡◌, ◌≢◌, ◌≤◌, ◌++◌, IfOk, OnErr, IsErrOf};
+ghost use Rattle.std.specs.Prelude.{◌≡◌, ◌≢◌, ◌≤◌, IfOk, OnErr, IsErrOf};
 ghost use Rattle.outside_io.specs.Counts.{Rose};
 ghost use Rattle.search_least.specs.Task.{IsLawful};
 ghost use Rattle.search_least.specs.Outcome.{IsFresh, first_lines};
 ghost use Rattle.refute_log.specs.Told.{Lines};
 ghost use Rattle.refute_log.specs.Steps.{ToldBehind};
-ghost use Rattle.trade_off.specs.Outcome.{IsRightFront, IsFrontLog, IsFrontLeft};
+ghost use Rattle.trade_off.specs.Outcome.{IsRightFront, IsFrontAfter, IsFrontLeft};
 
 use crate::building::build_both;
 use crate::collecting::collect;
@@ -29,9 +29,9 @@ pub fn find_front<O: Oracle>(
     requires start { O.knows oracle.old (first_lines (O.task oracle.old)) }
     requires apart { a ≢ b }
     ensures right { IfOk result (λ r. IsRightFront (IsLawful (O.task oracle.old)) a b r.pairs r.ending) }
-    ensures lines { IfOk result (λ r. let p = O.task oracle.old in let l = first_lines p in
+    ensures lines { IfOk result (λ r. let p = O.task oracle.old in
         ToldBehind (O.knows oracle.new) (O.log oracle.old) (O.log oracle.new) (O.learnt oracle.old)
-        (O.learnt oracle.new) l (λ m. IsFrontLog p a b r.ending (l ++ m))) }
+        (O.learnt oracle.new) (first_lines p) (IsFrontAfter p a b r.pairs r.ending)) }
     ensures left { let p = O.task oracle.old in
         OnErr result (O.log oracle.old (first_lines p) → (lines : Lines) → O.log oracle.new lines →
         IsFrontLeft p a b lines) }

@@ -27,8 +27,9 @@ returns-in-Err-Room-clause-lines g c =
     let y = layout c.args.g.now c.args.t.now c.args.grid.now in
     let budget = c.args.limits.now.budget in
     let room = c.args.limits.now.room in
-    nothing_told c.args.solver.now room (k.learnt c.args.log.now) (IsFrontLog (task_of y budget room) c.args.a c.args.b Room) (k.tells c.args.log.now)
-    c.requires.new (no_room_front y budget room c.args.a c.args.b (c.in-Err-Room.ensures.full (ap Err c.in-Err-Room.field-0-is)))
+    nothing_told c.args.solver.now room (k.learnt c.args.log.now) (IsFrontLog (task_of y budget room) c.args.a c.args.b c.new.result Room)
+    (k.tells c.args.log.now) c.requires.new (no_room_front y budget room c.args.a c.args.b c.new.result
+    (c.in-Err-Room.ensures.full (ap Err c.in-Err-Room.field-0-is)))
 
 pub front_from-requires-clause-ready : goal.front_from-requires-clause-ready
 front_from-requires-clause-ready g c =
@@ -101,8 +102,8 @@ returns-clause-lines g c =
       covers = e.covers;
     } in
     if_ok_from c.front_from.result _ _ c.front_from.ensures.lines
-    (λ r second. whole_told y budget room c.in-Ok.encoded c.formula.result.now (λ z lines. IsFrontLog (task_of z budget room) c.args.a c.args.b r.ending lines)
-    c.args.solver.now c.add_clauses.new.solver c.front_from.new.solver
+    (λ r second. whole_told y budget room c.in-Ok.encoded c.formula.result.now (λ z lines. IsFrontLog (task_of z budget room) c.args.a c.args.b r.pairs r.ending
+    lines) c.args.solver.now c.add_clauses.new.solver c.front_from.new.solver
     (k.tells c.args.log.now) (k.tells c.add_clauses.new.log) (k.tells c.front_from.new.log) (k.learnt c.args.log.now) (k.learnt c.add_clauses.new.log)
     (k.learnt c.front_from.new.log)
     first c.formula.ensures c.requires.new c.in_ok-add_clauses.ensures.lines second)

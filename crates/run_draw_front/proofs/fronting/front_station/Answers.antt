@@ -34,7 +34,7 @@ returns-in_err-text_of-in-Ok-clause-left g c =
     let k = g.L.LogSink in
     let lines = c.in-Ok.ensures.lines in
     on_err_anyway _ _ (told_front_left c.asked.inside.grid.now c.asked.inside.first c.asked.inside.second c.asked.inside.budget c.args.asked.now
-    c.args.station.now.graph c.args.station.now.order c.in-Ok.found.ending lines.0 (k.tells c.args.log.now) (k.tells c.front.new.log)
+    c.args.station.now.graph c.args.station.now.order c.in-Ok.found.pairs c.in-Ok.found.ending lines.0 (k.tells c.args.log.now) (k.tells c.front.new.log)
     c.asked.view_is lines.2 (g.met.L.LogSink.one_reading c.front.new.log) lines.1.behind)
 
 pub returns-in-Err-Log-clause-left : goal.returns-in-Err-Log-clause-left

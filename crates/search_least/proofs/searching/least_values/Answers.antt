@@ -28,4 +28,8 @@ returns-clause-lines g c = let o = g.O.Oracle in
 
 pub returns-clause-left : goal.returns-clause-left
 returns-clause-left g c = let o = g.O.Oracle in
-    on_err_weaker c.search.result _ _ (λ h told lines is. h (first_lines (o.task c.args.oracle.now)) c.requires.start refl told lines is) c.search.ensures.left
+    on_err_weaker c.search.result _ _ (λ h told lines is. (h (first_lines (o.task c.args.oracle.now)) c.requires.start told lines is).1 refl)
+    c.search.ensures.left
+
+pub returns-clause-still : goal.returns-clause-still
+returns-clause-still g c = on_err_weaker c.search.result _ _ (λ h lines k was told is. (h lines k was told is).0) c.search.ensures.left

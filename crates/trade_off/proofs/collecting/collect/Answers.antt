@@ -1,16 +1,17 @@
-use Rattle.std.proofs.Common.{sym, ◌∙◌, ap, subst}
-use Rattle.std.specs.Prelude.{Option, None, IfOk}
+use Rattle.std.proofs.Common.{[], sym, ◌∙◌, ap, subst}
+use Rattle.std.specs.Prelude.{None, Some, IfOk}
 use Rattle.std.proofs.lemmas.Result.{IfOk-weaker}
-use Rattle.refute_log.specs.declared.stop.Stop.{Stop}
 use Rattle.search_least.specs.Task.{Task, IsLawful, greatest_of}
 use Rattle.refute_log.specs.Steps.{Continues}
 use Rattle.trade_off.specs.declared.collecting.Next.{Next}
 use Rattle.trade_off.specs.declared.collecting.Next.TheVariants.{Pair, NoMore}
 use Rattle.trade_off.specs.Least.{AreAsked}
-use Rattle.trade_off.specs.Next.{IsNextPair, stop_of}
-use Rattle.trade_off.specs.Outcome.{IsRightFront, stop_behind}
-use Rattle.trade_off.proofs.AskLemmas.{asked_then}
-use Rattle.trade_off.proofs.FrontLemmas.{right_empty, right_stopped_first, stopped_behind, next_is}
+use Rattle.trade_off.specs.Next.{IsNextPair, under, AsksNext, EndsNext, limit_behind}
+use Rattle.trade_off.specs.Outcome.{IsRightFront, EndsFront}
+use Rattle.trade_off.specs.Least.{HasComeDown}
+use Rattle.trade_off.specs.declared.outcome.FrontEnd.TheVariants.{Empty}
+use Rattle.trade_off.proofs.AskLemmas.{asked_then, asked_to}
+use Rattle.trade_off.proofs.FrontLemmas.{right_empty, right_stopped_first, stopped_front, next_is}
 use Rattle.refute_log.proofs.StepLemmas.{on_err_weaker}
 use Rattle.trade_off.proofs.LeftLemmas.{asked_later}
 use Rattle.trade_off.proofs.collecting.collect.Goals as goal
@@ -40,10 +41,18 @@ returns-in-Pair-clause-lines g c = let o = g.O.Oracle in
     let a = c.args.oracle.now in
     let b = c.next_pair.new.oracle in
     let e = c.further_pairs.new.oracle in
-    IfOk-weaker c.further_pairs.result (λ r. Continues o.knows o.log o.learnt b e (AreAsked (o.task b) (stop_behind r.ending)))
-    (λ r. Continues o.knows o.log o.learnt a e (AreAsked (o.task a) (stop_behind r.ending)))
-    (λ r h. asked_then o.knows o.log o.learnt a b e (o.task b) (o.task a) (stop_behind r.ending) c.in_ok-first.ensures.task
-    (subst (λ (x : Next). Continues o.knows o.log o.learnt a b (AreAsked (o.task a) (stop_of x))) c.in-Pair.is c.in_ok-first.ensures.lines) h)
+    let p = o.task a in
+    let limit = under c.args.b (Some c.in-Pair.second) in
+    let before : Continues o.knows o.log o.learnt a b (AreAsked p c.args.b [] (HasComeDown c.args.b limit)) =
+    asked_to o.knows o.log o.learnt a b p c.args.b [] (EndsNext p (AsksNext c.args.a c.args.b None p) c.args.b (Pair c.in-Pair.first c.in-Pair.second))
+    (HasComeDown c.args.b limit) (λ lines h. h)
+    (subst (λ (x : Next). Continues o.knows o.log o.learnt a b (AreAsked p c.args.b []
+    (EndsNext p (AsksNext c.args.a c.args.b None p) c.args.b x))) c.in-Pair.is c.in_ok-first.ensures.lines) in
+    IfOk-weaker c.further_pairs.result
+    (λ r. Continues o.knows o.log o.learnt b e (AreAsked (o.task b) c.args.b limit (EndsFront (o.task b) c.args.a c.args.b r.pairs r.ending)))
+    (λ r. Continues o.knows o.log o.learnt a e (AreAsked p c.args.b [] (EndsFront p c.args.a c.args.b r.pairs r.ending)))
+    (λ r h. asked_then o.knows o.log o.learnt a b e (o.task b) p c.args.b [] limit (λ x. EndsFront x c.args.a c.args.b r.pairs r.ending)
+    c.in_ok-first.ensures.task before h)
     c.further_pairs.ensures.lines
 
 pub returns-in-NoMore-clause-right : goal.returns-in-NoMore-clause-right
@@ -55,7 +64,12 @@ returns-in-NoMore-clause-right g c = let o = g.O.Oracle in
 pub returns-in-NoMore-clause-lines : goal.returns-in-NoMore-clause-lines
 returns-in-NoMore-clause-lines g c = let o = g.O.Oracle in
     let a = c.args.oracle.now in
-    subst (λ (x : Next). Continues o.knows o.log o.learnt a c.next_pair.new.oracle (AreAsked (o.task a) (stop_of x))) c.in-NoMore.is c.in_ok-first.ensures.lines
+    let e = c.next_pair.new.oracle in
+    let p = o.task a in
+    asked_to o.knows o.log o.learnt a e p c.args.b [] (EndsNext p (AsksNext c.args.a c.args.b None p) c.args.b NoMore)
+    (EndsFront p c.args.a c.args.b c.new.result Empty) (λ lines h. tt)
+    (subst (λ (x : Next). Continues o.knows o.log o.learnt a e (AreAsked p c.args.b []
+    (EndsNext p (AsksNext c.args.a c.args.b None p) c.args.b x))) c.in-NoMore.is c.in_ok-first.ensures.lines)
 
 pub returns-in-Stopped-clause-right : goal.returns-in-Stopped-clause-right
 returns-in-Stopped-clause-right g c = let o = g.O.Oracle in
@@ -65,10 +79,12 @@ returns-in-Stopped-clause-right g c = let o = g.O.Oracle in
 pub returns-in-Stopped-clause-lines : goal.returns-in-Stopped-clause-lines
 returns-in-Stopped-clause-lines g c = let o = g.O.Oracle in
     let a = c.args.oracle.now in
-    subst (λ (s : Option Stop). Continues o.knows o.log o.learnt a c.next_pair.new.oracle (AreAsked (o.task a) s))
-    (sym (stopped_behind c.in-Stopped.stop c.stopped_by.result c.stopped_by.ensures))
-    (subst (λ (x : Next). Continues o.knows o.log o.learnt a c.next_pair.new.oracle (AreAsked (o.task a) (stop_of x))) c.in-Stopped.is
-    c.in_ok-first.ensures.lines)
+    let e = c.next_pair.new.oracle in
+    let p = o.task a in
+    stopped_front o.knows o.log o.learnt a e p c.args.a c.args.b [] c.new-in-Stopped.result None c.in-Stopped.stop c.stopped_by.result
+    (ap limit_behind c.new-in-Stopped.ensures) c.stopped_by.ensures
+    (subst (λ (x : Next). Continues o.knows o.log o.learnt a e (AreAsked p c.args.b []
+    (EndsNext p (AsksNext c.args.a c.args.b None p) c.args.b x))) c.in-Stopped.is c.in_ok-first.ensures.lines)
 
 pub returns-in_err-first-clause-leaves : goal.returns-in_err-first-clause-leaves
 returns-in_err-first-clause-leaves g c = let o = g.O.Oracle in
@@ -77,4 +93,6 @@ returns-in_err-first-clause-leaves g c = let o = g.O.Oracle in
 pub returns-in-Pair-clause-leaves : goal.returns-in-Pair-clause-leaves
 returns-in-Pair-clause-leaves g c = let o = g.O.Oracle in
     on_err_weaker c.further_pairs.result _ _ (asked_later o.knows o.log o.learnt c.args.oracle.now c.next_pair.new.oracle c.further_pairs.new.oracle
-    (o.task c.args.oracle.now) (stop_of c.in_ok-first.field-0) c.in_ok-first.ensures.lines) c.further_pairs.ensures.leaves
+    (o.task c.args.oracle.now) c.args.b []
+    (EndsNext (o.task c.args.oracle.now) (AsksNext c.args.a c.args.b None (o.task c.args.oracle.now)) c.args.b c.in_ok-first.field-0)
+    c.in_ok-first.ensures.lines) c.further_pairs.ensures.leaves

@@ -1,16 +1,18 @@
 use Rattle.std.proofs.Common.{◌≡◌, ◌≤◌, ◌<◌, ◌∷◌, ◌++◌, [], refl, sym, ◌∙◌, ap, subst, arith, ℕ}
-use Rattle.std.specs.Prelude.{Option, None, Some}
-use Rattle.refute_log.specs.declared.stop.Stop.{Stop}
+use Rattle.std.specs.Prelude.{None, Some}
 use Rattle.search_least.specs.Task.{Task, IsLawful, greatest_of}
 use Rattle.refute_log.specs.Steps.{Continues}
 use Rattle.trade_off.specs.declared.collecting.Next.{Next}
-use Rattle.trade_off.specs.declared.collecting.Next.TheVariants.{Pair, NoMore}
+use Rattle.trade_off.specs.declared.collecting.Next.TheVariants.{Pair, NoMore, Stopped}
+use Rattle.trade_off.specs.declared.outcome.FrontEnd.TheVariants.{Whole}
+use Rattle.trade_off.specs.Outcome.{EndsFront}
 use Rattle.trade_off.specs.Front.{Pairs, IsAttained}
-use Rattle.trade_off.specs.Least.{AreAsked}
-use Rattle.trade_off.specs.Next.{IsNextPair, IsSoFar, stop_of}
-use Rattle.trade_off.proofs.AskLemmas.{asked_none, asked_then}
+use Rattle.trade_off.specs.Least.{HasComeDown, AreAsked}
+use Rattle.trade_off.specs.Next.{IsNextPair, IsSoFar, under, AsksNext, EndsNext, limit_after, limit_behind}
+use Rattle.std.proofs.lemmas.Grind.{fold-append}
+use Rattle.trade_off.proofs.AskLemmas.{asked_none, asked_then, asked_to}
 use Rattle.trade_off.proofs.NextLemmas.{attained_within}
-use Rattle.trade_off.proofs.FrontLemmas.{first_so_far, next_so_far, right_whole, right_stopped, stopped_behind, next_is}
+use Rattle.trade_off.proofs.FrontLemmas.{first_so_far, next_so_far, right_whole, right_stopped, stopped_front, next_is}
 use Rattle.refute_log.proofs.StepLemmas.{leaves_same}
 use Rattle.trade_off.proofs.LeftLemmas.{asked_here, asked_later}
 use Rattle.trade_off.proofs.collecting.further_pairs.Goals as goal
@@ -28,10 +30,11 @@ loop-limit-init g c = let o = g.O.Oracle in
       known = c.requires.known;
       so_far = subst (λ (ps : Pairs). IsSoFar (IsLawful p) c.args.a c.args.b c.args.second ps) (sym pairs)
           (first_so_far (IsLawful p) c.args.a c.args.b c.args.first c.args.second c.requires.pair);
+      behind = ap limit_behind pairs;
       within = attained_within p c.args.a c.args.b c.args.first c.args.second c.requires.pair.attained;
       later = g.met.O.Oracle.later_same c.args.oracle.now;
       faults = omega arith;
-      lines = asked_none o.knows o.log o.learnt c.args.oracle.now p;
+      lines = asked_none o.knows o.log o.learnt c.args.oracle.now p c.args.b (under c.args.b (Some c.args.second));
     }
 
 pub next_pair-requires-clause-first : goal.next_pair-requires-clause-first
@@ -68,11 +71,18 @@ loop-limit-preserved g c = let o = g.O.Oracle in
       known = c.in_ok-n.ensures.known;
       so_far = subst (λ (ps : Pairs). IsSoFar (IsLawful p) c.args.a c.args.b c.in-Pair.m ps) (sym c.in_ok-push-in-Pair.ensures.ok)
           (next_so_far (IsLawful p) c.args.a c.args.b limit c.loop-limit.pairs c.in-Pair.n c.in-Pair.m c.loop-limit.invariant.so_far pair);
+      behind = ap limit_behind c.in_ok-push-in-Pair.ensures.ok ∙ fold-append limit_after None c.loop-limit.pairs ((c.in-Pair.n, c.in-Pair.m) ∷ []);
       within = attained_within p c.args.a c.args.b c.in-Pair.n c.in-Pair.m pair.attained;
       later = g.met.O.Oracle.later_more a b e c.loop-limit.invariant.later c.next_pair.ensures.later;
       faults = (let m = c.loop-limit.invariant.faults in let n = c.next_pair.ensures.faults in omega arith);
-      lines = asked_then o.knows o.log o.learnt a b e (o.task b) p None c.loop-limit.invariant.task c.loop-limit.invariant.lines
-          (subst (λ (r : Next). Continues o.knows o.log o.learnt b e (AreAsked (o.task b) (stop_of r))) c.in-Pair.is c.in_ok-n.ensures.lines);
+      lines = asked_to o.knows o.log o.learnt a e p c.args.b (under c.args.b (Some c.args.second))
+          (EndsNext p (AsksNext c.args.a c.args.b (Some limit) p) c.args.b (Pair c.in-Pair.n c.in-Pair.m))
+          (HasComeDown c.args.b (under c.args.b (Some c.in-Pair.m))) (λ lines h. h)
+          (asked_then o.knows o.log o.learnt a b e (o.task b) p c.args.b (under c.args.b (Some c.args.second)) (under c.args.b (Some limit))
+          (λ x. EndsNext x (AsksNext c.args.a c.args.b (Some limit) x) c.args.b (Pair c.in-Pair.n c.in-Pair.m)) c.loop-limit.invariant.task
+          c.loop-limit.invariant.lines
+          (subst (λ (r : Next). Continues o.knows o.log o.learnt b e (AreAsked (o.task b) c.args.b (under c.args.b (Some limit))
+          (EndsNext (o.task b) (AsksNext c.args.a c.args.b (Some limit) (o.task b)) c.args.b r))) c.in-Pair.is c.in_ok-n.ensures.lines));
     }
 
 pub returns-in-NoMore-clause-right : goal.returns-in-NoMore-clause-right
@@ -89,8 +99,15 @@ returns-in-NoMore-clause-lines g c = let o = g.O.Oracle in
     let a = c.args.oracle.now in
     let b = c.loop-limit.oracle in
     let e = c.next_pair.new.oracle in
-    asked_then o.knows o.log o.learnt a b e (o.task b) (o.task a) None c.loop-limit.invariant.task c.loop-limit.invariant.lines
-    (subst (λ (r : Next). Continues o.knows o.log o.learnt b e (AreAsked (o.task b) (stop_of r))) c.in-NoMore.is c.in_ok-n.ensures.lines)
+    let p = o.task a in
+    let limit = c.loop-limit.limit in
+    let first = under c.args.b (Some c.args.second) in
+    asked_to o.knows o.log o.learnt a e p c.args.b first (EndsNext p (AsksNext c.args.a c.args.b (Some limit) p) c.args.b NoMore)
+    (EndsFront p c.args.a c.args.b c.loop-limit.pairs Whole) (λ lines h. tt)
+    (asked_then o.knows o.log o.learnt a b e (o.task b) p c.args.b first (under c.args.b (Some limit))
+    (λ x. EndsNext x (AsksNext c.args.a c.args.b (Some limit) x) c.args.b NoMore) c.loop-limit.invariant.task c.loop-limit.invariant.lines
+    (subst (λ (r : Next). Continues o.knows o.log o.learnt b e (AreAsked (o.task b) c.args.b (under c.args.b (Some limit))
+    (EndsNext (o.task b) (AsksNext c.args.a c.args.b (Some limit) (o.task b)) c.args.b r))) c.in-NoMore.is c.in_ok-n.ensures.lines))
 
 pub returns-in-Stopped-clause-right : goal.returns-in-Stopped-clause-right
 returns-in-Stopped-clause-right g c = let o = g.O.Oracle in
@@ -102,10 +119,16 @@ returns-in-Stopped-clause-lines g c = let o = g.O.Oracle in
     let a = c.args.oracle.now in
     let b = c.loop-limit.oracle in
     let e = c.next_pair.new.oracle in
-    subst (λ (s : Option Stop). Continues o.knows o.log o.learnt a e (AreAsked (o.task a) s))
-    (sym (stopped_behind c.in-Stopped.stop c.stopped_by.result c.stopped_by.ensures))
-    (asked_then o.knows o.log o.learnt a b e (o.task b) (o.task a) (Some c.in-Stopped.stop) c.loop-limit.invariant.task c.loop-limit.invariant.lines
-    (subst (λ (r : Next). Continues o.knows o.log o.learnt b e (AreAsked (o.task b) (stop_of r))) c.in-Stopped.is c.in_ok-n.ensures.lines))
+    let p = o.task a in
+    let limit = c.loop-limit.limit in
+    let first = under c.args.b (Some c.args.second) in
+    stopped_front o.knows o.log o.learnt a e p c.args.a c.args.b first c.loop-limit.pairs (Some limit) c.in-Stopped.stop c.stopped_by.result
+    c.loop-limit.invariant.behind c.stopped_by.ensures
+    (asked_then o.knows o.log o.learnt a b e (o.task b) p c.args.b first (under c.args.b (Some limit))
+    (λ x. EndsNext x (AsksNext c.args.a c.args.b (Some limit) x) c.args.b (Stopped c.in-Stopped.stop)) c.loop-limit.invariant.task
+    c.loop-limit.invariant.lines
+    (subst (λ (r : Next). Continues o.knows o.log o.learnt b e (AreAsked (o.task b) c.args.b (under c.args.b (Some limit))
+    (EndsNext (o.task b) (AsksNext c.args.a c.args.b (Some limit) (o.task b)) c.args.b r))) c.in-Stopped.is c.in_ok-n.ensures.lines))
 
 pub returns-clause-right : goal.returns-clause-right
 returns-clause-right g c = let o = g.O.Oracle in
@@ -113,7 +136,12 @@ returns-clause-right g c = let o = g.O.Oracle in
     (λ k l at lt. absurd (omega (arith, lt)))
 
 pub returns-clause-lines : goal.returns-clause-lines
-returns-clause-lines g c = c.loop-limit.invariant.lines
+returns-clause-lines g c = let o = g.O.Oracle in
+    let a = c.args.oracle.now in
+    let p = o.task a in
+    asked_to o.knows o.log o.learnt a c.loop-limit.oracle p c.args.b (under c.args.b (Some c.args.second))
+    (HasComeDown c.args.b (under c.args.b (Some c.loop-limit.limit))) (EndsFront p c.args.a c.args.b c.loop-limit.pairs Whole) (λ lines h. tt)
+    c.loop-limit.invariant.lines
 
 pub returns-in_err-push-clause-leaves : goal.returns-in_err-push-clause-leaves
 returns-in_err-push-clause-leaves g c = let o = g.O.Oracle in
@@ -122,12 +150,17 @@ returns-in_err-push-clause-leaves g c = let o = g.O.Oracle in
 
 pub returns-in_err-n-clause-leaves : goal.returns-in_err-n-clause-leaves
 returns-in_err-n-clause-leaves g c = let o = g.O.Oracle in
-    on_err_anyway _ _ (asked_later o.knows o.log o.learnt c.args.oracle.now c.loop-limit.oracle c.next_pair.new.oracle (o.task c.args.oracle.now) None
-    c.loop-limit.invariant.lines c.in_err-n.ensures.leaves)
+    on_err_anyway _ _ (asked_later o.knows o.log o.learnt c.args.oracle.now c.loop-limit.oracle c.next_pair.new.oracle (o.task c.args.oracle.now)
+    c.args.b (under c.args.b (Some c.args.second))
+    (HasComeDown c.args.b (under c.args.b (Some c.loop-limit.limit))) c.loop-limit.invariant.lines c.in_err-n.ensures.leaves)
 
 pub returns-in_err-push-in-Pair-clause-leaves : goal.returns-in_err-push-in-Pair-clause-leaves
 returns-in_err-push-in-Pair-clause-leaves g c = let o = g.O.Oracle in
-    on_err_anyway _ _ (asked_later o.knows o.log o.learnt c.args.oracle.now c.loop-limit.oracle c.next_pair.new.oracle (o.task c.args.oracle.now) None
-    c.loop-limit.invariant.lines
-    (asked_here o.knows o.log o.learnt c.loop-limit.oracle c.next_pair.new.oracle (o.task c.loop-limit.oracle) (stop_of c.in_ok-n.field-0)
-    c.in_ok-n.ensures.lines (g.met.O.Oracle.derives c.next_pair.new.oracle) (g.met.O.Oracle.one_reading c.next_pair.new.oracle)))
+    on_err_anyway _ _ (asked_later o.knows o.log o.learnt c.args.oracle.now c.loop-limit.oracle c.next_pair.new.oracle (o.task c.args.oracle.now)
+    c.args.b (under c.args.b (Some c.args.second))
+    (HasComeDown c.args.b (under c.args.b (Some c.loop-limit.limit))) c.loop-limit.invariant.lines
+    (asked_here o.knows o.log o.learnt c.loop-limit.oracle c.next_pair.new.oracle (o.task c.loop-limit.oracle)
+    c.args.b (under c.args.b (Some c.loop-limit.limit))
+    (EndsNext (o.task c.loop-limit.oracle) (AsksNext c.args.a c.args.b (Some c.loop-limit.limit) (o.task c.loop-limit.oracle)) c.args.b c.in_ok-n.field-0)
+    c.in_ok-n.ensures.lines
+    (g.met.O.Oracle.derives c.next_pair.new.oracle) (g.met.O.Oracle.one_reading c.next_pair.new.oracle)))

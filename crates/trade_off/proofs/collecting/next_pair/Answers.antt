@@ -1,4 +1,4 @@
-use Rattle.std.proofs.Common.{refl, sym, ◌∙◌, ap, subst, List}
+use Rattle.std.proofs.Common.{◌≡◌, refl, sym, ◌∙◌, ap, subst, List, inl}
 use Rattle.std.specs.Prelude.{IfOk, MatchOption, ⊤, ◌≤◌}
 use Rattle.std.proofs.lemmas.Result.{IfOk-weaker}
 use Rattle.plan_core.specs.Values.{values_of}
@@ -6,10 +6,11 @@ use Rattle.search_least.specs.declared.oracle.Below.{Below}
 use Rattle.search_least.specs.Asked.{AreMet, IsReply}
 use Rattle.search_least.specs.Task.{Task, IsLawful, greatest_of}
 use Rattle.refute_log.specs.Steps.{Continues}
-use Rattle.trade_off.specs.Least.{AreAsked}
-use Rattle.trade_off.specs.Next.{IsNext, stop_of}
+use Rattle.trade_off.specs.declared.collecting.Next.TheVariants.{NoMore, Stopped}
+use Rattle.trade_off.specs.Least.{HasComeDown, StopsUnder, AreAsked}
+use Rattle.trade_off.specs.Next.{under, IsNext, AsksNext, EndsNext}
 use Rattle.refute_log.proofs.StepLemmas.{known_after, on_err_weaker, leaves_same}
-use Rattle.trade_off.proofs.AskLemmas.{asked_then, asks_found, asks_refuted, asks_stopped, refuted_none, laws_back}
+use Rattle.trade_off.proofs.AskLemmas.{asked_then, asked_to, stops_as, asks_found, asks_refuted, asks_stopped, refuted_none, laws_back}
 use Rattle.trade_off.proofs.NextLemmas.{under_within, under_once, none_from, found_fact}
 use Rattle.trade_off.proofs.LeftLemmas.{replied_later}
 use Rattle.trade_off.proofs.collecting.next_pair.Goals as goal
@@ -75,25 +76,35 @@ returns-in-Refuted-clause-next g c = let o = g.O.Oracle in
 
 pub returns-in-Refuted-clause-lines : goal.returns-in-Refuted-clause-lines
 returns-in-Refuted-clause-lines g c = let o = g.O.Oracle in
-    let a = c.args.oracle.now in
-    asks_refuted o.knows o.log o.learnt a c.ask.new.self (o.task a) (o.task a) c.deref.result.now c.in_ok-first.field-0
-    (record {
-      same = refl;
-      once = under_once c.args.b c.args.limit c.deref.result.now (c.deref.ensures.value
-          ∙ c.in_ok-bounds.ensures);
-      right = c.in_ok-first.ensures.right;
-    }) c.in-Refuted.is c.in_ok-first.ensures.lines
+    let s = c.args.oracle.now in
+    let e = c.ask.new.self in
+    let p = o.task s in
+    let b = c.args.b in
+    let bounds = c.deref.ensures.value ∙ c.in_ok-bounds.ensures in
+    let begin = under b c.args.limit in
+    asked_to o.knows o.log o.learnt s e p b begin (HasComeDown b begin) (EndsNext p (AsksNext c.args.a b c.args.limit p) b NoMore) (λ lines h. tt)
+    (subst (λ (bs : List Below). Continues o.knows o.log o.learnt s e (AreAsked p b bs (HasComeDown b bs))) bounds
+    (asks_refuted o.knows o.log o.learnt s e p p b c.deref.result.now c.in_ok-first.field-0
+    (record { same = refl; once = under_once b c.args.limit c.deref.result.now bounds; right = c.in_ok-first.ensures.right }) c.in-Refuted.is
+    c.in_ok-first.ensures.lines))
 
 pub returns-clause-lines : goal.returns-clause-lines
 returns-clause-lines g c = let o = g.O.Oracle in
-    let a = c.args.oracle.now in
-    asks_stopped o.knows o.log o.learnt a c.ask.new.self (o.task a) (o.task a) c.deref.result.now c.in_ok-first.field-0 c.in-Stopped.stop
-    (record {
-      same = refl;
-      once = under_once c.args.b c.args.limit c.deref.result.now (c.deref.ensures.value
-          ∙ c.in_ok-bounds.ensures);
-      right = c.in_ok-first.ensures.right;
-    }) c.in-Stopped.is c.in_ok-first.ensures.lines
+    let s = c.args.oracle.now in
+    let e = c.ask.new.self in
+    let p = o.task s in
+    let b = c.args.b in
+    let stop = c.in-Stopped.stop in
+    let bounds = c.deref.ensures.value ∙ c.in_ok-bounds.ensures in
+    let begin = under b c.args.limit in
+    let Just : List Below → Type 0 = λ xs. xs ≡ begin in
+    let next = AsksNext c.args.a b c.args.limit p in
+    asked_to o.knows o.log o.learnt s e p b begin (StopsUnder p Just b stop) (EndsNext p next b (Stopped stop))
+    (λ lines h. stops_as p Just next b stop lines (λ bs x. inl x) h)
+    (subst (λ (bs : List Below). Continues o.knows o.log o.learnt s e (AreAsked p b bs (StopsUnder p (λ (xs : List Below). xs ≡ bs) b stop))) bounds
+    (asks_stopped o.knows o.log o.learnt s e p p b c.deref.result.now c.in_ok-first.field-0 stop
+    (record { same = refl; once = under_once b c.args.limit c.deref.result.now bounds; right = c.in_ok-first.ensures.right }) c.in-Stopped.is
+    c.in_ok-first.ensures.lines))
 
 pub returns-in-Found-clause-next : goal.returns-in-Found-clause-next
 returns-in-Found-clause-next g c = let o = g.O.Oracle in
@@ -102,19 +113,24 @@ returns-in-Found-clause-next g c = let o = g.O.Oracle in
 
 pub returns-in-Found-clause-lines : goal.returns-in-Found-clause-lines
 returns-in-Found-clause-lines g c = let o = g.O.Oracle in
-    let a = c.args.oracle.now in
-    let b = c.ask.new.self in
+    let s = c.args.oracle.now in
+    let t = c.ask.new.self in
     let e = c.pair_from.new.oracle in
-    IfOk-weaker c.pair_from.result (λ r. Continues o.knows o.log o.learnt b e (AreAsked (o.task b) (stop_of r)))
-    (λ r. Continues o.knows o.log o.learnt a e (AreAsked (o.task a) (stop_of r)))
-    (λ r h. asked_then o.knows o.log o.learnt a b e (o.task b) (o.task a) (stop_of r) c.in_ok-first.ensures.task
-    (asks_found o.knows o.log o.learnt a b (o.task a) (o.task a) c.deref.result.now c.in_ok-first.field-0 c.in-Found.first
-    (record {
-      same = refl;
-      once = under_once c.args.b c.args.limit c.deref.result.now (c.deref.ensures.value
-          ∙ c.in_ok-bounds.ensures);
-      right = c.in_ok-first.ensures.right;
-    }) c.in-Found.is c.in_ok-first.ensures.lines) h)
+    let p = o.task s in
+    let b = c.args.b in
+    let limit = c.args.limit in
+    let bounds = c.deref.ensures.value ∙ c.in_ok-bounds.ensures in
+    let begin = under b limit in
+    let before : Continues o.knows o.log o.learnt s t (AreAsked p b begin (HasComeDown b begin)) =
+    subst (λ (bs : List Below). Continues o.knows o.log o.learnt s t (AreAsked p b bs (HasComeDown b bs))) bounds
+    (asks_found o.knows o.log o.learnt s t p p b c.deref.result.now c.in_ok-first.field-0 c.in-Found.first
+    (record { same = refl; once = under_once b limit c.deref.result.now bounds; right = c.in_ok-first.ensures.right }) c.in-Found.is
+    c.in_ok-first.ensures.lines) in
+    IfOk-weaker c.pair_from.result
+    (λ r. Continues o.knows o.log o.learnt t e (AreAsked (o.task t) b begin (EndsNext (o.task t) (AsksNext c.args.a b limit (o.task t)) b r)))
+    (λ r. Continues o.knows o.log o.learnt s e (AreAsked p b begin (EndsNext p (AsksNext c.args.a b limit p) b r)))
+    (λ r h. asked_then o.knows o.log o.learnt s t e (o.task t) p b begin begin (λ x. EndsNext x (AsksNext c.args.a b limit x) b r)
+    c.in_ok-first.ensures.task before h)
     c.pair_from.ensures.lines
 
 pub returns-in_err-bounds-clause-leaves : goal.returns-in_err-bounds-clause-leaves

@@ -1,11 +1,16 @@
-use Rattle.std.proofs.Common.{◌≡◌, sym, ◌∙◌, ap, subst, arith}
-use Rattle.std.specs.Prelude.{Option}
+use Rattle.std.proofs.Common.{◌≡◌, List, sym, ◌∙◌, ap, subst, arith}
+use Rattle.std.specs.Prelude.{Option, None, Some}
 use Rattle.plan_core.specs.declared.criterion.Values.{Values}
 use Rattle.plan_core.specs.Values.{values_of, value_of}
 use Rattle.refute_log.specs.declared.stop.Stop.{Stop}
 use Rattle.search_least.specs.State.{hold}
 use Rattle.refute_log.specs.Steps.{Continues}
-use Rattle.trade_off.specs.Least.{AreAsked}
+use Rattle.search_least.specs.declared.oracle.Below.{Below}
+use Rattle.search_least.specs.Task.{greatest_of}
+use Rattle.trade_off.specs.declared.collecting.Next.TheVariants.{Pair, Stopped}
+use Rattle.trade_off.specs.Least.{AreBeside, lowered, LowersUnder, EndsLowered, AreAsked}
+use Rattle.trade_off.specs.Next.{under, AsksSecond, EndsNext}
+use Rattle.trade_off.proofs.AskLemmas.{no_less_last, no_less_alone, come_down, asked_as, stops_as}
 use Rattle.trade_off.proofs.NextLemmas.{hold_within, hold_beside, hold_meets, second_there}
 use Rattle.refute_log.proofs.StepLemmas.{leaves_same}
 use Rattle.trade_off.proofs.collecting.second_from.Goals as goal
@@ -28,8 +33,43 @@ lower-requires-clause-met g c =
 
 pub returns-in-Some-clause-lines : goal.returns-in-Some-clause-lines
 returns-in-Some-clause-lines g c = let o = g.O.Oracle in
-    subst (λ (s : Option Stop). Continues o.knows o.log o.learnt c.args.oracle.now c.lower.new.oracle (AreAsked (o.task c.args.oracle.now) s)) c.in-Some.is
-    c.in_ok-lowered.ensures.lines
+    let s = c.args.oracle.now in
+    let e = c.lower.new.oracle in
+    let p = o.task s in
+    let b = c.args.b in
+    let bounds = c.deref.result.now in
+    let stop = c.in-Some.stop in
+    let least = c.in_ok-lowered.lowered.least in
+    let first : c.of-first.result ≡ value_of (values_of c.args.least) c.args.a = c.of-first.ensures
+    ∙ ap (λ (v : Values). value_of v c.args.a) c.values.ensures in
+    let held : bounds ≡ hold c.args.a (value_of (values_of c.args.least) c.args.a) (greatest_of p c.args.a) =
+    c.deref.ensures.value ∙ c.in_ok-held.ensures ∙ ap (hold c.args.a c.of-first.result) c.greatest-most.ensures
+    ∙ ap (λ n. hold c.args.a n (greatest_of p c.args.a)) first in
+    asked_as o.knows o.log o.learnt s e p b (under b (Some (value_of (values_of c.args.least) b))) (lowered bounds b c.args.least)
+    (EndsLowered p bounds b b least (Some stop)) (EndsNext p (AsksSecond c.args.a b c.args.least p) b (Stopped stop)) (no_less_last b bounds c.args.least)
+    (λ lines h. stops_as p (LowersUnder bounds b p) (AsksSecond c.args.a b c.args.least p) b stop lines
+    (λ bs x. subst (λ (hs : List Below). LowersUnder hs b p bs) held x) h)
+    (subst (λ (x : Option Stop). Continues o.knows o.log o.learnt s e (AreAsked p b (lowered bounds b c.args.least) (EndsLowered p bounds b b least x)))
+    c.in-Some.is (c.in_ok-lowered.ensures.lines b))
+
+pub returns-clause-lines : goal.returns-clause-lines
+returns-clause-lines g c = let o = g.O.Oracle in
+    let s = c.args.oracle.now in
+    let e = c.lower.new.oracle in
+    let p = o.task s in
+    let b = c.args.b in
+    let bounds = c.deref.result.now in
+    let least = c.in_ok-lowered.lowered.least in
+    let m = c.of.result in
+    let first = lowered bounds b c.args.least in
+    let second : m ≡ value_of (values_of least) b = c.of.ensures ∙ ap (λ (v : Values). value_of v b) c.values-in-None.ensures in
+    let beside : AreBeside b bounds = hold_beside b c.args.a c.of-first.result c.greatest-most.result bounds
+    (c.deref.ensures.value ∙ c.in_ok-held.ensures) c.requires.apart in
+    asked_as o.knows o.log o.learnt s e p b (under b (Some (value_of (values_of c.args.least) b))) first (EndsLowered p bounds b b least None)
+    (EndsNext p (AsksSecond c.args.a b c.args.least p) b (Pair c.of-first.result m)) (no_less_last b bounds c.args.least)
+    (λ lines h. come_down b (lowered bounds b least) (under b (Some m)) lines (no_less_alone b bounds least m second beside) h)
+    (subst (λ (x : Option Stop). Continues o.knows o.log o.learnt s e (AreAsked p b first (EndsLowered p bounds b b least x))) c.in-None.is
+    (c.in_ok-lowered.ensures.lines b))
 
 pub returns-clause-next : goal.returns-clause-next
 returns-clause-next g c = let o = g.O.Oracle in

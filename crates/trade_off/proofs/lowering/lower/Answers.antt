@@ -1,13 +1,14 @@
-use Rattle.std.proofs.Common.{◌≡◌, ◌≤◌, refl, ◌∙◌, ap, arith}
+use Rattle.std.proofs.Common.{◌≡◌, ◌≤◌, ◌∷◌, ◌++◌, [], refl, ◌∙◌, ap, arith}
 use Rattle.std.specs.Prelude.{None, Some}
 use Rattle.plan_core.specs.Values.{values_of, value_of}
 use Rattle.plan_core.proofs.LimitLemmas.{value-le-limit}
 use Rattle.search_least.specs.Task.{greatest_of}
-use Rattle.search_least.specs.Asked.{IsReply}
+use Rattle.search_least.specs.Asked.{below_limit, IsReply}
 use Rattle.search_least.proofs.RunLemmas.{built_all, found_less, found_lawful}
 use Rattle.refute_log.proofs.StepLemmas.{known_after}
-use Rattle.trade_off.proofs.AskLemmas.{refuted_none, least_from, least_zero, found_meets, once_with, asked_none, asked_then, asks_found, asks_refuted}
-use Rattle.trade_off.proofs.AskLemmas.{asks_stopped, laws_back}
+use Rattle.trade_off.proofs.AskLemmas.{refuted_none, least_from, least_zero, found_meets, once_with, asked_none, lowers_found, lowers_refuted}
+use Rattle.trade_off.proofs.AskLemmas.{lowers_stopped, lowers_down, laws_back}
+use Rattle.trade_off.specs.Least.{lowered, HasComeDown}
 use Rattle.trade_off.proofs.LeftLemmas.{asked_here, asked_later}
 use Rattle.trade_off.proofs.lowering.lower.Goals as goal
 use Rattle.outside_io.proofs.Results.{on_err_anyway}
@@ -30,7 +31,7 @@ loop-value-init g c = let o = g.O.Oracle in
       no_more = omega (arith, is);
       later = g.met.O.Oracle.later_same c.args.oracle.now;
       faults = omega arith;
-      lines = asked_none o.knows o.log o.learnt c.args.oracle.now p;
+      lines = λ m. asked_none o.knows o.log o.learnt c.args.oracle.now p m (lowered c.args.held.now c.args.c c.args.first);
     }
 
 pub ask-requires-clause-there : goal.ask-requires-clause-there
@@ -77,12 +78,14 @@ loop-value-preserved g c = let o = g.O.Oracle in
       no_more = (let le = c.loop-value.invariant.no_more in omega (arith, is, lt, le));
       later = g.met.O.Oracle.later_more a b e c.loop-value.invariant.later c.in_ok-d.ensures.later;
       faults = (let m = c.loop-value.invariant.faults in let n = c.in_ok-d.ensures.faults in omega arith);
-      lines = asked_then o.knows o.log o.learnt a b e (o.task a) (o.task a) None refl c.loop-value.invariant.lines
-          (asks_found o.knows o.log o.learnt b e (o.task b) (o.task a) c.deref.result.now c.in_ok-d.field-0 c.in-Found.d (record {
+      lines = λ m. lowers_found o.knows o.log o.learnt a b e (o.task b) (o.task a) m c.args.held.now c.args.c c.args.first c.loop-value.least c.in-Found.d
+          c.deref.result.now c.in_ok-d.field-0
+          (record {
             same = c.loop-value.invariant.task;
             once = once_with c.args.held.now c.deref.result.now c.args.c c.loop-value.value bounds c.requires.beside;
             right = c.in_ok-d.ensures.right;
-          }) c.in-Found.is c.in_ok-d.ensures.lines);
+          }) (bounds ∙ ap (λ n. c.args.held.now ++ below_limit c.args.c n ∷ []) c.loop-value.invariant.value) c.in-Found.is
+          (let value = c.loop-value.invariant.value in omega (arith, is, lt, value)) (c.loop-value.invariant.lines m) c.in_ok-d.ensures.lines;
     }
 
 pub returns-in-Refuted-clause-known : goal.returns-in-Refuted-clause-known
@@ -128,37 +131,43 @@ pub returns-in-Refuted-clause-lines : goal.returns-in-Refuted-clause-lines
 returns-in-Refuted-clause-lines g c = let o = g.O.Oracle in
     let a = c.args.oracle.now in
     let b = c.loop-value.oracle in
-    asked_then o.knows o.log o.learnt a b c.ask.new.self (o.task a) (o.task a) None refl c.loop-value.invariant.lines
-    (asks_refuted o.knows o.log o.learnt b c.ask.new.self (o.task b) (o.task a) c.deref.result.now c.in_ok-d.field-0
+    let bounds = c.deref.ensures.value ∙ c.in_ok-bounds.ensures in
+    λ m. lowers_refuted o.knows o.log o.learnt a b c.ask.new.self (o.task b) (o.task a) m c.args.held.now c.args.c c.args.first c.loop-value.least
+    c.deref.result.now c.in_ok-d.field-0
     (record {
       same = c.loop-value.invariant.task;
-      once = once_with c.args.held.now c.deref.result.now c.args.c c.loop-value.value
-          (c.deref.ensures.value ∙ c.in_ok-bounds.ensures) c.requires.beside;
+      once = once_with c.args.held.now c.deref.result.now c.args.c c.loop-value.value bounds c.requires.beside;
       right = c.in_ok-d.ensures.right;
-    }) c.in-Refuted.is c.in_ok-d.ensures.lines)
+    }) (bounds ∙ ap (λ n. c.args.held.now ++ below_limit c.args.c n ∷ []) c.loop-value.invariant.value) c.in-Refuted.is (c.loop-value.invariant.lines m)
+    c.in_ok-d.ensures.lines
 
 pub returns-in-Stopped-clause-lines : goal.returns-in-Stopped-clause-lines
 returns-in-Stopped-clause-lines g c = let o = g.O.Oracle in
     let a = c.args.oracle.now in
     let b = c.loop-value.oracle in
-    asked_then o.knows o.log o.learnt a b c.ask.new.self (o.task a) (o.task a) (Some c.in-Stopped.stop) refl c.loop-value.invariant.lines
-    (asks_stopped o.knows o.log o.learnt b c.ask.new.self (o.task b) (o.task a) c.deref.result.now c.in_ok-d.field-0 c.in-Stopped.stop
+    let bounds = c.deref.ensures.value ∙ c.in_ok-bounds.ensures in
+    λ m. lowers_stopped o.knows o.log o.learnt a b c.ask.new.self (o.task b) (o.task a) m c.args.held.now c.args.c c.args.first c.loop-value.least
+    c.deref.result.now c.in_ok-d.field-0 c.in-Stopped.stop
     (record {
       same = c.loop-value.invariant.task;
-      once = once_with c.args.held.now c.deref.result.now c.args.c c.loop-value.value
-          (c.deref.ensures.value ∙ c.in_ok-bounds.ensures) c.requires.beside;
+      once = once_with c.args.held.now c.deref.result.now c.args.c c.loop-value.value bounds c.requires.beside;
       right = c.in_ok-d.ensures.right;
-    }) c.in-Stopped.is c.in_ok-d.ensures.lines)
+    }) (bounds ∙ ap (λ n. c.args.held.now ++ below_limit c.args.c n ∷ []) c.loop-value.invariant.value) c.in-Stopped.is c.loop-value.invariant.lawful
+    c.loop-value.invariant.met (c.loop-value.invariant.lines m) c.in_ok-d.ensures.lines
 
 pub returns-clause-lines : goal.returns-clause-lines
-returns-clause-lines g c = c.loop-value.invariant.lines
+returns-clause-lines g c = let o = g.O.Oracle in
+    λ m. lowers_down o.knows o.log o.learnt c.args.oracle.now c.loop-value.oracle (o.task c.args.oracle.now) m c.args.held.now c.args.c c.args.first
+    c.loop-value.least (c.loop-value.invariant.lines m)
 
 pub returns-in_err-bounds-clause-leaves : goal.returns-in_err-bounds-clause-leaves
 returns-in_err-bounds-clause-leaves g c = let o = g.O.Oracle in
-    on_err_anyway _ _ (asked_here o.knows o.log o.learnt c.args.oracle.now c.loop-value.oracle (o.task c.args.oracle.now) None c.loop-value.invariant.lines
-    (g.met.O.Oracle.derives c.loop-value.oracle) (g.met.O.Oracle.one_reading c.loop-value.oracle))
+    on_err_anyway _ _ (asked_here o.knows o.log o.learnt c.args.oracle.now c.loop-value.oracle (o.task c.args.oracle.now) c.args.c
+    (lowered c.args.held.now c.args.c c.args.first) (HasComeDown c.args.c (lowered c.args.held.now c.args.c c.loop-value.least))
+    (c.loop-value.invariant.lines c.args.c) (g.met.O.Oracle.derives c.loop-value.oracle) (g.met.O.Oracle.one_reading c.loop-value.oracle))
 
 pub returns-in_err-d-clause-leaves : goal.returns-in_err-d-clause-leaves
 returns-in_err-d-clause-leaves g c = let o = g.O.Oracle in
-    on_err_anyway _ _ (asked_later o.knows o.log o.learnt c.args.oracle.now c.loop-value.oracle c.ask.new.self (o.task c.args.oracle.now) None
-    c.loop-value.invariant.lines c.in_err-d.ensures.leaves)
+    on_err_anyway _ _ (asked_later o.knows o.log o.learnt c.args.oracle.now c.loop-value.oracle c.ask.new.self (o.task c.args.oracle.now) c.args.c
+    (lowered c.args.held.now c.args.c c.args.first) (HasComeDown c.args.c (lowered c.args.held.now c.args.c c.loop-value.least))
+    (c.loop-value.invariant.lines c.args.c) c.in_err-d.ensures.leaves)

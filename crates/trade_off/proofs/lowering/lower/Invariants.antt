@@ -1,10 +1,10 @@
 use Rattle.std.proofs.Common.{◌≡◌, ◌≤◌}
-use Rattle.std.specs.Prelude.{None}
+use Rattle.plan_core.specs.declared.criterion.Criterion.{Criterion}
 use Rattle.plan_core.specs.Values.{values_of, value_of}
 use Rattle.search_least.specs.Task.{IsLawful, greatest_of}
 use Rattle.search_least.specs.Asked.{AreMet}
 use Rattle.refute_log.specs.Steps.{Continues, KnowsSome}
-use Rattle.trade_off.specs.Least.{AreAsked}
+use Rattle.trade_off.specs.Least.{lowered, HasComeDown, AreAsked}
 use Rattle.trade_off.proofs.lowering.lower.Given as goal
 
 abbrev pub invariant-loop-value : goal.invariant-loop-value
@@ -20,7 +20,8 @@ invariant-loop-value g l = let o = g.O.Oracle in record {
   no_more : l.value ≤ value_of (values_of l.fn.first) l.c;
   later : o.is_later l.fn.oracle l.oracle;
   faults : o.faults l.fn.oracle ≤ o.faults l.oracle;
-  lines : Continues o.knows o.log o.learnt l.fn.oracle l.oracle (AreAsked (o.task l.fn.oracle) None);
+  lines : (m : Criterion) → Continues o.knows o.log o.learnt l.fn.oracle l.oracle
+      (AreAsked (o.task l.fn.oracle) m (lowered l.held l.c l.fn.first) (HasComeDown m (lowered l.held l.c l.least)));
 }
 
 abbrev pub decreases-loop-value : goal.decreases-loop-value

@@ -1,4 +1,4 @@
-use Rattle.std.proofs.Common.{◌≡◌, ◌++◌, sym, ◌∙◌, ap, subst}
+use Rattle.std.proofs.Common.{◌≡◌, ◌++◌, [], sym, ◌∙◌, ap, subst}
 use Rattle.std.specs.Prelude.{IfOk}
 use Rattle.std.proofs.lemmas.Result.{IfOk-weaker}
 use Rattle.search_least.specs.Task.{Task, IsLawful, greatest_of}
@@ -6,7 +6,7 @@ use Rattle.search_least.specs.Outcome.{first_lines}
 use Rattle.refute_log.specs.Steps.{ToldBehind, Continues}
 use Rattle.trade_off.specs.Front.{IsFrontUpTo}
 use Rattle.trade_off.specs.Least.{AreAsked}
-use Rattle.trade_off.specs.Outcome.{IsRightFront, IsFrontLog, IsBuiltFront, stop_behind}
+use Rattle.trade_off.specs.Outcome.{IsRightFront, IsFrontLog, IsBuiltFront, EndsFront}
 use Rattle.refute_log.proofs.StepLemmas.{known_after, on_err_weaker}
 use Rattle.trade_off.proofs.FrontLemmas.{up_to_none}
 use Rattle.trade_off.proofs.TellLemmas.{laws_at, tells_no_room, tells_front}
@@ -23,7 +23,7 @@ pub returns-in-NoRoom-clause-lines : goal.returns-in-NoRoom-clause-lines
 returns-in-NoRoom-clause-lines g c = let o = g.O.Oracle in
     let s = c.args.oracle.now in
     let e = c.build_both.new.oracle in
-    tells_no_room o.knows o.log o.learnt s e (o.task s) c.args.a c.args.b c.in_ok-build_both.field-0 c.in-NoRoom.is
+    tells_no_room o.knows o.log o.learnt s e (o.task s) c.args.a c.args.b c.new.result c.in_ok-build_both.field-0 c.in-NoRoom.is
     (laws_at o.knows e (o.task e) (o.task s) c.build_both.ensures.task
     (record {
       covers = g.met.O.Oracle.covers e;
@@ -64,10 +64,12 @@ returns-in-Whole-clause-lines g c = let o = g.O.Oracle in
     let t = c.build_both.new.oracle in
     let e = c.collect.new.oracle in
     let p = o.task s in
-    IfOk-weaker c.collect.result (λ r. Continues o.knows o.log o.learnt t e (AreAsked (o.task t) (stop_behind r.ending)))
+    IfOk-weaker c.collect.result
+    (λ r. Continues o.knows o.log o.learnt t e (AreAsked (o.task t) c.args.b [] (EndsFront (o.task t) c.args.a c.args.b r.pairs r.ending)))
     (λ r. ToldBehind (o.knows e) (o.log s) (o.log e) (o.learnt s) (o.learnt e) (first_lines p)
-    (λ more. IsFrontLog p c.args.a c.args.b r.ending (first_lines p ++ more)))
-    (λ r h. tells_front o.knows o.log o.learnt s t e (o.task t) p c.args.a c.args.b c.in_ok-build_both.field-0 r.ending c.build_both.ensures.task c.in-Whole.is
+    (λ more. IsFrontLog p c.args.a c.args.b r.pairs r.ending (first_lines p ++ more)))
+    (λ r h. tells_front o.knows o.log o.learnt s t e (o.task t) p c.args.a c.args.b r.pairs c.in_ok-build_both.field-0 r.ending c.build_both.ensures.task
+    c.in-Whole.is
     (laws_at o.knows e (o.task e) p (c.collect.ensures.task ∙ c.build_both.ensures.task)
     (record {
       covers = g.met.O.Oracle.covers e;
