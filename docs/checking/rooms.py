@@ -11,7 +11,7 @@ from checking.crates import TOP, read, stands_on
 ROOMS = ["ground", "reading", "station", "drawing", "texts", "log", "formula", "solver", "judges", "search", "commands", "tests"]
 # of the judges it alone finds hints, and so propagates as the solver does
 FINDER, SHARED = "log_trim", "watch_arena"
-MOST_CRATES, MOST_PATHS = 48, 4500
+MOST_CRATES, MOST_PATHS = 48, 4000
 
 
 @cache

@@ -1,7 +1,6 @@
 -- What the outcome of a search says of the sheet that is written.
 use Rattle.std.proofs.Common.{◌≡◌, ℕ, ◌<◌, true, false, List, length, None, Some, sym, subst, arith}
-use Rattle.std.specs.Prelude.{⊤, Result, Ok, Err, IfOk, IfSome}
-use Rattle.std.specs.declared.option.Option.{Option}
+use Rattle.std.specs.Prelude.{⊤, IfSome}
 use Rattle.std.specs.Option.{is_some}
 use Rattle.plan_core.specs.declared.criterion.Criterion.{Criterion}
 use Rattle.plan_core.specs.Graph.{Graph}
@@ -14,8 +13,6 @@ use Rattle.refute_log.specs.Told.{Lines}
 use Rattle.search_least.specs.declared.outcome.Outcome.{Outcome}
 use Rattle.search_least.specs.declared.outcome.Outcome.TheVariants as outcomes
 use Rattle.search_least.specs.Outcome.{IsOutcome}
-use Rattle.run_input.specs.Met.{Met}
-use Rattle.run_draw_front.specs.SearchLog.{IsRunLog}
 use Rattle.run_draw_front.specs.Drawn.{Job, search_of, sheet_of, found_by, HasSearched}
 
 -- ---- an order, criterion by criterion
@@ -66,16 +63,6 @@ ended_sheet g o asked outcome sheet same is searched = (
   subst (λ (s : Sheet). DrawsOnGrid s) (sym same) (ended_on_grid g o asked outcome searched.lines searched.ended),
   subst (λ (s : Sheet). StatesSettled s.order (is_some s.found) s.ending) (sym same) (ended_settles g o asked outcome searched.lines is searched.ended),
 )
-
--- ---- where the lines stand
-
--- lines told to a log of this name, where the words name it, are told where the words say
-pub searched_named : {E : Type 0} (g : Graph) (o : EdgeOrder) (asked : Job) (met : Met) (traced : Lines → Type 0) (named : Option (List ℕ))
-    (r : Result Outcome E) → asked.log ≡ named →
-    IfOk r (HasSearched g o asked (IsRunLog named met traced)) → IfOk r (HasSearched g o asked (IsRunLog asked.log met traced))
-searched_named g o asked met traced named (Ok outcome) is searched = subst (λ (log : Option (List ℕ)). HasSearched g o asked (IsRunLog log met traced) outcome)
-    (sym is) searched
-searched_named g o asked met traced named (Err e) is searched = tt
 
 -- the drawing that was found has a point for each node and a line for each edge
 pub found_draws : (g : Graph) (o : EdgeOrder) (asked : Job) (outcome : Outcome) (lines : Lines) → IsOutcome (search_of g o asked) asked.order outcome lines →

@@ -14,7 +14,7 @@ use Rattle.drawing_cnf.specs.Layout.{layout}
 use Rattle.lex_minimise.specs.Task.{task_of}
 use Rattle.run_input.specs.declared.status.Status.{Status}
 use Rattle.run_draw_front.specs.FrontText.{front_text}
-use Rattle.run_draw_front.specs.Fronted.{FrontJob, front_job, front_task, status_of_front, IsFrontAnswer, IsLeftOfFront, FrontMayLeave}
+use Rattle.run_draw_front.specs.Fronted.{FrontJob, front_job, status_of_front, IsFrontAnswer, IsLeftOfFront, FrontMayLeave}
 use Rattle.run_input.specs.Met.{Met}
 
 pub fronted : (grid : GridSize) (a b : Criterion) (budget : ℕ) (asked : FrontJob) (IsTold : Lines → Type 0) (g : Graph) (o : EdgeOrder) (pairs : Pairs)

@@ -1,9 +1,7 @@
 pub mod OutcomeLemmas
-pub mod DerivesLemmas
-pub mod LeavesLemmas
 pub mod DrawnLemmas
 pub mod PictureLemmas
-pub mod FiledLemmas
+pub mod AfterReadLemmas
 pub mod FieldLemmas
 pub mod SignalledLemmas
 pub mod FrontedLemmas

@@ -2,8 +2,9 @@
 use Rattle.std.proofs.Common.{List, None, Some}
 use Rattle.plan_core.specs.declared.criterion.Criterion.{Criterion}
 use Rattle.refute_log.specs.Told.{Lines}
-use Rattle.search_least.specs.Task.{Task}
-use Rattle.search_least.specs.Outcome.{IsOutcome, IsSearched}
+use Rattle.refute_log.specs.Expected.{caps}
+use Rattle.search_least.specs.Task.{Task, greatest_of}
+use Rattle.search_least.specs.Outcome.{IsOutcome, IsSearched, IsLeastLeft}
 use Rattle.search_least.specs.declared.outcome.Outcome.{Outcome}
 use Rattle.search_least.specs.declared.outcome.Outcome.TheVariants as outcomes
 use Rattle.run_input.specs.declared.status.Status.{Status}
@@ -25,3 +26,9 @@ searched_of p order (outcomes.Spent None settled) lines ended = ended.searched
 searched_of p order (outcomes.Spent (Some d) settled) lines ended = ended.searched
 searched_of p order (outcomes.Room None settled) lines ended = ended.searched
 searched_of p order (outcomes.Room (Some d) settled) lines ended = ended.searched
+
+-- they derive, and begin what is expected for their own caps
+pub outcome_left : (p : Task) (order : List Criterion) (outcome : Outcome) (lines : Lines) → IsOutcome p order outcome lines → IsLeastLeft p order lines
+outcome_left p order outcome lines ended =
+    let searched = searched_of p order outcome lines ended in
+    record { derives = searched.derives; cap = caps (greatest_of p) lines; begins = searched.front }

@@ -18,10 +18,10 @@ use Rattle.run_input.specs.declared.status.Status.{Status}
 use Rattle.run_input.specs.Met.{between, LeftSo}
 use Rattle.run_input.specs.Input.{IsShort}
 use Rattle.run_draw_front.specs.Pictured.{BeginsPicture, IsPictured}
-use Rattle.run_draw_front.specs.SearchLog.{IsLogFile, IsRunLog}
+use Rattle.run_input.specs.SearchLog.{IsLogFile, IsRunLog}
 use Rattle.run_draw_front.specs.Drawn.{Job, sheet_of, found_by, status_of, HasSearched, IsDrawAnswer, HasBegunPicture, DrawMayLeave}
-use Rattle.run_draw_front.specs.Written.{file_named, AreFilesApart}
-use Rattle.run_draw_front.proofs.LeavesLemmas.{told_then, told_so, leaves_weaker, leaves_both, NamedMay, left_alone_but, other_stands, names_apart}
+use Rattle.run_input.specs.Written.{file_named, AreFilesApart}
+use Rattle.run_input.proofs.LeavesLemmas.{told_then, told_so, leaves_weaker, leaves_both, NamedMay, left_alone_but, other_stands, names_apart}
 
 -- ---- the picture's file
 

@@ -37,14 +37,15 @@ use Rattle.run_input.specs.Signals.{HasFault, IsSignalStationOf, IsSignalRefusal
 use Rattle.run_input.proofs.FormedRows.{rows_formed}
 use Rattle.run_input.proofs.SignalLemmas.{fault_short_or_long}
 use Rattle.refute_log.specs.FileLog.{BeginsLog}
-use Rattle.run_draw_front.specs.Written.{file_named}
-use Rattle.run_draw_front.specs.SearchLog.{IsRunLog}
+use Rattle.run_input.specs.Written.{file_named}
+use Rattle.run_input.specs.SearchLog.{TellsIfNew, IsRunLog}
+use Rattle.run_input.proofs.DerivesLemmas.{tells_weaker}
 use Rattle.run_draw_front.specs.Pictured.{IsPictured}
-use Rattle.run_draw_front.specs.Drawn.{Job, job, search_of, sheet_of, found_by, status_of, HasSearched, IsDrawAnswer}
+use Rattle.run_draw_front.specs.Drawn.{Job, job, search_of, sheet_of, found_by, status_of, HasSearched, IsDrawAnswer, IsLeftOfDraw}
 use Rattle.run_draw_front.specs.Signalled.{job_for, signals_behind, StandApart, IsSignalled, IsSignalAnswer, IsSignalFileJudged, HasReadSignals}
-use Rattle.run_draw_front.specs.Signalled.{IsLeftBySignals}
-use Rattle.run_draw_front.proofs.LeavesLemmas.{leaves_weaker, leaves_later, NamedMay}
-use Rattle.run_draw_front.proofs.FiledLemmas.{searched_later}
+use Rattle.run_draw_front.specs.Signalled.{IsLeftBySignals, SignalsMayTell}
+use Rattle.run_input.proofs.LeavesLemmas.{leaves_weaker, leaves_later, NamedMay}
+use Rattle.run_draw_front.proofs.AfterReadLemmas.{searched_later}
 
 -- ---- room for the signals
 
@@ -210,3 +211,10 @@ pub apart : (places : List SignalPlace) (found : Option Drawing) → IfSome foun
     StandApart places found
 apart places None room = tt
 apart places (Some d) room = λ i there. let r = room i there in spread_at places (line_under places d i) i there r.long
+
+-- lines of the search for what is asked with the greater length are such of signals
+pub signals_tell : (asked longer : Job) (input : List ℕ) (met : Met) (found : HasReadSignals input met) (old new : Lines → Type 0) →
+    longer ≡ job_for found.places asked → TellsIfNew (IsLeftOfDraw longer found.graph found.order) old new → TellsIfNew (SignalsMayTell asked input met) old new
+signals_tell asked longer input met found old new same =
+    tells_weaker (IsLeftOfDraw longer found.graph found.order) (SignalsMayTell asked input met) old new
+    (λ lines left. inr (found, subst (λ (j : Job). IsLeftOfDraw j found.graph found.order lines) same left))

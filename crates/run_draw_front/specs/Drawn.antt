@@ -1,6 +1,6 @@
 -- What draw answers to a station: the sheet and the status of how its search ended, what the log of the search
 -- certifies, and the picture; and with which bytes it may leave a file.
-use Rattle.std.specs.Prelude.{◌≡◌, ◌⊎◌, ℕ, false, List, ◌++◌, None, Some, length, flat_map}
+use Rattle.std.specs.Prelude.{◌≡◌, ◌⊎◌, ℕ, false, List, [], ◌++◌, None, Some, length, flat_map}
 use Rattle.std.specs.declared.option.Option.{Option}
 use Rattle.plan_core.specs.declared.limits.TheConstants.{MAX_FILE_BYTES}
 use Rattle.plan_core.specs.declared.criterion.Criterion.{Criterion}
@@ -23,7 +23,7 @@ use Rattle.refute_log.specs.Full.{IsFullLog}
 use Rattle.search_least.specs.declared.outcome.Outcome.{Outcome}
 use Rattle.search_least.specs.declared.outcome.Outcome.TheVariants as outcomes
 use Rattle.search_least.specs.Task.{Task}
-use Rattle.search_least.specs.Outcome.{IsOutcome, values_found}
+use Rattle.search_least.specs.Outcome.{IsOutcome, IsLeastLeft, values_found}
 use Rattle.drawing_cnf.specs.Layout.{layout, problem_of}
 use Rattle.lex_minimise.specs.Task.{task_of}
 use Rattle.run_input.specs.declared.status.Status.{Status}
@@ -31,8 +31,8 @@ use Rattle.run_input.specs.declared.status.Status.TheVariants as statuses
 use Rattle.run_input.specs.Input.{IsShort}
 use Rattle.run_input.specs.Met.{Met}
 use Rattle.run_input.specs.Answer.{IsReadStation}
-use Rattle.run_draw_front.specs.Written.{file_named}
-use Rattle.run_draw_front.specs.SearchLog.{IsRunLog}
+use Rattle.run_input.specs.Written.{file_named}
+use Rattle.run_input.specs.SearchLog.{HasToldEnd, IsRunLog}
 use Rattle.run_draw_front.specs.Pictured.{BeginsPicture, IsPictured}
 
 -- ---- what is asked
@@ -49,6 +49,10 @@ pub record Job : Type 0 where
 -- what is asked, of these parts
 abbrev pub job : GridSize → List Criterion → (budget : ℕ) → (svg log : Option (List ℕ)) → Job
 job grid order budget svg log = record { grid = grid; order = order; budget = budget; svg = svg; log = log }
+
+-- the same without files
+abbrev pub search_job : GridSize → List Criterion → (budget : ℕ) → Job
+search_job grid order budget = job grid order budget None None
 
 -- what is searched: the lawful drawings of the station on that grid, within that budget and ROOM words
 abbrev pub search_of : Graph → EdgeOrder → Job → Task
@@ -105,11 +109,8 @@ HasFilledRoom g o asked lines found =
 
 -- a search with this outcome told these lines: they certify of the drawing, and of all that are lawful, what the
 -- outcome says
-pub record HasSearched (g : Graph) (o : EdgeOrder) (asked : Job) (IsTold : Lines → Type 0) (outcome : Outcome) : Type 0
-  where
-    pub lines : Lines
-    pub told : IsTold lines
-    pub ended : HasEnded g o asked outcome lines
+abbrev pub HasSearched : Graph → EdgeOrder → Job → (IsTold : Lines → Type 0) → Outcome → Type 0
+HasSearched g o asked IsTold outcome = HasToldEnd (HasEnded g o asked outcome) IsTold
 
 -- a search was done, and the text is the sheet of its outcome, which is read as that very sheet and isn't too long for
 -- it
@@ -155,3 +156,15 @@ abbrev pub IsLeftByDraw : (input : List ℕ) → Job → Met → (traced : Lines
 IsLeftByDraw input asked met traced name bytes =
     (g : Graph) × (o : EdgeOrder) × IsReadStation input met g o
     × DrawMayLeave asked (HasBegunPicture g o asked (IsRunLog asked.log met traced)) name bytes
+
+-- ---- what the trace is told, also where there is no answer
+
+-- lines of a search for what is asked, whether it ended or was cut short: they derive, and the clauses that they give
+-- are the first of those that are expected
+abbrev pub IsLeftOfDraw : Job → Graph → EdgeOrder → Lines → Type 0
+IsLeftOfDraw asked g o lines = IsLeastLeft (search_of g o asked) asked.order lines
+
+-- what a run may tell a log that had no line: nothing, or lines of a search for the station that was read
+abbrev pub DrawMayTell : Job → (input : List ℕ) → Met → Lines → Type 0
+DrawMayTell asked input met lines =
+    (lines ≡ []) ⊎ ((g : Graph) × (o : EdgeOrder) × IsReadStation input met g o × IsLeftOfDraw asked g o lines)

@@ -1,5 +1,3 @@
-pub mod Written
-pub mod SearchLog
 pub mod Pictured
 pub mod Drawn
 pub mod Signalled

@@ -20,7 +20,7 @@ use Rattle.run_input.specs.Fault.{IsFaultLine}
 use Rattle.run_input.specs.Signals.{HasFault, HasSignalStation, IsSignalStationOf}
 use Rattle.run_input.specs.Met.{Met, HasRead}
 use Rattle.search_least.specs.declared.outcome.Outcome.{Outcome}
-use Rattle.run_draw_front.specs.Drawn.{Job, job, found_by, HasEnded, IsDrawAnswer}
+use Rattle.run_draw_front.specs.Drawn.{Job, job, found_by, HasEnded, IsDrawAnswer, IsLeftOfDraw}
 
 -- ---- what is asked
 
@@ -95,3 +95,8 @@ pub record HasReadSignals (input : List ℕ) (met : Met) : Type 0 where
 -- named for the log they begin the text of some log
 abbrev pub IsLeftBySignals : (input : List ℕ) → Job → Met → (name bytes : List ℕ) → Type 0
 IsLeftBySignals input asked met name bytes = HasReadSignals input met × (asked.log ≡ Some name) × BeginsLog bytes
+
+-- what signals may tell a log that had no line: nothing, or lines of the search that there was
+abbrev pub SignalsMayTell : Job → (input : List ℕ) → Met → Lines → Type 0
+SignalsMayTell asked input met lines = (lines ≡ [])
+    ⊎ ((found : HasReadSignals input met) × IsLeftOfDraw (job_for found.places asked) found.graph found.order lines)

@@ -1,5 +1,5 @@
 -- What make and trial answer to a number: the made station's file, and how the search for its drawing ended.
-use Rattle.std.specs.Prelude.{◌≡◌, ℕ, List, [], ◌∷◌, ◌++◌, None, codes, length}
+use Rattle.std.specs.Prelude.{◌≡◌, ◌⊎◌, ℕ, List, [], ◌∷◌, ◌++◌, codes, length}
 use Rattle.std.specs.Fmt.{decimal}
 use Rattle.plan_core.specs.declared.criterion.Criterion.{Criterion}
 use Rattle.plan_core.specs.declared.criterion.Criterion.TheVariants as criteria
@@ -15,7 +15,8 @@ use Rattle.search_least.specs.declared.outcome.Outcome.TheVariants as outcomes
 use Rattle.station_make.specs.StationText.{station_text}
 use Rattle.run_input.specs.declared.status.Status.{Status}
 use Rattle.run_input.specs.declared.status.Status.TheVariants.{Done}
-use Rattle.run_draw_front.specs.Drawn.{Job, job, HasSearched, status_of}
+use Rattle.run_input.specs.Input.{HasStation}
+use Rattle.run_draw_front.specs.Drawn.{Job, search_job, HasSearched, IsLeftOfDraw, status_of}
 
 -- ---- make
 
@@ -36,7 +37,7 @@ trial_order = criteria.Height ∷ criteria.Width ∷ []
 
 -- what is asked of a made station's drawing, with no files
 abbrev pub trial_job : Job
-trial_job = job trial_grid trial_order 50000 None None
+trial_job = search_job trial_grid trial_order 50000
 
 -- the counts of a graph, and the values of its best drawing, as fields of a line
 abbrev pub graph_counts : Graph → List (List ℕ)
@@ -64,3 +65,8 @@ pub record IsTried (n : ℕ) (IsTold : Lines → Type 0) (g : Graph) (o : EdgeOr
   pub searched : HasSearched g o trial_job IsTold outcome
   pub status_is : status ≡ status_of outcome
   pub spelled : text ≡ trial_line n g outcome
+
+-- what a trial may tell a log that had no line: nothing, or lines of a search for the made station
+abbrev pub TrialMayTell : (n : ℕ) → Lines → Type 0
+TrialMayTell n lines =
+    (lines ≡ []) ⊎ ((g : Graph) × (o : EdgeOrder) × HasStation (station_text n) g o × IsLeftOfDraw trial_job g o lines)

@@ -1,8 +1,7 @@
 // What draw answers to a station: the sheet of how its search ended. The lines of the search go to a log, and the
-// picture is written.
+// picture is written. The search itself is `BestSearch`, which signals and trial share.
 ghost use Rattle.std.specs.Prelude.{◌≡◌, ◌≢◌, ◌≤◌, ◌⊎◌, ◌++◌, [], ⊤, false, IfOk, OnOk, IsOkAnd, IsErrOf, None};
 ghost use Rattle.std.specs.Option.{is_some};
-ghost use Rattle.outside_io.specs.Contents.{WhereTold, SameElsewhere};
 ghost use Rattle.outside_io.specs.Counts.{Rose};
 ghost use Rattle.plan_core.specs.declared.limits.TheConstants.{MAX_FILE_BYTES};
 ghost use Rattle.plan_core.specs.Order.{IsOrder};
@@ -10,17 +9,17 @@ ghost use Rattle.track_order.specs.Order.{IsOrderOf};
 ghost use Rattle.plan_text.specs.SheetLine.{MayEnd};
 ghost use Rattle.plan_text.specs.SheetText.{sheet_text};
 ghost use Rattle.plan_text.specs.SheetFaults.{IsSheetText};
-ghost use Rattle.refute_log.specs.FileLog.{BeginsLog, FileBeginsLog};
+ghost use Rattle.refute_log.specs.FileLog.{BeginsLog};
 ghost use Rattle.run_input.specs.Status.{IsAnswered, IsRefused};
 ghost use Rattle.run_input.specs.Answer.{IsFileJudged, IsAnswerToFile, HasReadStation};
 ghost use Rattle.run_input.specs.Input.{IsShort};
-ghost use Rattle.run_input.specs.Met.{between, ReadsInputs, IsUnwritten, LeftSo, HasLeft};
+ghost use Rattle.run_input.specs.Met.{between, ReadsInputs, IsUnwritten, HasLeft};
 ghost use Rattle.refute_log.specs.ToldTo.{told_to};
-ghost use Rattle.run_draw_front.specs.SearchLog.{DerivesIfNew, HoldsLog, IsRunLog};
-ghost use Rattle.run_draw_front.specs.Written.{AreFilesApart, file_named, FailsToWrite};
+ghost use Rattle.run_input.specs.SearchLog.{TellsIfNew, DerivesIfNew, IsRunLog};
+ghost use Rattle.run_input.specs.Written.{AreFilesApart, file_named, FailsToWrite};
 ghost use Rattle.run_draw_front.specs.Drawn.{sheet_with, sheet_of, status_of, HasSearched, IsDrawAnswer};
 ghost use Rattle.run_draw_front.specs.Drawn.{HasBegunPicture};
-ghost use Rattle.run_draw_front.specs.Drawn.{DrawMayLeave, files_asked, IsLeftByDraw};
+ghost use Rattle.run_draw_front.specs.Drawn.{DrawMayLeave, files_asked, IsLeftByDraw, IsLeftOfDraw, DrawMayTell};
 
 use crate::picturing::write_found;
 use cnf_core::ROOM;
@@ -29,8 +28,10 @@ use outside_io::Files;
 use plan_core::{Grid, Order, OutOfMemory, Text};
 use plan_geometry::Drawing;
 use plan_text::{Ending, Sheet, write_sheet, written_is_read};
-use refute_log::{FileLog, LogSink};
-use run_input::{Cut, InputRefusal, Reply, Station, Status, cut_of, fault_reply, station_of};
+use refute_log::LogSink;
+use run_input::{
+    Cut, InputRefusal, Reply, Searching, Station, Status, fault_reply, search_logged, station_of,
+};
 use std::alloc::Global;
 use std::marker::Model;
 
@@ -57,39 +58,55 @@ impl<'a> Model for Asked<'a> {
     ghost view = { λ s. job s.grid.now s.order.now s.budget s.svg.now s.log.now };
 }
 
-/// The outcome of a search for the station's best drawing, whose lines the log takes.
-pub fn search<L: LogSink>(
-    alloc: Global,
-    station: &Station,
-    asked: &Asked,
-    log: &mut L,
-) -> Result<Outcome, Cut>
-    requires order { IsOrderOf station.now.graph station.now.order }
-    ensures searched { IfOk result (HasSearched station.now.graph station.now.order asked.now
-        (told_to L.tells L.learnt log.old
-        log.new)) }
-    ensures derives { DerivesIfNew (L.tells log.old) (L.tells log.new) }
-    ensures later { L.is_later log.old log.new }
-    ensures faults { L.faults log.old ≤ L.faults log.new }
-    ensures cause { IsErrOf result Cut.Unwritten → Rose (L.faults log.old) (L.faults log.new) }
-{
-    let limits = Limits {
-        budget: asked.budget,
-        room: ROOM,
-    };
-    match minimise(
-        alloc,
-        &station.graph,
-        &station.order,
-        asked.grid,
-        asked.order,
-        &limits,
-        log,
-    ) {
-        Ok(outcome) => Ok(outcome),
-        Err(MinFault::Log) => Err(Cut::Unwritten),
-        Err(MinFault::Memory) => Err(Cut::Memory),
+/// The search for a station's best drawing.
+#[derive(Drop)]
+pub(crate) struct BestSearch<'a> {
+    pub(crate) station: &'a Station,
+    /// The columns and rows that the drawing may take, and the least length of its lines.
+    pub(crate) grid: &'a Grid,
+    /// What is to be least, the most important first.
+    pub(crate) order: &'a Order,
+    /// With how many learnt clauses the search gives up.
+    pub(crate) budget: u32,
+}
+
+impl<'a> Searching for BestSearch<'a> {
+    ghost use Rattle.std.proofs.Common.{refl};
+    ghost use Rattle.track_order.specs.Order.{IsOrderOf};
+    ghost use Rattle.refute_log.proofs.LogLemmas.{derives_none};
+    ghost use Rattle.run_draw_front.specs.Drawn.{search_job, HasEnded, IsLeftOfDraw};
+
+    type Found = Outcome;
+
+    ghost ready = { λ s. IsOrderOf s.station.now.graph s.station.now.order };
+
+    ghost ended = { λ s outcome lines. HasEnded s.station.now.graph s.station.now.order
+        (search_job s.grid.now s.order.now s.budget) outcome lines };
+
+    ghost left = { λ s lines. IsLeftOfDraw (search_job s.grid.now s.order.now s.budget) s.station.now.graph
+        s.station.now.order lines };
+
+    fn search<L: LogSink>(&self, alloc: Global, log: &mut L) -> Result<Outcome, Cut> {
+        let limits = Limits {
+            budget: self.budget,
+            room: ROOM,
+        };
+        match minimise(
+            alloc,
+            &self.station.graph,
+            &self.station.order,
+            self.grid,
+            self.order,
+            &limits,
+            log,
+        ) {
+            Ok(outcome) => Ok(outcome),
+            Err(MinFault::Log) => Err(Cut::Unwritten),
+            Err(MinFault::Memory) => Err(Cut::Memory),
+        }
     }
+
+    ghost left_none = { λ s. record { derives = derives_none; cap = λ _. 0; begins = (_, refl) } };
 }
 
 /// The sheet of what was asked, with this drawing and this ending.
@@ -155,43 +172,7 @@ pub(crate) fn sheet_reply(
     Ok(Reply { status, text })
 }
 
-/// The same search with a new log in the file of this name.
-fn search_filed<F: Files>(
-    alloc: Global,
-    station: &Station,
-    asked: &Asked,
-    name: &Text,
-    files: &mut F,
-) -> Result<Outcome, Cut>
-    requires order { IsOrderOf station.now.graph station.now.order }
-    ensures searched { IfOk result (HasSearched station.now.graph station.now.order asked.now
-        (HoldsLog (F.at files.old).contents
-        (F.at files.new).contents name.now)) }
-    ensures others { WhereTold (F.at files.old).contents (F.at files.new).contents (SameElsewhere name.now) }
-    ensures begun { WhereTold (F.at files.old).contents (F.at files.new).contents
-        (λ before after. (after name.now ≡ before
-        name.now) ⊎ FileBeginsLog after name.now) }
-    ensures later { (F.at files.old).write_faults ≤ (F.at files.new).write_faults }
-    ensures cause { IsErrOf result Cut.Unwritten → Rose (F.at files.old).write_faults (F.at files.new).write_faults }
-    ensures read_faults { (F.at files.new).read_faults ≡ (F.at files.old).read_faults }
-    ensures reads { (F.at files.new).reads ≡ (F.at files.old).reads }
-{
-    match FileLog::start(alloc, files, name.as_str()) {
-        Ok(mut log) => match search(alloc, station, asked, &mut log) {
-            Ok(outcome) => match log.finish() {
-                Ok(()) => Ok(outcome),
-                Err(fault) => Err(cut_of(fault)),
-            },
-            Err(cut) => {
-                log.abandon();
-                Err(cut)
-            }
-        },
-        Err((fault, _files)) => Err(cut_of(fault)),
-    }
-}
-
-/// The same search, its lines given to the file that is named for them or else to the trace.
+/// The search for what is asked, its lines given to the file that is named for them or else to the trace.
 pub(crate) fn search_told<F: Files, T: LogSink>(
     alloc: Global,
     station: &Station,
@@ -203,9 +184,10 @@ pub(crate) fn search_told<F: Files, T: LogSink>(
     ensures searched { let met = between (F.at files.old) (F.at files.new) in
         let told = told_to T.tells T.learnt trace.old trace.new in
         IfOk result (HasSearched station.now.graph station.now.order asked.now (IsRunLog asked.now.log met told)) }
-    ensures leaves { WhereTold (F.at files.old).contents (F.at files.new).contents
-        (LeftSo (λ name bytes. (asked.now.log ≡ Some
-        name) × BeginsLog bytes)) }
+    ensures left { TellsIfNew (IsLeftOfDraw asked.now station.now.graph station.now.order) (T.tells trace.old)
+        (T.tells trace.new) }
+    ensures leaves { HasLeft (between (F.at files.old) (F.at files.new))
+        (λ name bytes. (asked.now.log ≡ Some name) × BeginsLog bytes) }
     ensures unwritten { let met = between (F.at files.old) (F.at files.new) in
         asked.now.log ≡ None → IsUnwritten met }
     ensures later { (F.at files.old).write_faults ≤ (F.at files.new).write_faults }
@@ -214,14 +196,16 @@ pub(crate) fn search_told<F: Files, T: LogSink>(
         (T.faults trace.old) (T.faults trace.new)) }
     ensures read_faults { (F.at files.new).read_faults ≡ (F.at files.old).read_faults }
     ensures reads { (F.at files.new).reads ≡ (F.at files.old).reads }
-    ensures derives { DerivesIfNew (T.tells trace.old) (T.tells trace.new) }
     ensures traced { T.is_later trace.old trace.new }
     ensures untold { asked.now.log ≢ None → trace.new ≡ trace.old }
 {
-    match asked.log {
-        Some(name) => search_filed(alloc, station, asked, name, files),
-        None => search(alloc, station, asked, trace),
-    }
+    let search = BestSearch {
+        station,
+        grid: asked.grid,
+        order: asked.order,
+        budget: asked.budget,
+    };
+    search_logged(alloc, &search, asked.log, files, trace)
 }
 
 /// What `draw` answers to a station.
@@ -248,7 +232,8 @@ fn draw_station<F: Files, T: LogSink>(
     ensures cause { let met = between (F.at files.old) (F.at files.new) in
         IsErrOf result Cut.Unwritten → FailsToWrite (file_named asked.now.log ++ file_named asked.now.svg)
         (asked.now.log ≡ None) met (Rose (T.faults trace.old) (T.faults trace.new)) }
-    ensures derives { DerivesIfNew (T.tells trace.old) (T.tells trace.new) }
+    ensures left { TellsIfNew (IsLeftOfDraw asked.now station.now.graph station.now.order) (T.tells trace.old)
+        (T.tells trace.new) }
     ensures traced { T.is_later trace.old trace.new }
     ensures untold { asked.now.log ≢ None → trace.new ≡ trace.old }
 {
@@ -282,6 +267,8 @@ pub fn draw<F: Files, T: LogSink>(
         (asked.now.log ≡ None) met (Rose (T.faults trace.old) (T.faults trace.new)) }
     ensures later { (F.at files.old).read_faults ≤ (F.at files.new).read_faults }
     ensures derives { DerivesIfNew (T.tells trace.old) (T.tells trace.new) }
+    ensures left { let met = between (F.at files.old) (F.at files.new) in
+        TellsIfNew (DrawMayTell asked.now input.now met) (T.tells trace.old) (T.tells trace.new) }
     ensures traced { T.is_later trace.old trace.new }
     ensures untold { let met = between (F.at files.old) (F.at files.new) in
         IsOkAnd result (λ r. IsRefused r.status)

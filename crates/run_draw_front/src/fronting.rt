@@ -8,7 +8,7 @@ ghost use Rattle.refute_log.specs.ToldTo.{told_to};
 ghost use Rattle.run_input.specs.Status.{IsAnswered, IsRefused};
 ghost use Rattle.run_input.specs.Met.{between, ReadsInputs, IsUnwritten};
 ghost use Rattle.run_input.specs.Answer.{IsFileJudged, IsAnswerToFile, HasReadStation};
-ghost use Rattle.run_draw_front.specs.SearchLog.{DerivesIfNew};
+ghost use Rattle.run_input.specs.SearchLog.{DerivesIfNew};
 ghost use Rattle.run_draw_front.specs.Fronted.{IsFrontAnswer, status_of_front, IsLeftOfFront, FrontMayLeave};
 
 use crate::writing::text_of;

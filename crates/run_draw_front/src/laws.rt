@@ -11,7 +11,7 @@ ghost use Rattle.search_least.specs.declared.outcome.Outcome.TheVariants as outc
 ghost use Rattle.search_least.specs.Outcome.{values_found};
 ghost use Rattle.track_order.specs.Order.{EdgeOrder};
 ghost use Rattle.run_input.specs.declared.status.Status.TheVariants.{Unfinished};
-ghost use Rattle.run_draw_front.specs.SearchLog.{IsLogFile};
+ghost use Rattle.run_input.specs.SearchLog.{IsLogFile};
 ghost use Rattle.railml_read.specs.declared.rows.SignalElem.{SignalElem};
 ghost use Rattle.plan_objects.specs.declared.places.SignalPlace.{SignalPlace};
 ghost use Rattle.run_input.specs.Signals.{HasSignalStation};

@@ -1,15 +1,15 @@
 //! What `draw`, `signals` and `front` answer to a station, and `make` and `trial` to a number.
 //!
-//! `drawing` searches for a station's best drawing, gives the lines of the search to a file or to the trace, and
-//! answers with the sheet. Before that, `picturing` writes the picture. `signalling` does the same where each edge is
-//! long enough for its signals, and adds their text (`specs/Signalled`). `trialling` makes a station and tries it.
-//! `specs/Drawn` says what `draw` answers, which sheet an outcome has and what a run may leave. `specs/SearchLog` says
-//! which lines it gave, `specs/Pictured` its picture, `specs/Tried` what a trial answers, `specs/Written` which files
-//! are written. `laws` says how searches end, that signals are apart, and that a log's file has one list of lines.
+//! `drawing` searches for a station's best drawing (`BestSearch`), gives the lines of the search to a file or to the
+//! trace by `search_logged` of `run_input`, and answers with the sheet. Before that, `picturing` writes the picture.
+//! `signalling` does the same where each edge is long enough for its signals, and adds their text (`specs/Signalled`).
+//! `trialling` makes a station and tries it. `specs/Drawn` says what `draw` answers, which sheet an outcome has, and
+//! what a run may leave and tell, `specs/Pictured` its picture, `specs/Tried` what a trial answers. `laws` says how
+//! searches end, that signals are apart, and that a log's file has one list of lines.
 //!
 //! `fronting` searches for the pairs of values of two criteria in which none has less of one without more of the other.
 //! It answers with their text (`writing`). `specs/Fronted` says what is answered, `specs/FrontText` with which text.
-//! `front` writes no file. `run_explain_redraw` and `schematic_main` use this crate.
+//! `front` writes no file. `schematic_main` uses this crate.
 #![tactic(auto)]
 
 mod drawing;

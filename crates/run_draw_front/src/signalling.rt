@@ -17,13 +17,13 @@ ghost use Rattle.run_input.specs.Status.{IsAnswered, IsRefused};
 ghost use Rattle.run_input.specs.Answer.{IsAnswerToFile};
 ghost use Rattle.run_input.specs.Input.{IsShort};
 ghost use Rattle.run_input.specs.Met.{between, ReadsInputs, IsUnwritten, HasLeft};
-ghost use Rattle.run_draw_front.specs.SearchLog.{DerivesIfNew};
-ghost use Rattle.run_draw_front.specs.Written.{file_named, FailsToWrite};
+ghost use Rattle.run_input.specs.SearchLog.{TellsIfNew, DerivesIfNew};
+ghost use Rattle.run_input.specs.Written.{file_named, FailsToWrite};
 ghost use Rattle.run_draw_front.specs.Drawn.{sheet_of, found_by as drawing_of, status_of as outcome_status};
-ghost use Rattle.run_draw_front.specs.Drawn.{HasSearched};
+ghost use Rattle.run_draw_front.specs.Drawn.{HasSearched, IsLeftOfDraw};
 ghost use Rattle.run_draw_front.specs.Signalled.{job_for, signals_behind as text_behind, IsSignalled};
 ghost use Rattle.run_draw_front.specs.Signalled.{IsSignalFileJudged};
-ghost use Rattle.run_draw_front.specs.Signalled.{HasReadSignals, IsLeftBySignals};
+ghost use Rattle.run_draw_front.specs.Signalled.{HasReadSignals, IsLeftBySignals, SignalsMayTell};
 
 use crate::drawing::{Asked, search_told, sheet_reply};
 use crate::picturing::found_by;
@@ -113,7 +113,8 @@ fn signal_station<F: Files, T: LogSink>(
     ensures cause { let met = between (F.at files.old) (F.at files.new) in
         IsErrOf result Cut.Unwritten → FailsToWrite (file_named asked.now.log) (asked.now.log ≡ None) met (Rose
         (T.faults trace.old) (T.faults trace.new)) }
-    ensures derives { DerivesIfNew (T.tells trace.old) (T.tells trace.new) }
+    ensures left { let s = found.now.station in
+        TellsIfNew (IsLeftOfDraw asked.now s.graph s.order) (T.tells trace.old) (T.tells trace.new) }
     ensures traced { T.is_later trace.old trace.new }
     ensures untold { asked.now.log ≢ None → trace.new ≡ trace.old }
 {
@@ -148,6 +149,8 @@ pub fn signals<F: Files, T: LogSink>(
         IsErrOf result Cut.Unwritten → FailsToWrite (file_named asked.now.log) (asked.now.log ≡ None) met rose }
     ensures later { (F.at files.old).read_faults ≤ (F.at files.new).read_faults }
     ensures derives { DerivesIfNew (T.tells trace.old) (T.tells trace.new) }
+    ensures left { let met = between (F.at files.old) (F.at files.new) in
+        TellsIfNew (SignalsMayTell asked.now input.now met) (T.tells trace.old) (T.tells trace.new) }
     ensures traced { T.is_later trace.old trace.new }
     ensures untold { let met = between (F.at files.old) (F.at files.new) in
         IsOkAnd result (λ r. IsRefused r.status)

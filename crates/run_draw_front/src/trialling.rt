@@ -10,19 +10,19 @@ ghost use Rattle.station_make.specs.StationText.{station_text};
 ghost use Rattle.run_input.specs.Status.{IsRefused};
 ghost use Rattle.run_input.specs.Input.{HasSomeStation};
 ghost use Rattle.run_input.specs.Answer.{IsFileJudged};
-ghost use Rattle.run_draw_front.specs.SearchLog.{DerivesIfNew};
-ghost use Rattle.run_draw_front.specs.Drawn.{HasSearched};
+ghost use Rattle.run_input.specs.SearchLog.{TellsIfNew, DerivesIfNew};
+ghost use Rattle.run_draw_front.specs.Drawn.{HasSearched, IsLeftOfDraw};
 ghost use Rattle.run_draw_front.specs.Tried.{IsMade, IsTried, trial_job, graph_counts, best_measures, trial_end};
-ghost use Rattle.run_draw_front.specs.Tried.{trial_line};
+ghost use Rattle.run_draw_front.specs.Tried.{trial_line, TrialMayTell};
 
-use crate::drawing::{Asked, search, status_of};
+use crate::drawing::{BestSearch, status_of};
 use lex_minimise::Outcome;
 use outside_io::{push_field, push_number_field, push_text};
 use plan_core::{Criterion, Grid, Order, OutOfMemory};
 use plan_geometry::{Drawing, values};
 use port_graph::PortGraph;
 use refute_log::LogSink;
-use run_input::{Cut, InputRefusal, Reply, Station, Status, fault_reply, station_in};
+use run_input::{Cut, InputRefusal, Reply, Searching, Station, Status, fault_reply, station_in};
 use station_make::make;
 use std::alloc::Global;
 
@@ -68,22 +68,22 @@ fn trial_order() -> Order
 fn search_trial<L: LogSink>(alloc: Global, station: &Station, log: &mut L) -> Result<Outcome, Cut>
     requires order { IsOrderOf station.now.graph station.now.order }
     ensures searched { IfOk result (HasSearched station.now.graph station.now.order trial_job
-        (told_to L.tells L.learnt log.old
-        log.new)) }
-    ensures derives { DerivesIfNew (L.tells log.old) (L.tells log.new) }
+        (told_to L.tells L.learnt log.old log.new)) }
+    ensures left { TellsIfNew (IsLeftOfDraw trial_job station.now.graph station.now.order) (L.tells log.old)
+        (L.tells log.new) }
     ensures later { L.is_later log.old log.new }
     ensures faults { L.faults log.old ≤ L.faults log.new }
     ensures cause { IsErrOf result Cut.Unwritten → Rose (L.faults log.old) (L.faults log.new) }
 {
-    let (grid, order, no_file) = (trial_grid(), trial_order(), None);
-    let asked = Asked {
+    let grid = trial_grid();
+    let order = trial_order();
+    let search = BestSearch {
+        station,
         grid: &grid,
         order: &order,
         budget: TRIAL_BUDGET,
-        svg: &no_file,
-        log: &no_file,
     };
-    search(alloc, station, &asked, log)
+    search.search(alloc, log)
 }
 
 /// Appends the counts of a graph.
@@ -154,7 +154,8 @@ fn try_station<L: LogSink>(
     ensures answer { IfOk result (λ r. IsTried n (told_to L.tells L.learnt log.old log.new) station.now.graph
         station.now.order
         r.status r.text.items) }
-    ensures derives { DerivesIfNew (L.tells log.old) (L.tells log.new) }
+    ensures left { TellsIfNew (IsLeftOfDraw trial_job station.now.graph station.now.order) (L.tells log.old)
+        (L.tells log.new) }
     ensures later { L.is_later log.old log.new }
     ensures faults { L.faults log.old ≤ L.faults log.new }
     ensures cause { IsErrOf result Cut.Unwritten → Rose (L.faults log.old) (L.faults log.new) }
@@ -172,6 +173,7 @@ pub fn trial<L: LogSink>(alloc: Global, n: u32, log: &mut L) -> Result<Reply, Cu
         (station_text n)
         r.status r.text.items) }
     ensures derives { DerivesIfNew (L.tells log.old) (L.tells log.new) }
+    ensures left { TellsIfNew (TrialMayTell n) (L.tells log.old) (L.tells log.new) }
     ensures later { L.is_later log.old log.new }
     ensures cause { IsErrOf result Cut.Unwritten → Rose (L.faults log.old) (L.faults log.new) }
     ensures untold { IsOkAnd result (λ r. IsRefused r.status) ⊎ (HasSomeStation (station_text n) → ⊥) → log.new

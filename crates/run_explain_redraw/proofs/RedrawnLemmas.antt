@@ -1,5 +1,5 @@
 -- What redraw answers once the three files were read, and what it leaves.
-use Rattle.std.proofs.Common.{◌≡◌, ◌≢◌, ◌⊎◌, ℕ, List, [], ◌∷◌, length, None, Some, refl, sym, ◌∙◌, ap, subst, inl, inr}
+use Rattle.std.proofs.Common.{◌≡◌, ◌≢◌, ◌⊎◌, ℕ, List, [], ◌∷◌, map, append-nil, None, Some, refl, sym, ◌∙◌, ap, subst, inl, inr}
 use Rattle.std.specs.Prelude.{Result, Ok, Err, IfOk, IfSome}
 use Rattle.std.specs.declared.option.Option.{Option}
 use Rattle.outside_io.specs.Contents.{FilesAt, WhereTold, SameFiles}
@@ -7,7 +7,8 @@ use Rattle.plan_core.specs.Graph.{Graph}
 use Rattle.plan_core.specs.Lawful.{HasSizeOf}
 use Rattle.track_order.specs.Order.{EdgeOrder}
 use Rattle.refute_log.specs.Told.{Lines}
-use Rattle.refute_log.specs.Log.{Derives}
+use Rattle.refute_log.specs.declared.line.LogLine.TheVariants.{Formula}
+use Rattle.refute_log.specs.Log.{clause_lines}
 use Rattle.refute_log.specs.FileLog.{BeginsLog}
 use Rattle.refute_log.proofs.LogLemmas.{derives_none}
 use Rattle.drawing_cnf.specs.Layout.{Layout}
@@ -15,29 +16,29 @@ use Rattle.drawing_cnf.specs.Moved.{Former}
 use Rattle.search_least.specs.declared.fewest.Fewest.{Fewest}
 use Rattle.search_least.specs.declared.fewest.Fewest.TheVariants.{Best, NoDrawing, Spent, Room}
 use Rattle.search_least.specs.Fewest.{IsRightFewest}
-use Rattle.search_moved.specs.Told.{IsMovedEnd}
+use Rattle.search_moved.specs.Known.{formula_of}
+use Rattle.search_moved.specs.Told.{IsMovedEnd, IsMovedLeft}
 use Rattle.run_input.specs.declared.status.Status.{Status}
 use Rattle.run_input.specs.declared.status.Status.TheVariants as statuses
 use Rattle.run_input.specs.Met.{Met, between, HasRead, IsUnwritten, LeftSo}
-use Rattle.run_draw_front.specs.SearchLog.{IsRunLog}
-use Rattle.run_draw_front.specs.Written.{file_named}
-use Rattle.run_draw_front.proofs.FiledLemmas.{log_later}
-use Rattle.run_draw_front.proofs.LeavesLemmas.{NamedMay, leaves_weaker, leaves_later}
+use Rattle.run_input.specs.SearchLog.{HasToldEnd, TellsIfNew, IsRunLog}
+use Rattle.run_input.proofs.DerivesLemmas.{tells_weaker}
+use Rattle.run_input.specs.Written.{file_named}
+use Rattle.run_input.proofs.FiledLemmas.{log_later}
+use Rattle.run_input.proofs.LeavesLemmas.{NamedMay, leaves_weaker, leaves_later}
 use Rattle.run_explain_redraw.specs.MovedText.{fewest_found, moved_text}
-use Rattle.run_explain_redraw.specs.Redrawn.{RedrawJob, moved_in, status_of_moved, HasSearchedMoved, IsRedrawn}
+use Rattle.run_explain_redraw.specs.Redrawn.{RedrawJob, moved_in, status_of_moved, HasEndedMoved, IsLeftOfRedraw, HasSearchedMoved, IsRedrawn}
 use Rattle.run_explain_redraw.specs.Judged.{AreJudged, HaveFault}
-use Rattle.run_explain_redraw.specs.Answer.{IsAnswerToThree, IsRedrawAnswer, HaveFormerIn, HasReadFormer, IsLeftByRedraw}
+use Rattle.run_explain_redraw.specs.Answer.{IsAnswerToThree, IsRedrawAnswer, HaveFormerIn, HasReadFormer, IsLeftByRedraw, RedrawMayTell}
 use Rattle.run_explain_redraw.proofs.JudgedLemmas.{three_weaker, judged_weaker, read_three}
 
 -- ---- the search
 
--- lines told to a log of this name, where the words name it, are told where the words say
-pub moved_named : {E : Type 0} (g : Graph) (o : EdgeOrder) (asked : RedrawJob) (former : Former) (met : Met) (traced : Lines → Type 0) (named : Option (List ℕ))
-    (r : Result Fewest E) → asked.log ≡ named →
-    IfOk r (HasSearchedMoved g o asked former (IsRunLog named met traced)) → IfOk r (HasSearchedMoved g o asked former (IsRunLog asked.log met traced))
-moved_named g o asked former met traced named (Ok outcome) is searched = subst (λ (log : Option (List ℕ)). HasSearchedMoved g o asked former
-    (IsRunLog log met traced) outcome) (sym is) searched
-moved_named g o asked former met traced named (Err e) is searched = tt
+-- what a search told that came to its end
+pub searched_moved : {E : Type 0} (g : Graph) (o : EdgeOrder) (asked : RedrawJob) (former : Former) (IsTold : Lines → Type 0) (r : Result Fewest E) →
+    IfOk r (λ outcome. HasToldEnd (HasEndedMoved g o asked former outcome) IsTold) → IfOk r (HasSearchedMoved g o asked former IsTold)
+searched_moved g o asked former IsTold (Ok outcome) s = record { right = s.ended.0; lines = s.lines; told = s.told; ended = s.ended.1 }
+searched_moved g o asked former IsTold (Err e) s = tt
 
 -- the drawing that was found has a point for each node and a line for each edge
 pub fewest_size : (g : Graph) (o : EdgeOrder) (asked : RedrawJob) (former : Former) (outcome : Fewest) → IsRightFewest (moved_in g o asked former) outcome →
@@ -137,8 +138,18 @@ redraw_untold None input former sheet old new Refused before after found answere
 redraw_untold (Some file) input former sheet old new Refused before after found answered same (inr none) = same
     (λ e. let no : Some file ≡ None = e in absurd (cc))
 
--- ---- its lines derive
+-- ---- what it tells
 
-pub moved_derives : (y : Layout) (former : Former) (budget room : ℕ) (o : Fewest) (lines : Lines) → IsMovedEnd y former budget room o lines → Derives lines
-moved_derives y former budget room o lines (inl log) = log.derives
-moved_derives y former budget room o lines (inr none) = subst Derives (sym none.1) derives_none
+-- the lines of a search that came to its end begin what is expected
+pub moved_left : (y : Layout) (former : Former) (budget room : ℕ) (o : Fewest) (lines : Lines) → IsMovedEnd y former budget room o lines →
+    IsMovedLeft y former lines
+moved_left y former budget room o lines (inl log) = record { derives = log.derives; begins = ([], sym log.told ∙ sym (append-nil (clause_lines lines))) }
+moved_left y former budget room o lines (inr none) =
+    subst (IsMovedLeft y former) (sym none.1) (record { derives = derives_none; begins = (map Formula (formula_of y former), refl) })
+
+-- lines of the search for what was read are such of redraw
+pub redraw_tells : (input former sheet : List ℕ) (asked : RedrawJob) (met : Met) (found : HasReadFormer input former sheet met) (old new : Lines → Type 0) →
+    TellsIfNew (IsLeftOfRedraw asked found.graph found.order found.points) old new → TellsIfNew (RedrawMayTell input former sheet asked met) old new
+redraw_tells input former sheet asked met found old new =
+    tells_weaker (IsLeftOfRedraw asked found.graph found.order found.points) (RedrawMayTell input former sheet asked met) old new
+    (λ lines left. inr (found, left))

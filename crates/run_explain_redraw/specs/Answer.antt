@@ -1,5 +1,5 @@
--- What redraw answers to the files of three names, and what it leaves.
-use Rattle.std.specs.Prelude.{◌≡◌, ℕ, List, Some}
+-- What redraw answers to the files of three names, what it leaves and what it tells.
+use Rattle.std.specs.Prelude.{◌≡◌, ◌⊎◌, ℕ, List, [], Some}
 use Rattle.std.specs.declared.option.Option.{Option}
 use Rattle.outside_io.specs.Contents.{Told}
 use Rattle.plan_core.specs.Graph.{Graph}
@@ -11,8 +11,8 @@ use Rattle.run_input.specs.declared.status.Status.{Status}
 use Rattle.run_input.specs.Met.{Met, HasRead}
 use Rattle.run_input.specs.Reading.{IsInput}
 use Rattle.run_input.specs.Answer.{text_input, IsAnswerAfter, IsAnswerOn}
-use Rattle.run_draw_front.specs.SearchLog.{IsRunLog}
-use Rattle.run_explain_redraw.specs.Redrawn.{RedrawJob, IsRedrawn}
+use Rattle.run_input.specs.SearchLog.{IsRunLog}
+use Rattle.run_explain_redraw.specs.Redrawn.{RedrawJob, IsRedrawn, IsLeftOfRedraw}
 use Rattle.run_explain_redraw.specs.Judged.{AreJudged, HaveFormer}
 
 -- the three files are read, as they stand then, before what they say is judged, and their bytes are answered so
@@ -57,3 +57,8 @@ pub record HasReadFormer (input former sheet : List ℕ) (met : Met) : Type 0 wh
 abbrev pub IsLeftByRedraw : (input former sheet : List ℕ) → RedrawJob → Met → (name bytes : List ℕ) → Type 0
 IsLeftByRedraw input former sheet asked met name bytes =
     HasReadFormer input former sheet met × (asked.log ≡ Some name) × BeginsLog bytes
+
+-- what redraw may tell a log that had no line: nothing, or lines of the search that there was
+abbrev pub RedrawMayTell : (input former sheet : List ℕ) → RedrawJob → Met → Lines → Type 0
+RedrawMayTell input former sheet asked met lines = (lines ≡ [])
+    ⊎ ((found : HasReadFormer input former sheet met) × IsLeftOfRedraw asked found.graph found.order found.points lines)

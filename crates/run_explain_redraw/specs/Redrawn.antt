@@ -14,7 +14,7 @@ use Rattle.search_least.specs.declared.fewest.Fewest.TheVariants.{Best, NoDrawin
 use Rattle.search_least.specs.CountTask.{CountTask}
 use Rattle.search_least.specs.Fewest.{IsRightFewest}
 use Rattle.search_moved.specs.Known.{moved_task}
-use Rattle.search_moved.specs.Told.{IsMovedEnd}
+use Rattle.search_moved.specs.Told.{IsMovedEnd, IsMovedLeft}
 use Rattle.run_input.specs.declared.status.Status.{Status}
 use Rattle.run_input.specs.declared.status.Status.TheVariants as statuses
 use Rattle.run_explain_redraw.specs.MovedText.{moved_text}
@@ -41,6 +41,16 @@ status_of_moved (Best d) = statuses.Done
 status_of_moved NoDrawing = statuses.NoDrawing
 status_of_moved (Spent found) = statuses.Unfinished
 status_of_moved (Room found) = statuses.Unfinished
+
+-- a search has this outcome, which says of the drawings what it is to say, and these are its lines
+abbrev pub HasEndedMoved : Graph → EdgeOrder → RedrawJob → Former → Fewest → Lines → Type 0
+HasEndedMoved g o asked former outcome lines = IsRightFewest (moved_in g o asked former) outcome
+    × IsMovedEnd (layout g o asked.grid) former asked.budget ROOM outcome lines
+
+-- lines of such a search, whether it ended or was cut short: they derive, and the clauses that they give are the first
+-- of those that are expected
+abbrev pub IsLeftOfRedraw : RedrawJob → Graph → EdgeOrder → Former → Lines → Type 0
+IsLeftOfRedraw asked g o former lines = IsMovedLeft (layout g o asked.grid) former lines
 
 -- a search with this outcome was done and told these lines: they certify of the drawings what the outcome says
 pub record HasSearchedMoved (g : Graph) (o : EdgeOrder) (asked : RedrawJob) (former : Former) (IsTold : Lines → Type 0)

@@ -9,7 +9,7 @@ ghost use Rattle.law_core.specs.Why.{IsRightWhy};
 ghost use Rattle.run_input.specs.Status.{IsAnswered, IsRefused};
 ghost use Rattle.run_input.specs.Met.{between, ReadsInputs, IsUnwritten};
 ghost use Rattle.run_input.specs.Answer.{IsFileJudged, IsAnswerToFile, HasReadStation};
-ghost use Rattle.run_draw_front.specs.SearchLog.{DerivesIfNew};
+ghost use Rattle.run_input.specs.SearchLog.{DerivesIfNew};
 ghost use Rattle.run_explain_redraw.specs.WhyText.{why_text};
 ghost use Rattle.run_explain_redraw.specs.Explained.{IsExplainAnswer, explain_task, status_of_why};
 

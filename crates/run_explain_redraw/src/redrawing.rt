@@ -1,17 +1,16 @@
 // What redraw answers: a search for a drawing with the fewest moved nodes, with its lines told.
 ghost use Rattle.std.specs.Prelude.{◌≡◌, ◌≢◌, ◌≤◌, ◌⊎◌, [], length, None, Some, IfOk, IsOkAnd, IsErrOf};
-ghost use Rattle.outside_io.specs.Contents.{WhereTold, SameElsewhere};
 ghost use Rattle.outside_io.specs.Counts.{Rose};
 ghost use Rattle.track_order.specs.Order.{IsOrderOf};
 ghost use Rattle.refute_log.specs.ToldTo.{told_to};
-ghost use Rattle.refute_log.specs.FileLog.{BeginsLog, FileBeginsLog};
+ghost use Rattle.refute_log.specs.FileLog.{BeginsLog};
 ghost use Rattle.run_input.specs.Status.{IsAnswered, IsRefused};
-ghost use Rattle.run_input.specs.Met.{between, ReadsInputs, IsUnwritten, LeftSo, HasLeft};
-ghost use Rattle.run_draw_front.specs.SearchLog.{DerivesIfNew, HoldsLog, IsRunLog};
-ghost use Rattle.run_draw_front.specs.Written.{file_named, FailsToWrite};
+ghost use Rattle.run_input.specs.Met.{between, ReadsInputs, IsUnwritten, HasLeft};
+ghost use Rattle.run_input.specs.SearchLog.{TellsIfNew, DerivesIfNew, IsRunLog};
+ghost use Rattle.run_input.specs.Written.{file_named, FailsToWrite};
 ghost use Rattle.run_explain_redraw.specs.Redrawn.{status_of_moved};
-ghost use Rattle.run_explain_redraw.specs.Known.{HasSearchedKnown, IsRedrawnKnown};
-ghost use Rattle.run_explain_redraw.specs.Answer.{IsRedrawAnswer, HasReadFormer, IsLeftByRedraw};
+ghost use Rattle.run_explain_redraw.specs.Known.{HasSearchedKnown, IsLeftOfKnown, IsRedrawnKnown};
+ghost use Rattle.run_explain_redraw.specs.Answer.{IsRedrawAnswer, HasReadFormer, IsLeftByRedraw, RedrawMayTell};
 
 use crate::judging::{Known, Rejected, known_of};
 use crate::redraw_writing::text_of;
@@ -19,8 +18,8 @@ use cnf_core::ROOM;
 use lex_minimise::{Limits, MinFault};
 use outside_io::Files;
 use plan_core::{Grid, Text};
-use refute_log::{FileLog, LogSink};
-use run_input::{Cut, Reply, Status, cut_of};
+use refute_log::LogSink;
+use run_input::{Cut, Reply, Searching, Status, search_logged};
 use search_moved::{Fewest, fewest_moved};
 use std::alloc::Global;
 use std::marker::Model;
@@ -44,77 +43,57 @@ impl<'a> Model for RedrawAsked<'a> {
     ghost view = { λ a. redraw_job a.grid.now a.budget a.log.now };
 }
 
-/// The outcome of a search for the drawing with the fewest moved nodes, whose lines the log takes.
-fn search<L: LogSink>(
-    alloc: Global,
-    known: &Known,
-    asked: &RedrawAsked,
-    log: &mut L,
-) -> Result<Fewest, Cut>
-    requires order { IsOrderOf known.now.station.graph known.now.station.order }
-    requires same { length known.now.former.items ≡ length known.now.station.graph.nodes }
-    ensures searched { IfOk result
-        (HasSearchedKnown known.now asked.now (told_to L.tells L.learnt log.old log.new)) }
-    ensures derives { DerivesIfNew (L.tells log.old) (L.tells log.new) }
-    ensures later { L.is_later log.old log.new }
-    ensures faults { L.faults log.old ≤ L.faults log.new }
-    ensures cause { IsErrOf result Cut.Unwritten → Rose (L.faults log.old) (L.faults log.new) }
-{
-    let limits = Limits {
-        budget: asked.budget,
-        room: ROOM,
-    };
-    match fewest_moved(
-        alloc,
-        &known.station.graph,
-        &known.station.order,
-        asked.grid,
-        &known.former,
-        &limits,
-        log,
-    ) {
-        Ok(outcome) => Ok(outcome),
-        Err(MinFault::Log) => Err(Cut::Unwritten),
-        Err(MinFault::Memory) => Err(Cut::Memory),
-    }
+/// The search for the drawing with the fewest moved nodes.
+#[derive(Drop)]
+struct MovedSearch<'a> {
+    known: &'a Known,
+    /// The columns and rows that the drawing may take, and the least length of its lines.
+    grid: &'a Grid,
+    /// With how many learnt clauses the search gives up.
+    budget: u32,
 }
 
-/// The same search with a new log in the file of this name.
-fn search_filed<F: Files>(
-    alloc: Global,
-    known: &Known,
-    asked: &RedrawAsked,
-    name: &Text,
-    files: &mut F,
-) -> Result<Fewest, Cut>
-    requires order { IsOrderOf known.now.station.graph known.now.station.order }
-    requires same { length known.now.former.items ≡ length known.now.station.graph.nodes }
-    ensures searched { IfOk result (HasSearchedKnown known.now asked.now
-        (HoldsLog (F.at files.old).contents (F.at files.new).contents name.now)) }
-    ensures others { WhereTold (F.at files.old).contents (F.at files.new).contents (SameElsewhere name.now) }
-    ensures begun { WhereTold (F.at files.old).contents (F.at files.new).contents
-        (λ before after. (after name.now ≡ before name.now) ⊎ FileBeginsLog after name.now) }
-    ensures later { (F.at files.old).write_faults ≤ (F.at files.new).write_faults }
-    ensures cause { IsErrOf result Cut.Unwritten → Rose (F.at files.old).write_faults (F.at files.new).write_faults }
-    ensures read_faults { (F.at files.new).read_faults ≡ (F.at files.old).read_faults }
-    ensures reads { (F.at files.new).reads ≡ (F.at files.old).reads }
-{
-    match FileLog::start(alloc, files, name.as_str()) {
-        Ok(mut log) => match search(alloc, known, asked, &mut log) {
-            Ok(outcome) => match log.finish() {
-                Ok(()) => Ok(outcome),
-                Err(fault) => Err(cut_of(fault)),
-            },
-            Err(cut) => {
-                log.abandon();
-                Err(cut)
-            }
-        },
-        Err((fault, _files)) => Err(cut_of(fault)),
+impl<'a> Searching for MovedSearch<'a> {
+    ghost use Rattle.std.specs.Prelude.{◌≡◌, length, None};
+    ghost use Rattle.std.proofs.Common.{refl};
+    ghost use Rattle.track_order.specs.Order.{IsOrderOf};
+    ghost use Rattle.refute_log.proofs.LogLemmas.{derives_none};
+    ghost use Rattle.run_explain_redraw.specs.Redrawn.{redraw_job};
+    ghost use Rattle.run_explain_redraw.specs.Known.{HasEndedKnown, IsLeftOfKnown};
+
+    type Found = Fewest;
+
+    ghost ready = { λ s. IsOrderOf s.known.now.station.graph s.known.now.station.order
+        × (length s.known.now.former.items ≡ length s.known.now.station.graph.nodes) };
+
+    ghost ended = { λ s outcome lines. HasEndedKnown s.known.now (redraw_job s.grid.now s.budget None) outcome lines };
+
+    ghost left = { λ s lines. IsLeftOfKnown s.known.now (redraw_job s.grid.now s.budget None) lines };
+
+    fn search<L: LogSink>(&self, alloc: Global, log: &mut L) -> Result<Fewest, Cut> {
+        let limits = Limits {
+            budget: self.budget,
+            room: ROOM,
+        };
+        match fewest_moved(
+            alloc,
+            &self.known.station.graph,
+            &self.known.station.order,
+            self.grid,
+            &self.known.former,
+            &limits,
+            log,
+        ) {
+            Ok(outcome) => Ok(outcome),
+            Err(MinFault::Log) => Err(Cut::Unwritten),
+            Err(MinFault::Memory) => Err(Cut::Memory),
+        }
     }
+
+    ghost left_none = { λ s. record { derives = derives_none; begins = (_, refl) } };
 }
 
-/// The same search, its lines given to the file that is named for them or else to the trace.
+/// The search for what is asked, its lines given to the file that is named for them or else to the trace.
 fn search_told<F: Files, T: LogSink>(
     alloc: Global,
     known: &Known,
@@ -127,6 +106,7 @@ fn search_told<F: Files, T: LogSink>(
     ensures searched { let met = between (F.at files.old) (F.at files.new) in
         let told = told_to T.tells T.learnt trace.old trace.new in
         IfOk result (HasSearchedKnown known.now asked.now (IsRunLog asked.now.log met told)) }
+    ensures left { TellsIfNew (IsLeftOfKnown known.now asked.now) (T.tells trace.old) (T.tells trace.new) }
     ensures leaves { HasLeft (between (F.at files.old) (F.at files.new))
         (λ name bytes. (asked.now.log ≡ Some name) × BeginsLog bytes) }
     ensures unwritten { asked.now.log ≡ None → IsUnwritten (between (F.at files.old) (F.at files.new)) }
@@ -135,14 +115,15 @@ fn search_told<F: Files, T: LogSink>(
         (Rose (T.faults trace.old) (T.faults trace.new)) }
     ensures read_faults { (F.at files.new).read_faults ≡ (F.at files.old).read_faults }
     ensures reads { (F.at files.new).reads ≡ (F.at files.old).reads }
-    ensures derives { DerivesIfNew (T.tells trace.old) (T.tells trace.new) }
     ensures traced { T.is_later trace.old trace.new }
     ensures untold { asked.now.log ≢ None → trace.new ≡ trace.old }
 {
-    match asked.log {
-        Some(name) => search_filed(alloc, known, asked, name, files),
-        None => search(alloc, known, asked, trace),
-    }
+    let search = MovedSearch {
+        known,
+        grid: asked.grid,
+        budget: asked.budget,
+    };
+    search_logged(alloc, &search, asked.log, files, trace)
 }
 
 /// How the run ends after an outcome.
@@ -178,7 +159,7 @@ fn redraw_known<F: Files, T: LogSink>(
         (Rose (T.faults trace.old) (T.faults trace.new)) }
     ensures read_faults { (F.at files.new).read_faults ≡ (F.at files.old).read_faults }
     ensures reads { (F.at files.new).reads ≡ (F.at files.old).reads }
-    ensures derives { DerivesIfNew (T.tells trace.old) (T.tells trace.new) }
+    ensures left { TellsIfNew (IsLeftOfKnown known.now asked.now) (T.tells trace.old) (T.tells trace.new) }
     ensures traced { T.is_later trace.old trace.new }
     ensures untold { asked.now.log ≢ None → trace.new ≡ trace.old }
 {
@@ -222,6 +203,9 @@ pub fn redraw<F: Files, T: LogSink>(
         (Rose (T.faults trace.old) (T.faults trace.new)) }
     ensures later { (F.at files.old).read_faults ≤ (F.at files.new).read_faults }
     ensures derives { DerivesIfNew (T.tells trace.old) (T.tells trace.new) }
+    ensures left { let met = between (F.at files.old) (F.at files.new) in
+        TellsIfNew (RedrawMayTell input.now former.now sheet.now asked.now met) (T.tells trace.old)
+        (T.tells trace.new) }
     ensures traced { T.is_later trace.old trace.new }
     ensures untold { let met = between (F.at files.old) (F.at files.new) in
         IsOkAnd result (λ r. IsRefused r.status)

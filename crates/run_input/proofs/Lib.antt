@@ -4,3 +4,6 @@ pub mod FormedRows
 pub mod InputLemmas
 pub mod AnswerLemmas
 pub mod SignalLemmas
+pub mod DerivesLemmas
+pub mod LeavesLemmas
+pub mod FiledLemmas

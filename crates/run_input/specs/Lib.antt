@@ -1,5 +1,7 @@
 pub mod Status
 pub mod Met
+pub mod SearchLog
+pub mod Written
 pub mod Fault
 pub mod Input
 pub mod Answer

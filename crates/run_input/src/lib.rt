@@ -9,7 +9,11 @@
 //! bytes of a file are to a run, `specs/Met` what a run meets outside and how it leaves files. `specs/Answer` says what
 //! is answered to an input, to a file and to a sheet. `specs/Reading` and `specs/Reply` say what the calls of those
 //! modules give. `law` writes a law and its parties as fields of a line (`specs/Law`). `laws` says that a file has one
-//! station or one fault. This crate uses those that read a station. Each command's crate uses it.
+//! station or one fault.
+//!
+//! `searching` is the frame of each search of a command (`Searching`): `search_logged` gives its lines to the file that
+//! is named for them, or else to the trace. `specs/SearchLog` says which lines a run gave, `specs/Written` which files
+//! are written. This crate uses those that read a station. Each command's crate uses it.
 #![tactic(auto)]
 
 mod fault;
@@ -19,6 +23,7 @@ mod laws;
 mod printing;
 mod reading;
 mod reply;
+mod searching;
 mod signals;
 mod status;
 
@@ -29,5 +34,6 @@ pub use laws::{one_fault, one_graph, one_status_to_a_number, signals_or_fault, s
 pub use printing::print;
 pub use reading::{bytes_of, signals_of, station_of};
 pub use reply::{Cut, Reply, cut_of, fault_reply};
+pub use searching::{Searching, search_logged};
 pub use signals::{SignalStation, signals_in};
 pub use status::Status;

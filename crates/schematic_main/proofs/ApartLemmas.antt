@@ -5,8 +5,8 @@ use Rattle.plan_words.specs.declared.command.Command.TheVariants.{Draw, Verify, 
 use Rattle.plan_words.specs.declared.command.Command.TheVariants.{Recheck}
 use Rattle.plan_words.specs.Words.{IsCommandOf}
 use Rattle.plan_words.proofs.AnswerLemmas.{outputs_apart}
-use Rattle.run_draw_front.specs.Written.{AreFilesApart}
-use Rattle.run_draw_front.proofs.LeavesLemmas.{two_apart}
+use Rattle.run_input.specs.Written.{AreFilesApart}
+use Rattle.run_input.proofs.LeavesLemmas.{two_apart}
 use Rattle.schematic_main.specs.Commands.{outputs_of, HasApartPair}
 
 pub asked_apart : (words : List (List ℕ)) (command : Command) → IsCommandOf words command → AreFilesApart (outputs_of command)

@@ -25,7 +25,7 @@ use Rattle.run_check.specs.CheckLine.{claimed, verdict_line}
 use Rattle.run_check.specs.Checked.{IsClaimJudged, IsChecked, PassesCheck}
 use Rattle.run_check.specs.CertifiedSheet.{ClaimsTruly, HasCertifiedFiles}
 use Rattle.schematic_main.specs.Commands.{Owes}
-use Rattle.run_draw_front.specs.SearchLog.{HoldsLog, IsRunLog}
+use Rattle.run_input.specs.SearchLog.{HoldsLog, IsRunLog}
 use Rattle.run_draw_front.specs.Drawn.{Job, job, sheet_of, IsDrawn, IsDrawAnswer}
 use Rattle.schematic_main.specs.Run.{FailsIn, IsCheckOfDrawn}
 use Rattle.run_input.proofs.InputLemmas.{file_fault_status}

@@ -55,7 +55,7 @@ use Rattle.run_draw_front.specs.Fronted.{FrontJob, front_job, status_of_front, I
 use Rattle.drawing_cnf.specs.Moved.{Former}
 use Rattle.search_least.specs.declared.fewest.Fewest.{Fewest}
 use Rattle.search_least.specs.declared.fewest.Fewest.TheVariants as fewest
-use Rattle.run_draw_front.specs.SearchLog.{IsRunLog}
+use Rattle.run_input.specs.SearchLog.{IsRunLog}
 use Rattle.run_explain_redraw.specs.Redrawn.{RedrawJob, redraw_job, status_of_moved, IsRedrawn}
 use Rattle.run_explain_redraw.specs.Judged.{IsFormerJudged, AreJudged}
 use Rattle.run_draw_front.specs.Tried.{IsTried}

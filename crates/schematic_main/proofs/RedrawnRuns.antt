@@ -14,7 +14,7 @@ use Rattle.search_least.specs.Fewest.{IsRightFewest}
 use Rattle.run_input.specs.declared.status.Status.{Status}
 use Rattle.run_input.specs.Met.{Met}
 use Rattle.run_input.specs.Answer.{text_input, IsAnswerAfter, IsAnswerOn}
-use Rattle.run_draw_front.specs.SearchLog.{IsRunLog}
+use Rattle.run_input.specs.SearchLog.{IsRunLog}
 use Rattle.run_explain_redraw.specs.Redrawn.{RedrawJob, redraw_job, moved_in, status_of_moved}
 use Rattle.run_explain_redraw.specs.Judged.{IsFormerJudged, AreJudged, HaveFormer}
 use Rattle.run_explain_redraw.specs.Answer.{HaveFormerIn}

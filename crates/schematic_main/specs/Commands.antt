@@ -30,7 +30,7 @@ use Rattle.run_input.specs.Met.{Met}
 use Rattle.run_input.specs.Answer.{InputFile, text_input, log_input, IsPrinted, IsFileJudged, IsAnswerAfter}
 use Rattle.run_input.specs.Answer.{IsAnswerOn, IsAnswerToFile, HasReadStation}
 use Rattle.run_check.specs.Verdict.{IsVerified}
-use Rattle.run_draw_front.specs.Written.{file_named}
+use Rattle.run_input.specs.Written.{file_named}
 use Rattle.run_draw_front.specs.Drawn.{job, IsDrawAnswer, IsLeftByDraw}
 use Rattle.run_draw_front.specs.Signalled.{IsSignalFileJudged, HasReadSignals, IsLeftBySignals}
 use Rattle.run_draw_front.specs.Tried.{IsMade, IsTried}

@@ -17,7 +17,7 @@ use Rattle.run_input.specs.Status.{IsRefused}
 use Rattle.run_input.specs.Fault.{IsFaultLine}
 use Rattle.run_input.specs.Input.{IsShort}
 use Rattle.run_input.specs.Met.{Met, ReadFails}
-use Rattle.run_draw_front.specs.Written.{FailsToWrite}
+use Rattle.run_input.specs.Written.{FailsToWrite}
 use Rattle.schematic_main.specs.Commands.{inputs_of, outputs_of, TellsTrace, MayWrite, MayTell, MayLeave, Owes}
 use Rattle.schematic_main.specs.Commands.{AnswersAlone, AreSound, ends_of}
 

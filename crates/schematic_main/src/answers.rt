@@ -6,8 +6,8 @@ ghost use Rattle.run_input.specs.Met.{between, ReadsInputs, IsUnread, IsUnwritte
 ghost use Rattle.refute_log.specs.ToldTo.{told_to};
 ghost use Rattle.schematic_main.specs.Commands.{HasApartPair, inputs_of, outputs_of, AnswersAlone, MayWrite, MayTell};
 ghost use Rattle.schematic_main.specs.Commands.{MayLeave, Owes};
-ghost use Rattle.run_draw_front.specs.SearchLog.{DerivesIfNew};
-ghost use Rattle.run_draw_front.specs.Written.{AreFilesApart};
+ghost use Rattle.run_input.specs.SearchLog.{DerivesIfNew};
+ghost use Rattle.run_input.specs.Written.{AreFilesApart};
 ghost use Rattle.schematic_main.specs.Run.{CommandFailsToWrite};
 
 use outside_io::Files;

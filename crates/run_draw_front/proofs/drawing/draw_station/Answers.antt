@@ -5,10 +5,10 @@ use Rattle.refute_log.specs.ToldTo.{told_to}
 use Rattle.refute_log.specs.FileLog.{BeginsLog}
 use Rattle.run_input.specs.Met.{between, LeftSo}
 use Rattle.run_draw_front.specs.Pictured.{BeginsPicture, IsPictured}
-use Rattle.run_draw_front.specs.SearchLog.{IsRunLog}
+use Rattle.run_input.specs.SearchLog.{IsRunLog}
 use Rattle.run_draw_front.specs.Drawn.{Job, found_by, HasBegunPicture, DrawMayLeave}
 use Rattle.run_draw_front.proofs.DrawnLemmas.{found_draws}
-use Rattle.run_draw_front.proofs.LeavesLemmas.{leaves_weaker, NamedMay}
+use Rattle.run_input.proofs.LeavesLemmas.{leaves_weaker, NamedMay}
 use Rattle.run_draw_front.proofs.PictureLemmas.{leaves_pictured, drawn_answer}
 use Rattle.run_draw_front.proofs.drawing.draw_station.Goals as goal
 

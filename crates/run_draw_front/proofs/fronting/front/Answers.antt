@@ -10,7 +10,7 @@ use Rattle.run_input.proofs.AnswerLemmas.{untold_here}
 use Rattle.std.proofs.Common.{inr}
 use Rattle.refute_log.proofs.StepLemmas.{on_err_weaker}
 use Rattle.run_draw_front.proofs.FrontedLemmas.{left_unbegun}
-use Rattle.run_draw_front.proofs.DerivesLemmas.{new_unchanged}
+use Rattle.run_input.proofs.DerivesLemmas.{new_unchanged}
 use Rattle.run_draw_front.proofs.fronting.front.Goals as goal
 
 pub returns-in-Ok-clause-reads : goal.returns-in-Ok-clause-reads

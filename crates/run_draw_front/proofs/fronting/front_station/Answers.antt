@@ -1,7 +1,7 @@
 use Rattle.outside_io.proofs.Results.{on_err_anyway}
 use Rattle.refute_log.specs.ToldTo.{told_to}
 use Rattle.run_draw_front.proofs.FrontedLemmas.{fronted, left_of_parts, told_front_left}
-use Rattle.run_draw_front.proofs.DerivesLemmas.{new_told}
+use Rattle.run_input.proofs.DerivesLemmas.{new_told}
 use Rattle.run_draw_front.proofs.fronting.front_station.Goals as goal
 
 pub returns-in_ok-text_of-in-Ok-clause-answer : goal.returns-in_ok-text_of-in-Ok-clause-answer

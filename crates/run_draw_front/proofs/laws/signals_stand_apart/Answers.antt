@@ -1,14 +1,7 @@
-use Rattle.std.proofs.Common.{ℕ, ◌<◌, List, None, Some, length, refl}
-use Rattle.std.specs.Prelude.{IfSome}
-use Rattle.std.specs.declared.option.Option.{Option}
-use Rattle.plan_core.specs.Drawing.{Drawing}
-use Rattle.plan_objects.specs.declared.places.SignalPlace.{SignalPlace}
+use Rattle.std.proofs.Common.{refl}
 use Rattle.plan_objects.specs.Rows.{station}
-use Rattle.plan_objects.specs.Spread.{HasRoomFor}
-use Rattle.plan_objects.specs.SignalsText.{line_under}
 use Rattle.plan_objects.proofs.ExactLemmas.{edges_there}
-use Rattle.plan_objects.proofs.SpreadLemmas.{spread_at}
-use Rattle.run_draw_front.specs.Signalled.{job_for, StandApart}
+use Rattle.run_draw_front.specs.Signalled.{job_for}
 use Rattle.run_draw_front.specs.Drawn.{found_by}
 use Rattle.run_draw_front.proofs.SignalledLemmas.{least_is_need, found_has_room, apart}
 use Rattle.run_draw_front.proofs.laws.signals_stand_apart.Goals as goal

@@ -1,19 +1,20 @@
-use Rattle.std.proofs.Common.{List, ℕ, sym, ◌∙◌, ap, subst}
+use Rattle.std.proofs.Common.{List, ℕ, refl, sym, ◌∙◌, ap, subst, inl}
 use Rattle.std.specs.Prelude.{IsOkAnd}
 use Rattle.std.specs.declared.option.Option.{Option}
 use Rattle.std.proofs.lemmas.Result.{IfOk-weaker}
 use Rattle.outside_io.specs.Contents.{WhereTold}
 use Rattle.refute_log.specs.FileLog.{BeginsLog}
 use Rattle.refute_log.specs.ToldTo.{told_to}
+use Rattle.refute_log.specs.Log.{Derives}
 use Rattle.run_input.specs.Status.{IsRefused}
 use Rattle.run_input.specs.Met.{between, LeftSo}
 use Rattle.run_input.proofs.MetLemmas.{reads_one}
-use Rattle.run_draw_front.specs.Drawn.{Job, job}
-use Rattle.run_draw_front.specs.Signalled.{HasReadSignals}
-use Rattle.run_draw_front.proofs.LeavesLemmas.{NamedMay}
+use Rattle.run_draw_front.specs.Drawn.{Job, job, IsLeftOfDraw}
+use Rattle.run_draw_front.specs.Signalled.{HasReadSignals, SignalsMayTell}
+use Rattle.run_input.proofs.LeavesLemmas.{NamedMay}
 use Rattle.run_draw_front.proofs.SignalledLemmas.{as_many_places, longer_is, signalled_for, signalled_on, signals_refused_on, signals_leave, signals_unwritten}
-use Rattle.run_draw_front.proofs.SignalledLemmas.{signals_untold}
-use Rattle.run_draw_front.proofs.DerivesLemmas.{new_unchanged}
+use Rattle.run_draw_front.proofs.SignalledLemmas.{signals_untold, signals_tell}
+use Rattle.run_input.proofs.DerivesLemmas.{new_unchanged, tells_unchanged, tells_weaker}
 use Rattle.run_draw_front.proofs.signalling.signals.Goals as goal
 
 pub signal_station-requires-clause-same : goal.signal_station-requires-clause-same
@@ -115,3 +116,48 @@ returns-in_ok-fault_reply-in-Err-Fault-clause-derives g c = new_unchanged (g.T.L
 
 pub returns-in-Err-Memory-clause-derives : goal.returns-in-Err-Memory-clause-derives
 returns-in-Err-Memory-clause-derives g c = new_unchanged (g.T.LogSink.tells c.args.trace.now) (g.met.T.LogSink.one_reading c.args.trace.now)
+
+pub returns-in-Ok-clause-derives : goal.returns-in-Ok-clause-derives
+returns-in-Ok-clause-derives g c =
+    let inside = job c.asked.inside.grid.now c.asked.inside.order.now c.asked.inside.budget c.asked.inside.svg.now c.asked.inside.log.now in
+    let longer = job c.grid_for-grid.result inside.order inside.budget inside.svg inside.log in
+    let station = c.in-Ok.found.station in
+    tells_weaker (IsLeftOfDraw longer station.graph station.order) Derives (g.T.LogSink.tells c.args.trace.now)
+    (g.T.LogSink.tells c.signal_station.new.trace) (λ lines left. left.derives) c.signal_station.ensures.left
+
+pub returns-in-Ok-clause-left : goal.returns-in-Ok-clause-left
+returns-in-Ok-clause-left g c =
+    let at = g.F.Files.at in
+    let asked = c.args.asked.now in
+    let inside = job c.asked.inside.grid.now c.asked.inside.order.now c.asked.inside.budget c.asked.inside.svg.now c.asked.inside.log.now in
+    let longer = job c.grid_for-grid.result inside.order inside.budget inside.svg inside.log in
+    let found = c.in-Ok.found in
+    let has : HasReadSignals c.args.input.now (between (at c.args.files.now) (at c.signal_station.new.files)) = record {
+      graph = found.station.graph;
+      order = found.station.order;
+      signals = found.signals;
+      places = found.placed;
+      read = c.signal_station.ensures.reads ∙ c.in-Ok.ensures.reads;
+      has = c.in-Ok.ensures.station;
+    } in
+    signals_tell asked longer c.args.input.now (between (at c.args.files.now) (at c.signal_station.new.files)) has (g.T.LogSink.tells c.args.trace.now)
+    (g.T.LogSink.tells c.signal_station.new.trace) (longer_is found.placed inside asked c.grid_for-grid.result c.asked.view_is c.grid_for-grid.ensures)
+    c.signal_station.ensures.left
+
+pub returns-in_err-fault_reply-in-Err-Fault-clause-left : goal.returns-in_err-fault_reply-in-Err-Fault-clause-left
+returns-in_err-fault_reply-in-Err-Fault-clause-left g c =
+    let met = between (g.F.Files.at c.args.files.now) (g.F.Files.at c.signals_of.new.files) in
+    tells_unchanged (SignalsMayTell c.args.asked.now c.args.input.now met) (g.T.LogSink.tells c.args.trace.now)
+    (g.met.T.LogSink.one_reading c.args.trace.now) (inl refl)
+
+pub returns-in_ok-fault_reply-in-Err-Fault-clause-left : goal.returns-in_ok-fault_reply-in-Err-Fault-clause-left
+returns-in_ok-fault_reply-in-Err-Fault-clause-left g c =
+    let met = between (g.F.Files.at c.args.files.now) (g.F.Files.at c.signals_of.new.files) in
+    tells_unchanged (SignalsMayTell c.args.asked.now c.args.input.now met) (g.T.LogSink.tells c.args.trace.now)
+    (g.met.T.LogSink.one_reading c.args.trace.now) (inl refl)
+
+pub returns-in-Err-Memory-clause-left : goal.returns-in-Err-Memory-clause-left
+returns-in-Err-Memory-clause-left g c =
+    let met = between (g.F.Files.at c.args.files.now) (g.F.Files.at c.signals_of.new.files) in
+    tells_unchanged (SignalsMayTell c.args.asked.now c.args.input.now met) (g.T.LogSink.tells c.args.trace.now)
+    (g.met.T.LogSink.one_reading c.args.trace.now) (inl refl)

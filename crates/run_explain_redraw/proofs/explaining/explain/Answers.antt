@@ -7,7 +7,7 @@ use Rattle.run_input.proofs.AnswerLemmas.{refused_on}
 use Rattle.run_input.proofs.MetLemmas.{reads_one}
 use Rattle.run_explain_redraw.specs.Explained.{IsExplainAnswer}
 use Rattle.run_input.proofs.AnswerLemmas.{untold_here}
-use Rattle.run_draw_front.proofs.DerivesLemmas.{new_unchanged}
+use Rattle.run_input.proofs.DerivesLemmas.{new_unchanged}
 use Rattle.run_explain_redraw.proofs.explaining.explain.Goals as goal
 
 pub returns-in-Ok-clause-reads : goal.returns-in-Ok-clause-reads

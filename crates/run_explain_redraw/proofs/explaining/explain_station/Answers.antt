@@ -3,7 +3,7 @@ use Rattle.refute_log.specs.ToldTo.{told_to}
 use Rattle.law_core.specs.Why.{IsRightWhy}
 use Rattle.run_explain_redraw.specs.Explained.{ExplainJob, explain_task}
 use Rattle.run_explain_redraw.proofs.ExplainedLemmas.{explained}
-use Rattle.run_draw_front.proofs.DerivesLemmas.{new_told}
+use Rattle.run_input.proofs.DerivesLemmas.{new_told}
 use Rattle.run_explain_redraw.proofs.explaining.explain_station.Goals as goal
 
 pub reply_of-requires : goal.reply_of-requires

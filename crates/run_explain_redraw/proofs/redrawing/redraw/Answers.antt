@@ -1,16 +1,18 @@
-use Rattle.std.proofs.Common.{refl, ◌∙◌, arith}
+use Rattle.std.proofs.Common.{refl, ◌∙◌, arith, inl}
 use Rattle.std.specs.Prelude.{IsOkAnd}
 use Rattle.std.specs.declared.option.Option.{Option}
 use Rattle.std.proofs.lemmas.Result.{IfOk-weaker}
 use Rattle.outside_io.specs.Contents.{WhereTold}
 use Rattle.refute_log.specs.FileLog.{BeginsLog}
 use Rattle.refute_log.specs.ToldTo.{told_to}
+use Rattle.refute_log.specs.Log.{Derives}
 use Rattle.run_input.specs.Status.{IsRefused}
 use Rattle.run_input.specs.Met.{between, LeftSo}
-use Rattle.run_draw_front.proofs.LeavesLemmas.{NamedMay}
-use Rattle.run_explain_redraw.specs.Answer.{HasReadFormer}
-use Rattle.run_explain_redraw.proofs.RedrawnLemmas.{redrawn_on, rejected_on, redraw_leaves, redraw_unwritten, redraw_untold}
-use Rattle.run_draw_front.proofs.DerivesLemmas.{new_unchanged}
+use Rattle.run_input.proofs.LeavesLemmas.{NamedMay}
+use Rattle.run_explain_redraw.specs.Answer.{HasReadFormer, RedrawMayTell}
+use Rattle.run_explain_redraw.specs.Redrawn.{IsLeftOfRedraw}
+use Rattle.run_explain_redraw.proofs.RedrawnLemmas.{redrawn_on, rejected_on, redraw_leaves, redraw_unwritten, redraw_untold, redraw_tells}
+use Rattle.run_input.proofs.DerivesLemmas.{new_unchanged, tells_unchanged, tells_weaker}
 use Rattle.run_explain_redraw.proofs.redrawing.redraw.Goals as goal
 
 pub redraw_known-requires : goal.redraw_known-requires
@@ -98,3 +100,37 @@ returns-in-Err-With-clause-derives g c = new_unchanged (g.T.LogSink.tells c.args
 
 pub returns-in-Err-Memory-clause-derives : goal.returns-in-Err-Memory-clause-derives
 returns-in-Err-Memory-clause-derives g c = new_unchanged (g.T.LogSink.tells c.args.trace.now) (g.met.T.LogSink.one_reading c.args.trace.now)
+
+pub returns-in-Ok-clause-derives : goal.returns-in-Ok-clause-derives
+returns-in-Ok-clause-derives g c =
+    let known = c.in-Ok.known in
+    tells_weaker (IsLeftOfRedraw c.args.asked.now known.station.graph known.station.order known.former.items) Derives
+    (g.T.LogSink.tells c.args.trace.now) (g.T.LogSink.tells c.redraw_known.new.trace) (λ lines left. left.derives) c.redraw_known.ensures.left
+
+pub returns-in-Ok-clause-left : goal.returns-in-Ok-clause-left
+returns-in-Ok-clause-left g c =
+    let at = g.F.Files.at in
+    let old = at c.args.files.now in
+    let new = at c.redraw_known.new.files in
+    let known = c.in-Ok.known in
+    let has : HasReadFormer c.args.input.now c.args.former.now c.args.sheet.now (between old new) = record {
+      read = c.redraw_known.ensures.reads ∙ c.in-Ok.ensures.reads;
+      graph = known.station.graph;
+      order = known.station.order;
+      points = known.former.items;
+      have = c.in-Ok.ensures.have;
+    } in
+    redraw_tells c.args.input.now c.args.former.now c.args.sheet.now c.args.asked.now (between old new) has (g.T.LogSink.tells c.args.trace.now)
+    (g.T.LogSink.tells c.redraw_known.new.trace) c.redraw_known.ensures.left
+
+pub returns-in-Err-With-clause-left : goal.returns-in-Err-With-clause-left
+returns-in-Err-With-clause-left g c =
+    let met = between (g.F.Files.at c.args.files.now) (g.F.Files.at c.known_of.new.files) in
+    tells_unchanged (RedrawMayTell c.args.input.now c.args.former.now c.args.sheet.now c.args.asked.now met) (g.T.LogSink.tells c.args.trace.now)
+    (g.met.T.LogSink.one_reading c.args.trace.now) (inl refl)
+
+pub returns-in-Err-Memory-clause-left : goal.returns-in-Err-Memory-clause-left
+returns-in-Err-Memory-clause-left g c =
+    let met = between (g.F.Files.at c.args.files.now) (g.F.Files.at c.known_of.new.files) in
+    tells_unchanged (RedrawMayTell c.args.input.now c.args.former.now c.args.sheet.now c.args.asked.now met) (g.T.LogSink.tells c.args.trace.now)
+    (g.met.T.LogSink.one_reading c.args.trace.now) (inl refl)

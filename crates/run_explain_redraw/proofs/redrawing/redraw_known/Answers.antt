@@ -1,6 +1,6 @@
 use Rattle.refute_log.specs.ToldTo.{told_to}
 use Rattle.run_input.specs.Met.{between}
-use Rattle.run_draw_front.specs.SearchLog.{IsRunLog}
+use Rattle.run_input.specs.SearchLog.{IsRunLog}
 use Rattle.run_explain_redraw.specs.Redrawn.{redraw_job}
 use Rattle.run_explain_redraw.proofs.RedrawnLemmas.{fewest_size, redrawn}
 use Rattle.run_explain_redraw.proofs.redrawing.redraw_known.Goals as goal

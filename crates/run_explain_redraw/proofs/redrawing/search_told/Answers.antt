@@ -1,34 +1,53 @@
-use Rattle.std.proofs.Common.{None, Some, sym, ◌∙◌, ap}
+use Rattle.std.proofs.Common.{◌≡◌, ◌≢◌, None, Some, subst}
+use Rattle.std.specs.Prelude.{IfOk, IsErrOf}
+use Rattle.outside_io.specs.Counts.{Rose}
 use Rattle.refute_log.specs.ToldTo.{told_to}
 use Rattle.refute_log.specs.FileLog.{BeginsLog}
-use Rattle.run_input.specs.Met.{between}
-use Rattle.run_draw_front.proofs.LeavesLemmas.{leaves_named}
-use Rattle.run_explain_redraw.specs.Redrawn.{RedrawJob}
-use Rattle.run_explain_redraw.proofs.RedrawnLemmas.{moved_named}
-use Rattle.run_draw_front.proofs.DerivesLemmas.{new_unchanged}
+use Rattle.run_input.specs.declared.reply.Cut.TheVariants as cuts
+use Rattle.run_input.specs.Met.{between, IsUnwritten, HasLeft}
+use Rattle.run_input.specs.SearchLog.{TellsIfNew, IsRunLog}
+use Rattle.run_input.specs.Written.{file_named, FailsToWrite}
+use Rattle.run_explain_redraw.specs.Redrawn.{RedrawJob, redraw_job}
+use Rattle.run_explain_redraw.specs.Known.{HasSearchedKnown, IsLeftOfKnown}
+use Rattle.run_explain_redraw.proofs.RedrawnLemmas.{searched_moved}
 use Rattle.run_explain_redraw.proofs.redrawing.search_told.Goals as goal
 
-pub returns-in-Some-clause-searched : goal.returns-in-Some-clause-searched
-returns-in-Some-clause-searched g c =
-    let met = between (g.F.Files.at c.args.files.now) (g.F.Files.at c.search_filed.new.files) in
-    let traced = told_to {Self = g.row.T.Denot} g.T.LogSink.tells g.T.LogSink.learnt c.args.trace.now c.args.trace.now in
+pub returns-clause-searched : goal.returns-clause-searched
+returns-clause-searched g c =
+    let met = between (g.F.Files.at c.args.files.now) (g.F.Files.at c.search_logged.new.files) in
+    let traced = told_to {Self = g.row.T.Denot} g.T.LogSink.tells g.T.LogSink.learnt c.args.trace.now c.search_logged.new.trace in
     let known = c.args.known.now in
-    moved_named known.station.graph known.station.order c.args.asked.now known.former.items met traced (Some c.in-Some.name) c.search_filed.result
-    (sym (ap (λ (j : RedrawJob). j.log) c.asked.view_is) ∙ c.in-Some.is) c.search_filed.ensures.searched
+    let inside = redraw_job c.asked.inside.grid.now c.asked.inside.budget c.asked.inside.log.now in
+    subst (λ (asked : RedrawJob). IfOk c.search_logged.result (HasSearchedKnown known asked (IsRunLog asked.log met traced))) c.asked.view_is
+    (searched_moved known.station.graph known.station.order inside known.former.items (IsRunLog inside.log met traced) c.search_logged.result
+    c.search_logged.ensures.searched)
 
-pub returns-in-Some-clause-leaves : goal.returns-in-Some-clause-leaves
-returns-in-Some-clause-leaves g c =
-    leaves_named BeginsLog (g.F.Files.at c.args.files.now).contents (g.F.Files.at c.search_filed.new.files).contents c.args.asked.now.log c.in-Some.name
-    (sym (ap (λ (j : RedrawJob). j.log) c.asked.view_is) ∙ c.in-Some.is)
-    c.search_filed.ensures.others c.search_filed.ensures.begun
+pub returns-clause-left : goal.returns-clause-left
+returns-clause-left g c =
+    let tells = g.T.LogSink.tells in
+    subst (λ (asked : RedrawJob). TellsIfNew (IsLeftOfKnown c.args.known.now asked) (tells c.args.trace.now) (tells c.search_logged.new.trace)) c.asked.view_is
+    c.search_logged.ensures.left
 
-pub returns-in-None-clause-searched : goal.returns-in-None-clause-searched
-returns-in-None-clause-searched g c =
-    let met = between (g.F.Files.at c.args.files.now) (g.F.Files.at c.args.files.now) in
-    let traced = told_to {Self = g.row.T.Denot} g.T.LogSink.tells g.T.LogSink.learnt c.args.trace.now c.search.new.log in
-    let known = c.args.known.now in
-    moved_named known.station.graph known.station.order c.args.asked.now known.former.items met traced None c.search.result
-    (sym (ap (λ (j : RedrawJob). j.log) c.asked.view_is) ∙ c.in-None.is) c.search.ensures.searched
+pub returns-clause-leaves : goal.returns-clause-leaves
+returns-clause-leaves g c =
+    let met = between (g.F.Files.at c.args.files.now) (g.F.Files.at c.search_logged.new.files) in
+    subst (λ (asked : RedrawJob). HasLeft met (λ name bytes. (asked.log ≡ Some name) × BeginsLog bytes)) c.asked.view_is
+    c.search_logged.ensures.leaves
 
-pub returns-in-Some-clause-derives : goal.returns-in-Some-clause-derives
-returns-in-Some-clause-derives g c = new_unchanged (g.T.LogSink.tells c.args.trace.now) (g.met.T.LogSink.one_reading c.args.trace.now)
+pub returns-clause-unwritten : goal.returns-clause-unwritten
+returns-clause-unwritten g c =
+    let met = between (g.F.Files.at c.args.files.now) (g.F.Files.at c.search_logged.new.files) in
+    subst (λ (asked : RedrawJob). asked.log ≡ None → IsUnwritten met) c.asked.view_is
+    c.search_logged.ensures.unwritten
+
+pub returns-clause-cause : goal.returns-clause-cause
+returns-clause-cause g c =
+    let met = between (g.F.Files.at c.args.files.now) (g.F.Files.at c.search_logged.new.files) in
+    let rose = Rose (g.T.LogSink.faults c.args.trace.now) (g.T.LogSink.faults c.search_logged.new.trace) in
+    subst (λ (asked : RedrawJob). IsErrOf c.search_logged.result cuts.Unwritten → FailsToWrite (file_named asked.log) (asked.log ≡ None) met rose)
+    c.asked.view_is c.search_logged.ensures.cause
+
+pub returns-clause-untold : goal.returns-clause-untold
+returns-clause-untold g c =
+    subst (λ (asked : RedrawJob). asked.log ≢ None → c.search_logged.new.trace ≡ c.args.trace.now) c.asked.view_is
+    c.search_logged.ensures.untold

@@ -10,9 +10,9 @@ use Rattle.run_input.specs.Met.{between, IsUnwritten, LeftSo}
 use Rattle.schematic_main.specs.Commands.{AnswersAlone, MayWrite, MayTell, MayLeave, Owes}
 use Rattle.schematic_main.specs.Run.{CommandFailsToWrite}
 use Rattle.run_input.proofs.AnswerLemmas.{leaves_same}
-use Rattle.run_draw_front.proofs.LeavesLemmas.{left_alone}
+use Rattle.run_input.proofs.LeavesLemmas.{left_alone}
 use Rattle.schematic_main.proofs.AloneLemmas.{trimmed_alone}
-use Rattle.run_draw_front.proofs.DerivesLemmas.{new_unchanged}
+use Rattle.run_input.proofs.DerivesLemmas.{new_unchanged}
 use Rattle.schematic_main.proofs.answers.answer_to.Goals as goal
 
 pub returns-in-Draw-clause-answer : goal.returns-in-Draw-clause-answer

@@ -7,7 +7,7 @@ use Rattle.run_input.specs.Status.{IsCutShort}
 use Rattle.run_input.specs.Met.{between}
 use Rattle.schematic_main.proofs.AloneLemmas.{cut_not_alone, cut_is_short}
 use Rattle.schematic_main.proofs.DueLemmas.{due_is_whole, due_unread, due_ends}
-use Rattle.run_draw_front.proofs.LeavesLemmas.{leaves_weaker}
+use Rattle.run_input.proofs.LeavesLemmas.{leaves_weaker}
 use Rattle.run_input.proofs.MetLemmas.{reads_less}
 use Rattle.run_input.proofs.StatusLemmas.{cut_ends}
 use Rattle.schematic_main.proofs.running.carry_out.Goals as goal

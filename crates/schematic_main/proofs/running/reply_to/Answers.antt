@@ -7,10 +7,10 @@ use Rattle.plan_words.proofs.AnswerLemmas.{command_same}
 use Rattle.run_input.specs.Status.{IsAnswered}
 use Rattle.run_input.specs.Met.{between, ReadsInputs}
 use Rattle.schematic_main.specs.Commands.{inputs_of}
-use Rattle.run_draw_front.proofs.LeavesLemmas.{leaves_weaker}
+use Rattle.run_input.proofs.LeavesLemmas.{leaves_weaker}
 use Rattle.schematic_main.proofs.AloneLemmas.{reply_alone}
 use Rattle.schematic_main.proofs.ApartLemmas.{asked_apart, pair_apart}
-use Rattle.run_draw_front.proofs.DerivesLemmas.{new_unchanged}
+use Rattle.run_input.proofs.DerivesLemmas.{new_unchanged}
 use Rattle.schematic_main.proofs.running.reply_to.Goals as goal
 
 pub answer_to-requires : goal.answer_to-requires

@@ -4,7 +4,7 @@ use Rattle.std.specs.declared.option.Option.{Option}
 use Rattle.outside_io.specs.Contents.{Told, WhereTold, SameFiles, SameElsewhere}
 use Rattle.railml_read.proofs.Ends.{same_or_not}
 use Rattle.run_input.specs.Met.{LeftSo}
-use Rattle.run_draw_front.specs.Written.{file_named, AreFilesApart}
+use Rattle.run_input.specs.Written.{file_named, AreFilesApart}
 
 -- what holds of two steps in turn, where contents are told
 pub told_then : (P Q R : Told → Told → Type 0) (old mid new : Option Told) → ((a b c : Told) → P a b → Q b c → R a c) → WhereTold old mid P →

@@ -3,9 +3,9 @@ use Rattle.outside_io.specs.Contents.{WhereTold, SameElsewhere, Sets, MaySet}
 use Rattle.outside_io.specs.Counts.{Rose}
 use Rattle.refute_log.specs.Lines.{header}
 use Rattle.refute_log.specs.FileLog.{FileBeginsLog}
-use Rattle.run_draw_front.specs.SearchLog.{HoldsLog}
-use Rattle.run_draw_front.proofs.FiledLemmas.{at_end, filed_cause, filed_holds, filed_others, filed_begun, left_begun, others_unstarted, begun_unstarted}
-use Rattle.run_draw_front.proofs.drawing.search_filed.Goals as goal
+use Rattle.run_input.specs.SearchLog.{HoldsLog}
+use Rattle.run_input.proofs.FiledLemmas.{at_end, filed_cause, filed_holds, filed_others, filed_begun, left_begun, others_unstarted, begun_unstarted}
+use Rattle.run_input.proofs.searching.search_filed.Goals as goal
 
 pub returns-in-Ok-finish-clause-searched : goal.returns-in-Ok-finish-clause-searched
 returns-in-Ok-finish-clause-searched g c =
