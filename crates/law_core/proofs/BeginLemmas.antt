@@ -1,9 +1,10 @@
 -- The beginning of a search for an explanation, and the whole of its lines.
 use Rattle.std.proofs.Common.{◌≡◌, ◌≤◌, ◌<◌, ℕ, zero, suc, ◌+◌, ◌-◌, false, List, [], ◌∷◌, ◌++◌, length, map, refl, sym, ◌∙◌, ap, subst, inl, inr, arith}
 use Rattle.std.proofs.Common.{append-nil}
-use Rattle.std.specs.Prelude.{flat_map, slice_index_or}
+use Rattle.std.specs.Prelude.{⊤, All, flat_map, take, slice_index_or}
+use Rattle.std.proofs.lemmas.Option.{slice_get_within, get_or_from_slice_get}
 use Rattle.std.proofs.lemmas.List.{length-map}
-use Rattle.std.proofs.lemmas.List.Elements.{All-weaker}
+use Rattle.std.proofs.lemmas.List.Elements.{All-cons, All-contains, All-weaker}
 use Rattle.plan_core.proofs.ListFacts.{all_mapped}
 use Rattle.plan_core.specs.Drawing.{Drawing}
 use Rattle.plan_core.specs.Lawful.{Instance, NodeOnGrid, Lawful}
@@ -11,13 +12,15 @@ use Rattle.cnf_core.specs.declared.limits.TheConstants.{VARS}
 use Rattle.cnf_core.specs.Clause.{Clauses, words_of}
 use Rattle.cnf_core.specs.Formula.{Cnf}
 use Rattle.lawful_check.specs.Breaks.{break_of}
-use Rattle.refute_log.specs.declared.line.LogLine.TheVariants.{Formula}
+use Rattle.refute_log.specs.declared.line.LogLine.{LogLine}
+use Rattle.refute_log.specs.declared.line.LogLine.TheVariants.{Formula, Model}
 use Rattle.refute_log.specs.Told.{Lines}
 use Rattle.refute_log.specs.ToldTo.{IsToldTo}
 use Rattle.refute_log.specs.Log.{learnt, clause_lines}
 use Rattle.refute_log.specs.Steps.{ToldBehind, GoesOn, Leaves}
 use Rattle.refute_log.proofs.LogLemmas.{derives_none}
 use Rattle.refute_log.specs.declared.stop.Stop.TheVariants.{BudgetSpent, RoomFull}
+use Rattle.refute_log.specs.Cause.{IsCause}
 use Rattle.drawing_cnf.specs.Expected.{laws_first}
 use Rattle.drawing_cnf.specs.Layout.{Layout}
 use Rattle.cdcl_core.specs.Kept.{Kept, AreGiven, blank, with_more_vars}
@@ -31,7 +34,8 @@ use Rattle.lex_minimise.proofs.StartLemmas.{told_whole}
 use Rattle.search_why.specs.declared.outcome.Outcome.{Outcome}
 use Rattle.search_why.specs.declared.outcome.Outcome.TheVariants.{Exists, Laws, Stopped}
 use Rattle.search_why.specs.Explained.{IsChoice, IsChoiceOf, AreWithout}
-use Rattle.search_why.specs.Task.{law_at, HasAllLaws}
+use Rattle.search_why.specs.Task.{Task, law_at, MeetsAt, HasAllLaws}
+use Rattle.search_why.specs.Asked.{NoneMeetsAll, IsNoModel}
 use Rattle.track_order.specs.Order.{is_above, is_overlap, IsOrderOf}
 use Rattle.drawing_cnf.proofs.MainLemmas.{order_tables}
 use Rattle.search_why.specs.Outcome.{laws_at, IsRightOutcome, TellsOutcome}
@@ -42,7 +46,7 @@ use Rattle.law_core.specs.Law.{instance_of}
 use Rattle.law_core.specs.Choices.{choices_size, selectors}
 use Rattle.law_core.specs.Known.{laws_of, formula_of, task_of, HasFormula, AreSelecting, IsReady, KnowsWhy}
 use Rattle.law_core.proofs.FormulaLemmas.{all_laws}
-use Rattle.law_core.specs.Query.{IsLawPlaced}
+use Rattle.law_core.specs.Query.{IsLawPlaced, IsNoneFound, FindsNone}
 use Rattle.search_least.proofs.BehindLemmas.{behind_none, behind_mapped}
 use Rattle.law_core.specs.Why.{IsRightWhy, IsWhyCause, IsWhyLog, IsWhyLeft, FormulaPasses, formula_lines, HasLawPlaces, IsWhyOf}
 
@@ -180,8 +184,41 @@ has_places y budget room laws (Laws places without) are right =
     (all_mapped (IsChoiceOf p.graph p.above) (law_at p) places (right.0).each)
 has_places y budget room laws (Stopped stop) are right = tt
 
+-- ---- no lawful drawing is kept back
+
+-- lines without a Model line tell of none
+formulas_unmodelled : (cs : Clauses) (more : Lines) → All IsNoModel more → All IsNoModel (map Formula cs ++ more)
+formulas_unmodelled [] more all = all
+formulas_unmodelled (c ∷ cs) more all = All-cons IsNoModel (Formula c) (map Formula cs ++ more) tt (formulas_unmodelled cs more all)
+
+no_model_none : (p : Task) (before : Lines) (line : LogLine) → IsNoModel line → IsNoneFound p before line
+no_model_none p before Model is = absurd is
+no_model_none p before line is = tt
+
+none_told : (p : Task) (lines : Lines) → All IsNoModel lines → FindsNone p lines
+none_told p lines all = λ i line e. no_model_none p (take i lines) line
+    (subst IsNoModel (get_or_from_slice_get lines i line line e) (all i line (slice_get_within lines i line e)))
+
+-- nor do lines where none is lawful
+none_there : (p : Task) (before : Lines) (line : LogLine) → NoneMeetsAll p → IsNoneFound p before line
+none_there p before Model none = λ found every. none found.drawing found.loose
+    (λ n lt. All-contains (MeetsAt p found.drawing) found.wanted n found.meets (every n lt))
+none_there p before line none = tt
+
+-- what the lines of a search are that stopped
+abbrev StopsSo : Task → Outcome → Lines → Type 0
+StopsSo p (Exists d) lines = ⊤
+StopsSo p (Laws places without) lines = ⊤
+StopsSo p (Stopped stop) lines = IsCause p.budget p.room stop lines × FindsNone p lines
+
+stops_so : (p : Task) (o : Outcome) (cs : Clauses) (more : Lines) → TellsOutcome p o (map Formula cs) more → StopsSo p o (map Formula cs ++ more)
+stops_so p (Exists d) cs more tells = tt
+stops_so p (Laws places without) cs more tells = tt
+stops_so p (Stopped stop) cs more (cause, inl unmodelled) = (cause, none_told p (map Formula cs ++ more) (formulas_unmodelled cs more unmodelled))
+stops_so p (Stopped stop) cs more (cause, inr none) = (cause, λ i line e. none_there p (take i (map Formula cs ++ more)) line none)
+
 why_cause : (y : Layout) (budget room : ℕ) (o : Outcome) (w : Why) (lines : Lines) → clause_lines lines ≡ formula_lines y →
-    TellsOutcome (task_of y budget room) o lines → IsWhyOf (laws_of y) o w → IsWhyCause y budget room w lines
+    StopsSo (task_of y budget room) o lines → IsWhyOf (laws_of y) o w → IsWhyCause y budget room w lines
 why_cause y budget room (Exists d) (why.Exists e) lines all tells is = all
 why_cause y budget room (Exists d) (why.Laws names without) lines all tells is = absurd is
 why_cause y budget room (Exists d) why.Spent lines all tells is = absurd is
@@ -192,15 +229,15 @@ why_cause y budget room (Laws places drawings) why.Spent lines all tells is = ab
 why_cause y budget room (Laws places drawings) why.Room lines all tells is = absurd is
 why_cause y budget room (Stopped BudgetSpent) (why.Exists e) lines all tells is = absurd is
 why_cause y budget room (Stopped BudgetSpent) (why.Laws names without) lines all tells is = absurd is
-why_cause y budget room (Stopped BudgetSpent) why.Spent lines all tells is = (all, tells)
+why_cause y budget room (Stopped BudgetSpent) why.Spent lines all tells is = (all, tells.0, tells.1)
 why_cause y budget room (Stopped BudgetSpent) why.Room lines all tells is = absurd is
 why_cause y budget room (Stopped RoomFull) (why.Exists e) lines all tells is = absurd is
 why_cause y budget room (Stopped RoomFull) (why.Laws names without) lines all tells is = absurd is
 why_cause y budget room (Stopped RoomFull) why.Spent lines all tells is = absurd is
-why_cause y budget room (Stopped RoomFull) why.Room lines all tells is = inr (all, tells)
+why_cause y budget room (Stopped RoomFull) why.Room lines all tells is = inr (all, tells.0, tells.1)
 
 why_log : (y : Layout) (budget room : ℕ) (k : Kept) (o : Outcome) (w : Why) (lines : Lines) → KnowsWhy (task_of y budget room) k lines →
-    TellsOutcome (task_of y budget room) o lines → IsWhyOf (laws_of y) o w → IsWhyLog y budget room w lines
+    StopsSo (task_of y budget room) o lines → IsWhyOf (laws_of y) o w → IsWhyLog y budget room w lines
 why_log y budget room k o w lines h tells is = record {
   formed = (h.belongs).formed;
   derives = (h.belongs).derives;
@@ -216,19 +253,19 @@ pub whole_log : (y : Layout) (budget room : ℕ) (laws : List Law) (f : Cnf) (o 
     (n0 n1 n2 : ℕ) → HasFormula y room laws f → old ≡ blank room → HasTaken (with_more_vars old f.vars) mid f.clauses →
     GoesOn (λ ls. Belongs ls old) (λ ls. Belongs ls mid) l0 l1 n0 n1 (λ lines more. more ≡ map Formula f.clauses) →
     GoesOn (KnowsWhy (task_of y budget room) mid) (KnowsWhy (task_of y budget room) new) l1 l2 n1 n2
-    (λ lines more. TellsOutcome (task_of y budget room) o (lines ++ more)) → IsWhyOf (laws_of y) o w →
+    (λ lines more. TellsOutcome (task_of y budget room) o lines more) → IsWhyOf (laws_of y) o w →
     (lines : Lines) × IsToldTo l0 l2 n0 n2 lines × IsWhyLog y budget room w lines
 whole_log y budget room laws f o w old mid new l0 l1 l2 n0 n1 n2 has blank_is t goes search is =
     let start = formula_lines y in
     let p = task_of y budget room in
-    let s : ToldBehind (KnowsWhy (task_of y budget room) new) l1 l2 n1 n2 start (λ more. TellsOutcome p o (start ++ more)) = search start
+    let s : ToldBehind (KnowsWhy (task_of y budget room) new) l1 l2 n1 n2 start (λ more. TellsOutcome p o start more) = search start
     (begun_knows y budget room laws f old mid l0 l1 n0 n1 has blank_is t goes) in
     let second : ToldBehind (IsLogOfSolver new) l1 l2 n1 n2 start (λ more. IsWhyLog y budget room w (start ++ more)) = record {
       more = s.more;
       knows = record { belongs = (s.knows).belongs; learnt = (s.knows).learnt_are };
       told = s.told;
       counted = s.counted;
-      does = why_log y budget room new o w (start ++ s.more) s.knows s.does is;
+      does = why_log y budget room new o w (start ++ s.more) s.knows (stops_so p o (formula_of y) s.more s.does) is;
     } in
     let whole = told_whole start (IsWhyLog y budget room w) room old mid new l0 l1 l2 n0 n1 n2 blank_is
     (goes_weaker (λ ls. Belongs ls old) (λ ls. Belongs ls mid) l0 l1 n0 n1 (λ lines more. more ≡ map Formula f.clauses) (λ lines more. more ≡ start) goes

@@ -1,6 +1,7 @@
 -- What a question leaves of the solver and of the log.
 use Rattle.std.proofs.Common.{◌≡◌, ◌≤◌, ◌<◌, ℕ, ◌+◌, ◌-◌, ◌^◌, List, [], ◌∷◌, ◌++◌, length, sym, ◌∙◌, ap, subst, arith, append-nil}
-use Rattle.std.specs.Prelude.{flat_map, map, Some, None, fold}
+use Rattle.std.specs.Prelude.{flat_map, map, All, Some, None, fold}
+use Rattle.std.proofs.lemmas.List.Elements.{All-nil, All-cons}
 use Rattle.std.proofs.lemmas.Grind.{fold-append}
 use Rattle.outside_io.specs.Counts.{rose_by}
 use Rattle.cnf_core.specs.Lit.{Literal}
@@ -25,7 +26,7 @@ use Rattle.search_why.specs.declared.oracle.Reply.TheVariants.{Found, Refuted, S
 use Rattle.search_least.proofs.QuestionLemmas.{query_stays}
 use Rattle.search_least.proofs.BehindLemmas.{behind_unended, behind_ended}
 use Rattle.search_why.specs.Task.{Task}
-use Rattle.search_why.specs.Asked.{TellsReply}
+use Rattle.search_why.specs.Asked.{TellsReply, IsNoModel}
 use Rattle.law_core.specs.Known.{formula_of, task_of, IsWhyFormula, IsReady, KnowsWhy, TellsAnswer}
 use Rattle.law_core.specs.Query.{SelectsLaws, HasLaws, IsLawPlaced, AreAboutLaws, IsReplyOf}
 use Rattle.law_core.proofs.AskLemmas.{meets_each}
@@ -48,10 +49,19 @@ ready_after y selecting budget room old new a cs top ready h has given =
       spent = (let s = ready.spent in omega (arith, n, count, s));
     }
 
+-- a question that ends with no line tells of no model
+learnt_unmodelled : (cs : Clauses) → All IsNoModel (map Learnt cs ++ [])
+learnt_unmodelled [] = All-nil IsNoModel
+learnt_unmodelled (c ∷ cs) = All-cons IsNoModel (Learnt c) (map Learnt cs ++ []) tt (learnt_unmodelled cs)
+
+unmodelled : (assume : List Literal) (cs : Clauses) (ending : Lines) → ending ≡ [] → All IsNoModel (search_lines assume cs ending)
+unmodelled assume cs ending is = subst (λ (ls : Lines). All IsNoModel (search_lines assume cs ls)) (sym is)
+    (All-cons IsNoModel (Query assume) (map Learnt cs ++ []) tt (learnt_unmodelled cs))
+
 answered : (p : Task) (old new : Kept) (a : Answer) (assume : List Literal) (cs : Clauses) (lines ending : Lines) →
     old.learnt ≡ length (flat_map learnt lines) → old.learnt ≤ p.budget → new.room ≡ p.room → (given : Clauses) →
     Belongs (lines ++ search_lines assume cs ending) new → EndsWith a assume ending → HasSpent a (p.budget - old.learnt) (length cs) →
-    IsTrueAnswer a given assume new → TellsAnswer p a (lines ++ search_lines assume cs ending)
+    IsTrueAnswer a given assume new → TellsAnswer p a lines (search_lines assume cs ending)
 answered p old new Model assume cs lines ending learnt_are spent is_room given belongs ends has true_answer = tt
 answered p old new RefutedAnswer assume cs lines ending learnt_are spent is_room given belongs ends has true_answer = tt
 answered p old new Spent assume cs lines ending learnt_are spent is_room given belongs ends has true_answer =
@@ -60,9 +70,12 @@ answered p old new Spent assume cs lines ending learnt_are spent is_room given b
     let count : length (flat_map learnt (lines ++ search_lines assume cs ending)) ≡ p.budget =
     count_of_search Spent assume cs lines ending ends ∙ (let e : length cs ≡ p.budget - old.learnt = has in let f : length (flat_map learnt lines) + length cs
     ≡ p.budget = omega (arith, e, learnt_are, spent) in f) in
-    (count, subst (λ (ls : Lines). Open (lines ++ ls)) (sym same) (is_open assume cs lines new belongs_so true_answer))
+    ((count, subst (λ (ls : Lines). Open (lines ++ ls)) (sym same) (is_open assume cs lines new belongs_so true_answer)), unmodelled assume cs ending ends)
 answered p old new Room assume cs lines ending learnt_are spent is_room given belongs ends has true_answer =
-    subst (NextClausePasses (lines ++ search_lines assume cs ending)) is_room (has_no_room (lines ++ search_lines assume cs ending) new belongs true_answer)
+    (
+      subst (NextClausePasses (lines ++ search_lines assume cs ending)) is_room (has_no_room (lines ++ search_lines assume cs ending) new belongs true_answer),
+      unmodelled assume cs ending ends,
+    )
 
 -- a Model line behind a query that has a model
 model_answers : (y : Layout) (budget room : ℕ) (k : Kept) (assume : List Literal) (before : Lines) → IsWhyFormula y →
@@ -103,7 +116,7 @@ pub search_goes : (y : Layout) (selecting : List ℕ) (budget room : ℕ) (old n
     (n m : ℕ) → budget < 2 ^ 32 → IsReady y selecting budget room old → SelectsLaws (task_of y budget room) assume →
     HasSolved before now assume old new a (budget - old.learnt) n m → IsTrueAnswer a (formula_of y) assume new → new.words ≤ room →
     GoesOn (KnowsWhy (task_of y budget room) old) (KnowsWhy (task_of y budget room) new) before now n m
-    (λ lines more. TellsAnswer (task_of y budget room) a (lines ++ more))
+    (λ lines more. TellsAnswer (task_of y budget room) a lines more)
 search_goes y selecting budget room old new a assume before now n m top ready selects s true_answer fits = λ lines k.
     let more = search_lines assume s.learnt s.ending in
     let belongs = s.belongs lines k.belongs in
@@ -141,19 +154,19 @@ later_left y budget room old new l0 l1 l2 n0 n1 R goes h =
 
 -- ---- the reply
 
-pub reply_tells : (y : Layout) (budget room : ℕ) (a : Answer) (r : Reply) (lines : Lines) → IsReplyOf a r → TellsAnswer (task_of y budget room) a lines →
-    TellsReply (task_of y budget room) r lines
-reply_tells y budget room Model (Found d) lines is h = tt
-reply_tells y budget room Model (Refuted core) lines is h = absurd is
-reply_tells y budget room Model (Stopped stop) lines is h = absurd is
-reply_tells y budget room RefutedAnswer (Found d) lines is h = absurd is
-reply_tells y budget room RefutedAnswer (Refuted core) lines is h = tt
-reply_tells y budget room RefutedAnswer (Stopped stop) lines is h = absurd is
-reply_tells y budget room Spent (Found d) lines is h = absurd is
-reply_tells y budget room Spent (Refuted core) lines is h = absurd is
-reply_tells y budget room Spent (Stopped BudgetSpent) lines is h = h
-reply_tells y budget room Spent (Stopped RoomFull) lines is h = absurd is
-reply_tells y budget room Room (Found d) lines is h = absurd is
-reply_tells y budget room Room (Refuted core) lines is h = absurd is
-reply_tells y budget room Room (Stopped BudgetSpent) lines is h = absurd is
-reply_tells y budget room Room (Stopped RoomFull) lines is h = h
+pub reply_tells : (y : Layout) (budget room : ℕ) (a : Answer) (r : Reply) (lines more : Lines) → IsReplyOf a r →
+    TellsAnswer (task_of y budget room) a lines more → TellsReply (task_of y budget room) r lines more
+reply_tells y budget room Model (Found d) lines more is h = tt
+reply_tells y budget room Model (Refuted core) lines more is h = absurd is
+reply_tells y budget room Model (Stopped stop) lines more is h = absurd is
+reply_tells y budget room RefutedAnswer (Found d) lines more is h = absurd is
+reply_tells y budget room RefutedAnswer (Refuted core) lines more is h = tt
+reply_tells y budget room RefutedAnswer (Stopped stop) lines more is h = absurd is
+reply_tells y budget room Spent (Found d) lines more is h = absurd is
+reply_tells y budget room Spent (Refuted core) lines more is h = absurd is
+reply_tells y budget room Spent (Stopped BudgetSpent) lines more is h = h
+reply_tells y budget room Spent (Stopped RoomFull) lines more is h = absurd is
+reply_tells y budget room Room (Found d) lines more is h = absurd is
+reply_tells y budget room Room (Refuted core) lines more is h = absurd is
+reply_tells y budget room Room (Stopped BudgetSpent) lines more is h = absurd is
+reply_tells y budget room Room (Stopped RoomFull) lines more is h = h

@@ -1,5 +1,5 @@
 -- What is searched, when the solver can be asked, and which lines are known.
-use Rattle.std.specs.Prelude.{◌≡◌, ◌≤◌, ⊤, ℕ, false, List, map, flat_map, length}
+use Rattle.std.specs.Prelude.{◌≡◌, ◌≤◌, ⊤, ℕ, false, List, ◌++◌, All, map, flat_map, length}
 use Rattle.plan_core.specs.Graph.{IsTrackGraph}
 use Rattle.plan_core.specs.Lawful.{Instance}
 use Rattle.cnf_core.specs.declared.limits.TheConstants.{VARS}
@@ -18,6 +18,7 @@ use Rattle.cdcl_core.specs.declared.answer.Answer.TheVariants.{Model, Refuted, S
 use Rattle.cdcl_core.specs.Kept.{Kept, AreGiven}
 use Rattle.cdcl_core.specs.Belongs.{Belongs}
 use Rattle.search_why.specs.Task.{Task}
+use Rattle.search_why.specs.Asked.{IsNoModel}
 use Rattle.law_core.specs.declared.parties.Law.{Law}
 use Rattle.law_core.specs.Law.{instance_of}
 use Rattle.law_core.specs.Choices.{why_clauses, why_size, selectors}
@@ -81,9 +82,9 @@ pub record KnowsWhy (p : Task) (k : Kept) (lines : Lines) : Type 0 where
   pub fits : words_of (flat_map added lines) ≤ p.room
   pub asked : AreAboutLaws p lines
 
--- where the solver gave a question up, its lines have the cause
-abbrev pub TellsAnswer : Task → Answer → Lines → Type 0
-TellsAnswer p Model lines = ⊤
-TellsAnswer p Refuted lines = ⊤
-TellsAnswer p Spent lines = IsCause p.budget p.room BudgetSpent lines
-TellsAnswer p Room lines = IsCause p.budget p.room RoomFull lines
+-- where the solver gave a question up, the lines that are told behind these have the cause, and tell of no model
+abbrev pub TellsAnswer : Task → Answer → (lines more : Lines) → Type 0
+TellsAnswer p Model lines more = ⊤
+TellsAnswer p Refuted lines more = ⊤
+TellsAnswer p Spent lines more = IsCause p.budget p.room BudgetSpent (lines ++ more) × All IsNoModel more
+TellsAnswer p Room lines more = IsCause p.budget p.room RoomFull (lines ++ more) × All IsNoModel more

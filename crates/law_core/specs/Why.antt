@@ -21,7 +21,7 @@ use Rattle.law_core.specs.declared.ending.Why.{Why}
 use Rattle.law_core.specs.declared.ending.Why.TheVariants.{Exists, Laws, Spent, Room}
 use Rattle.law_core.specs.Chosen.{listed_law}
 use Rattle.law_core.specs.Known.{formula_of, size_of, task_of}
-use Rattle.law_core.specs.Query.{AreAboutLaws}
+use Rattle.law_core.specs.Query.{AreAboutLaws, FindsNone}
 
 -- these are the names of laws that no loose drawing meets together, and the drawings, one for each, show that none of
 -- them can be left out
@@ -47,14 +47,16 @@ abbrev pub FormulaPasses : Layout → (room : ℕ) → Type 0
 FormulaPasses y room = (VARS < size_of y) ⊎ (room < words_of (formula_of y))
 
 -- why it answered so: the whole formula was told, and without a drawing or an explanation as many clauses were learnt
--- as the budget allows, and the last question is open, or there is no room for one more clause; or there is no room for
--- the formula, and then nothing was told
+-- as the budget allows, and the last question is open, or there is no room for one more clause, and no lawful drawing
+-- was found; or there is no room for the formula, and then nothing was told
 abbrev pub IsWhyCause : Layout → (budget room : ℕ) → Why → Lines → Type 0
 IsWhyCause y budget room (Exists d) lines = clause_lines lines ≡ formula_lines y
 IsWhyCause y budget room (Laws names without) lines = clause_lines lines ≡ formula_lines y
 IsWhyCause y budget room Spent lines = (clause_lines lines ≡ formula_lines y) × IsCause budget room BudgetSpent lines
+    × FindsNone (task_of y budget room) lines
 IsWhyCause y budget room Room lines = ((lines ≡ []) × FormulaPasses y room)
-    ⊎ ((clause_lines lines ≡ formula_lines y) × IsCause budget room RoomFull lines)
+    ⊎ ((clause_lines lines ≡ formula_lines y) × IsCause budget room RoomFull lines
+    × FindsNone (task_of y budget room) lines)
 
 -- the lines of a search with this answer
 pub record IsWhyLog (y : Layout) (budget room : ℕ) (w : Why) (lines : Lines) : Type 0 where

@@ -119,7 +119,7 @@ fn query<L: LogSink>(
     ensures refuted { IfOk result (λ a. HasRefuted a (formula_with known.now) assume.now solver.new.refuted) }
     ensures lines { IfOk result
         (λ a. GoesOn (KnowsWith known.now solver.old) (KnowsWith known.now solver.new) (L.tells log.old) (L.tells
-        log.new) (L.learnt log.old) (L.learnt log.new) (λ ls m. TellsAnswer (task_with known.now) a (ls ++ m))) }
+        log.new) (L.learnt log.old) (L.learnt log.new) (λ ls m. TellsAnswer (task_with known.now) a ls m)) }
     ensures leaves { OnErr result (Leaves [] (KnowsWith known.now solver.old) (L.tells log.old) (L.tells log.new)) }
     ensures later { L.is_later log.old log.new }
     ensures faults { L.faults log.old ≤ L.faults log.new }
@@ -189,7 +189,7 @@ pub(crate) fn ask<L: LogSink>(
     ensures right { IfOk result (IsRightReply (task_with known.now) wanted.now) }
     ensures lines { IfOk result
         (λ r. GoesOn (KnowsWith known.now solver.old) (KnowsWith known.now solver.new) (L.tells log.old) (L.tells
-        log.new) (L.learnt log.old) (L.learnt log.new) (λ ls m. TellsReply (task_with known.now) r (ls ++ m))) }
+        log.new) (L.learnt log.old) (L.learnt log.new) (λ ls m. TellsReply (task_with known.now) r ls m)) }
     ensures leaves { OnErr result (Leaves [] (KnowsWith known.now solver.old) (L.tells log.old) (L.tells log.new)) }
     ensures later { L.is_later log.old log.new }
     ensures faults { L.faults log.old ≤ L.faults log.new }

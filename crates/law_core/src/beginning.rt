@@ -1,5 +1,5 @@
 // The whole search for an explanation.
-ghost use Rattle.std.specs.Prelude.{◌≡◌, ◌≤◌, ◌++◌, [], map, IfOk, OnOk, OnErr, IsErrOf};
+ghost use Rattle.std.specs.Prelude.{◌≡◌, ◌≤◌, [], map, IfOk, OnOk, OnErr, IsErrOf};
 ghost use Rattle.outside_io.specs.Counts.{Rose};
 ghost use Rattle.cnf_core.specs.declared.limits.TheConstants.{VARS, ROOM};
 ghost use Rattle.cnf_core.specs.Clause.{words_of};
@@ -68,7 +68,7 @@ fn search_from<L: LogSink>(
     ensures right { IfOk result (IsRightOutcome (task_with known.now)) }
     ensures lines { IfOk result
         (λ o. GoesOn (KnowsWith known.now solver.old) (KnowsWith known.now solver.new) (L.tells log.old) (L.tells
-        log.new) (L.learnt log.old) (L.learnt log.new) (λ ls m. TellsOutcome (task_with known.now) o (ls ++ m))) }
+        log.new) (L.learnt log.old) (L.learnt log.new) (λ ls m. TellsOutcome (task_with known.now) o ls m)) }
     ensures leaves { OnErr result (Leaves [] (KnowsWith known.now solver.old) (L.tells log.old) (L.tells log.new)) }
     ensures later { L.is_later log.old log.new }
     ensures faults { L.faults log.old ≤ L.faults log.new }

@@ -12,7 +12,7 @@ use Rattle.cnf_core.specs.declared.limits.TheConstants.{ROOM}
 use Rattle.lawful_check.specs.declared.law_break.LawBreak.{LawBreak}
 use Rattle.lawful_check.specs.Breaks.{break_of}
 use Rattle.track_order.specs.Order.{EdgeOrder, is_above}
-use Rattle.refute_log.specs.Told.{Lines}
+use Rattle.refute_log.specs.Told.{Lines, AddsAll}
 use Rattle.drawing_cnf.specs.Layout.{layout}
 use Rattle.search_why.proofs.OutcomeLemmas.{none_lawful}
 use Rattle.search_why.specs.Task.{Task}
@@ -20,14 +20,15 @@ use Rattle.search_why.specs.Explained.{IsExplanation, AreWithout, IsWithout}
 use Rattle.law_core.specs.declared.ending.Why.{Why}
 use Rattle.law_core.specs.declared.ending.Why.TheVariants.{Exists, Laws, Spent, Room}
 use Rattle.law_core.specs.Known.{task_of}
-use Rattle.law_core.specs.Why.{AreNamed, IsRightWhy, IsWhyLog}
+use Rattle.law_core.specs.Why.{AreNamed, IsRightWhy, IsWhyLog, IsWhyLeft}
 use Rattle.run_input.specs.declared.status.Status.{Status}
 use Rattle.run_input.specs.declared.status.Status.TheVariants.{Done, Unfinished}
 use Rattle.run_input.specs.Input.{IsStationOf}
-use Rattle.run_input.specs.Met.{between, HasRead}
+use Rattle.run_input.specs.Met.{Met, between, HasRead}
 use Rattle.run_input.specs.Answer.{HasReadStation}
 use Rattle.run_explain_redraw.specs.WhyText.{laws_text, why_text}
-use Rattle.run_explain_redraw.specs.Explained.{ExplainJob, explain_job, explain_task, status_of_why, IsExplainAnswer}
+use Rattle.run_explain_redraw.specs.Explained.{ExplainJob, explain_job, explain_task, status_of_why, IsExplainAnswer, IsLeftOfExplain}
+use Rattle.run_explain_redraw.specs.Explained.{ExplainMayLeave}
 
 -- what holds of each status and text of an answer of this search holds of its own
 each_why : (asked : ExplainJob) (g : Graph) (o : EdgeOrder) (w : Why) (P : Status → List ℕ → Type 0) → IsRightWhy (explain_task g o asked) w →
@@ -88,3 +89,22 @@ exists g o asked (Laws names without) right done = (
 )
 exists g o asked Spent right done = absurd (cc)
 exists g o asked Room right done = absurd (cc)
+
+-- ---- what is left after an error
+
+pub left_of_parts : (grid : GridSize) (budget : ℕ) (asked : ExplainJob) (g : Graph) (o : EdgeOrder) (lines : Lines) → explain_job grid budget ≡ asked →
+    IsWhyLeft (layout g o grid) lines → IsLeftOfExplain asked g o lines
+left_of_parts grid budget asked g o lines same left = subst (λ (j : ExplainJob). IsLeftOfExplain j g o lines) same left
+
+-- the whole search was told
+pub told_why_left : (grid : GridSize) (budget : ℕ) (asked : ExplainJob) (g : Graph) (o : EdgeOrder) (w : Why) (told : Lines) (old new : Lines → Type 0) →
+    explain_job grid budget ≡ asked → IsWhyLog (layout g o grid) budget ROOM w told → ((x y : Lines) → new x → new y → x ≡ y) → AddsAll old new told →
+    old [] → (lines : Lines) → new lines → IsLeftOfExplain asked g o lines
+told_why_left grid budget asked g o w told old new same log one adds none lines is =
+    subst (IsLeftOfExplain asked g o) (one told lines (adds [] none) is)
+    (left_of_parts grid budget asked g o told same (record { derives = log.derives; begins = log.begins }))
+
+-- nothing was told
+pub left_unbegun : (asked : ExplainJob) (input : List ℕ) (met : Met) (log : Lines → Type 0) → ((x y : Lines) → log x → log y → x ≡ y) → log [] →
+    (lines : Lines) → log lines → ExplainMayLeave asked input met lines
+left_unbegun asked input met log one none lines is = inl (one lines [] is none)

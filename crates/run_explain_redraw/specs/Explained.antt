@@ -1,6 +1,6 @@
 -- What explain answers to a station: a lawful drawing exists; or laws, each for its parties, that no loose drawing
 -- meets together and of which none can be left out; or the search gave up.
-use Rattle.std.specs.Prelude.{◌≡◌, ℕ, List}
+use Rattle.std.specs.Prelude.{◌≡◌, ◌⊎◌, ℕ, List, []}
 use Rattle.plan_core.specs.Grid.{GridSize}
 use Rattle.plan_core.specs.Graph.{Graph}
 use Rattle.cnf_core.specs.declared.limits.TheConstants.{ROOM}
@@ -11,9 +11,11 @@ use Rattle.search_why.specs.Task.{Task}
 use Rattle.law_core.specs.declared.ending.Why.{Why}
 use Rattle.law_core.specs.declared.ending.Why.TheVariants.{Exists, Laws, Spent, Room}
 use Rattle.law_core.specs.Known.{task_of}
-use Rattle.law_core.specs.Why.{IsRightWhy, IsWhyLog}
+use Rattle.law_core.specs.Why.{IsRightWhy, IsWhyLog, IsWhyLeft}
 use Rattle.run_input.specs.declared.status.Status.{Status}
 use Rattle.run_input.specs.declared.status.Status.TheVariants.{Done, Unfinished}
+use Rattle.run_input.specs.Met.{Met}
+use Rattle.run_input.specs.Answer.{IsReadStation}
 use Rattle.run_explain_redraw.specs.WhyText.{why_text}
 
 -- what is asked: the grid of the drawings, and with how many learnt clauses the search gives up
@@ -47,3 +49,13 @@ pub record IsExplainAnswer (asked : ExplainJob) (IsTold : Lines → Type 0) (g :
   pub log : IsWhyLog (layout g o asked.grid) asked.budget ROOM why lines
   pub status_is : status ≡ status_of_why why
   pub spelled : text ≡ why_text g why
+
+-- what is left of such a search for the station after an error
+abbrev pub IsLeftOfExplain : ExplainJob → Graph → EdgeOrder → Lines → Type 0
+IsLeftOfExplain asked g o lines = IsWhyLeft (layout g o asked.grid) lines
+
+-- what a run may leave after an error in a log that had no line: nothing, or what is left of a search for the station
+-- that was read
+abbrev pub ExplainMayLeave : ExplainJob → (input : List ℕ) → Met → Lines → Type 0
+ExplainMayLeave asked input met lines =
+    (lines ≡ []) ⊎ ((g : Graph) × (o : EdgeOrder) × IsReadStation input met g o × IsLeftOfExplain asked g o lines)

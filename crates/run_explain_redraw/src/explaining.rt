@@ -1,9 +1,10 @@
 // What explain answers: the file's station is read, an explanation is searched for, and its lines are told to the
 // trace.
-ghost use Rattle.std.specs.Prelude.{◌≡◌, ◌≤◌, ◌⊎◌, IfOk, IsOkAnd, IsErrOf};
+ghost use Rattle.std.specs.Prelude.{◌≡◌, ◌≤◌, ◌⊎◌, [], IfOk, OnErr, IsOkAnd, IsErrOf};
 ghost use Rattle.outside_io.specs.Contents.{WhereTold, SameFiles};
 ghost use Rattle.outside_io.specs.Counts.{Rose};
 ghost use Rattle.track_order.specs.Order.{IsOrderOf};
+ghost use Rattle.refute_log.specs.Told.{Lines};
 ghost use Rattle.refute_log.specs.ToldTo.{told_to};
 ghost use Rattle.law_core.specs.Why.{IsRightWhy};
 ghost use Rattle.run_input.specs.Status.{IsAnswered, IsRefused};
@@ -12,6 +13,7 @@ ghost use Rattle.run_input.specs.Answer.{IsFileJudged, IsAnswerToFile, HasReadSt
 ghost use Rattle.run_input.specs.SearchLog.{DerivesIfNew};
 ghost use Rattle.run_explain_redraw.specs.WhyText.{why_text};
 ghost use Rattle.run_explain_redraw.specs.Explained.{IsExplainAnswer, explain_task, status_of_why};
+ghost use Rattle.run_explain_redraw.specs.Explained.{IsLeftOfExplain, ExplainMayLeave};
 
 use crate::writing::text_of;
 use cnf_core::ROOM;
@@ -83,6 +85,8 @@ fn explain_station<L: LogSink>(
         IfOk result (λ r. IsExplainAnswer asked.now told station.now.graph station.now.order r.status r.text.items) }
     ensures unrefused { IsOkAnd result (λ r. IsRefused r.status) → ⊥ }
     ensures derives { DerivesIfNew (L.tells log.old) (L.tells log.new) }
+    ensures left { OnErr result (L.tells log.old [] → (lines : Lines) → L.tells log.new lines →
+        IsLeftOfExplain asked.now station.now.graph station.now.order lines) }
     ensures later { L.is_later log.old log.new }
     ensures cause { IsErrOf result Cut.Unwritten → Rose (L.faults log.old) (L.faults log.new) }
 {
@@ -101,7 +105,8 @@ fn explain_station<L: LogSink>(
     }
 }
 
-/// What `explain` answers.
+/// What `explain` answers. After an error a trace that had no line has the first of the lines that are expected, or
+/// none.
 pub fn explain<F: Files, T: LogSink>(
     alloc: Global,
     input: &Text,
@@ -119,6 +124,9 @@ pub fn explain<F: Files, T: LogSink>(
     ensures cause { IsErrOf result Cut.Unwritten → Rose (T.faults trace.old) (T.faults trace.new) }
     ensures later { (F.at files.old).read_faults ≤ (F.at files.new).read_faults }
     ensures derives { DerivesIfNew (T.tells trace.old) (T.tells trace.new) }
+    ensures left { let met = between (F.at files.old) (F.at files.new) in
+        OnErr result (T.tells trace.old [] → (lines : Lines) → T.tells trace.new lines →
+        ExplainMayLeave asked.now input.now met lines) }
     ensures traced { T.is_later trace.old trace.new }
     ensures untold { let met = between (F.at files.old) (F.at files.new) in
         IsOkAnd result (λ r. IsRefused r.status) ⊎ (HasReadStation input.now met → ⊥) → trace.new ≡ trace.old }

@@ -1,5 +1,6 @@
 pub mod ApartLemmas
 pub mod AloneLemmas
+pub mod HeldLemmas
 pub mod SoundLog
 pub mod DueLemmas
 pub mod PassesLemmas
@@ -14,7 +15,10 @@ pub mod SoCertified
 pub mod SearchEnds
 pub mod DrawnRuns
 pub mod SignalledRuns
+pub mod TriedRuns
 pub mod FrontRuns
 pub mod RedrawnRuns
 pub mod SoReadBack
+pub mod SoDrawn
+pub mod SoRefused
 pub mod ExplainedRuns

@@ -34,10 +34,10 @@ use Rattle.run_input.specs.Written.{file_named}
 use Rattle.run_draw_front.specs.Drawn.{job, IsDrawAnswer, IsLeftByDraw}
 use Rattle.run_draw_front.specs.Signalled.{IsSignalFileJudged, HasReadSignals, IsLeftBySignals}
 use Rattle.run_draw_front.specs.Tried.{IsMade, IsTried}
-use Rattle.run_draw_front.specs.Fronted.{front_job, IsFrontAnswer}
+use Rattle.run_draw_front.specs.Fronted.{front_job, IsFrontAnswer, FrontMayLeave}
 use Rattle.run_explain_redraw.specs.Redrawn.{redraw_job}
 use Rattle.run_explain_redraw.specs.Answer.{IsRedrawAnswer, HasReadFormer, IsLeftByRedraw}
-use Rattle.run_explain_redraw.specs.Explained.{explain_job, IsExplainAnswer}
+use Rattle.run_explain_redraw.specs.Explained.{explain_job, IsExplainAnswer, ExplainMayLeave}
 use Rattle.run_check.specs.CheckLine.{claim_of}
 use Rattle.run_check.specs.Checked.{IsCheckAnswer}
 use Rattle.run_check.specs.Trimmed.{IsTrimAnswer, HasReadCertified, IsLeftByTrim}
@@ -169,6 +169,24 @@ MayLeave (Redraw input former sheet grid budget log) met traced name bytes =
 MayLeave (Explain input grid budget) met traced name bytes = ⊥
 MayLeave (Trim input sheet log hints) met traced name bytes = IsLeftByTrim input sheet log hints met name bytes
 MayLeave (Recheck input sheet hints) met traced name bytes = ⊥
+
+-- with every status, what a trace that had no line may hold: of front and explain the first of the lines that are
+-- expected of a search for the station that was read, or none; a command that tells it nothing leaves none. Of draw,
+-- trial, signals and redraw nothing is said here
+abbrev pub TraceMayHold : Command → Met → Lines → Type 0
+TraceMayHold (Draw input grid order budget svg log) met lines = ⊤
+TraceMayHold (PrintGraph input) met lines = lines ≡ []
+TraceMayHold (Verify input sheet) met lines = lines ≡ []
+TraceMayHold (Check input sheet log) met lines = lines ≡ []
+TraceMayHold (Make n) met lines = lines ≡ []
+TraceMayHold (Trial n) met lines = ⊤
+TraceMayHold (Signals input grid order budget log) met lines = ⊤
+TraceMayHold (Front input first second grid budget) met lines =
+    FrontMayLeave (front_job grid first second budget) input met lines
+TraceMayHold (Redraw input former sheet grid budget log) met lines = ⊤
+TraceMayHold (Explain input grid budget) met lines = ExplainMayLeave (explain_job grid budget) input met lines
+TraceMayHold (Trim input sheet log hints) met lines = lines ≡ []
+TraceMayHold (Recheck input sheet hints) met lines = lines ≡ []
 
 -- ---- what it owes
 

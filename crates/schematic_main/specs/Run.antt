@@ -19,7 +19,7 @@ use Rattle.run_input.specs.Input.{IsShort}
 use Rattle.run_input.specs.Met.{Met, ReadFails}
 use Rattle.run_input.specs.Written.{FailsToWrite}
 use Rattle.schematic_main.specs.Commands.{inputs_of, outputs_of, TellsTrace, MayWrite, MayTell, MayLeave, Owes}
-use Rattle.schematic_main.specs.Commands.{AnswersAlone, AreSound, ends_of}
+use Rattle.schematic_main.specs.Commands.{AnswersAlone, AreSound, ends_of, TraceMayHold}
 
 -- the words ask for a command of which this holds
 abbrev pub Asks : List (List ℕ) → (Command → Type 0) → Type 0
@@ -99,6 +99,17 @@ Completes words met put_rose trace_rose status = WhereAsked words (λ command.
 -- the words ask for no command that may tell a search to the trace, with what the run met
 abbrev pub TellsNothing : List (List ℕ) → Met → Type 0
 TellsNothing words met = WhereAsked words (λ command. MayTell command met → ⊥)
+
+-- ---- what it told
+
+-- where a log told no line before, this holds of what it tells
+abbrev pub HoldsIfNew : (old new : Lines → Type 0) → (Lines → Type 0) → Type 0
+HoldsIfNew old new May = old [] → (lines : Lines) → new lines → May lines
+
+-- what a trace that had no line may hold after a run: nothing, or what the command that the words ask for may leave in
+-- it
+abbrev pub RunMayTell : List (List ℕ) → Met → Lines → Type 0
+RunMayTell words met lines = (lines ≡ []) ⊎ Asks words (λ command. TraceMayHold command met lines)
 
 -- ---- a run of check on what a run of draw left
 

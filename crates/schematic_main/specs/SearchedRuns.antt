@@ -1,19 +1,23 @@
 -- Whole runs of draw, signals, front, redraw and explain, none of whose reads failed, on files whose contents are told
--- and that have no fault; and how such a run ends. What a trace was told plays no part.
-use Rattle.std.specs.Prelude.{◌≡◌, ◌≢◌, ◌↔◌, ℕ, ⊤, List, None, codes}
+-- and that have no fault, and of trial; and how such a run ends. What a trace was told plays no part.
+use Rattle.std.specs.Prelude.{◌≡◌, ◌≢◌, ◌↔◌, ℕ, List, None, codes}
 use Rattle.std.specs.declared.option.Option.{Option}
 use Rattle.plan_core.specs.declared.criterion.Criterion.{Criterion}
 use Rattle.plan_core.specs.Grid.{GridSize}
 use Rattle.plan_core.specs.Graph.{Graph}
 use Rattle.track_order.specs.Order.{EdgeOrder}
-use Rattle.plan_words.specs.declared.command.Command.TheVariants.{Draw, Signals, Front, Redraw, Explain}
+use Rattle.railml_read.specs.declared.rows.SignalElem.{SignalElem}
+use Rattle.plan_objects.specs.declared.places.SignalPlace.{SignalPlace}
+use Rattle.plan_words.specs.declared.command.Command.TheVariants.{Draw, Trial, Signals, Front, Redraw, Explain}
 use Rattle.drawing_cnf.specs.Moved.{Former}
+use Rattle.station_make.specs.StationText.{station_text}
 use Rattle.run_input.specs.declared.status.Status.{Status}
 use Rattle.run_input.specs.declared.status.Status.TheVariants.{Done, NoDrawing, Unfinished}
-use Rattle.run_input.specs.Input.{IsStationOf}
+use Rattle.run_input.specs.Input.{HasStation, IsStationOf}
+use Rattle.run_input.specs.Signals.{IsSignalStationOf}
 use Rattle.run_input.specs.Met.{Met}
 use Rattle.run_explain_redraw.specs.Answer.{HaveFormerIn}
-use Rattle.schematic_main.specs.So.{OfSignals, NoneLawful, SomeLawful, grid_for}
+use Rattle.schematic_main.specs.So.{NoneLawful, SomeLawful}
 use Rattle.schematic_main.specs.WholeRuns.{IsWholeRun}
 
 -- ---- how it ends
@@ -44,22 +48,27 @@ pub record IsDrawRun (g : Graph) (o : EdgeOrder) (grid : GridSize) (status : Sta
   pub station : IsStationOf input met.before.contents g o
   pub run : IsWholeRun (Draw input grid order budget svg log) met status text
 
--- a run of signals, where this grid is asked for, whose file has a station and signals
-pub record IsSignalsRun (grid : GridSize) (status : Status) : Type 0 where
+-- a run of trial, whose made file has this station
+pub record IsTrialRun (g : Graph) (o : EdgeOrder) (status : Status) : Type 0 where
+  pub number : ℕ
+  pub met : Met
+  pub text : List ℕ
+  pub station : HasStation (station_text number) g o
+  pub run : IsWholeRun (Trial number) met status text
+
+-- a run of signals, where this grid is asked for, whose file has this station and signals with these places
+pub record IsSignalsRun (g : Graph) (o : EdgeOrder) (places : List SignalPlace) (grid : GridSize) (status : Status) :
+    Type 0 where
   pub input : List ℕ
   pub order : List Criterion
   pub budget : ℕ
   pub log : Option (List ℕ)
   pub met : Met
   pub text : List ℕ
+  pub signals : List SignalElem
   pub told : met.before.contents ≢ None
-  pub file : OfSignals met.before.contents input (λ g o signals places. ⊤)
+  pub file : IsSignalStationOf input met.before.contents g o signals places
   pub run : IsWholeRun (Signals input grid order budget log) met status text
-
--- it ends so on the grid for the signals of its file
-abbrev pub EndsWithSignals : (grid : GridSize) (status : Status) → IsSignalsRun grid status → Type 0
-EndsWithSignals grid status run = OfSignals run.met.before.contents run.input
-    (λ g o signals places. EndsExactly g o (grid_for places grid) status)
 
 -- a run of front on this grid, whose file has this station
 pub record IsFrontRun (g : Graph) (o : EdgeOrder) (grid : GridSize) (status : Status) : Type 0 where

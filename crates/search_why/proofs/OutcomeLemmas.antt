@@ -1,5 +1,5 @@
 -- What the end of a search says of drawings.
-use Rattle.std.proofs.Common.{◌≡◌, ◌≢◌, ℕ, zero, suc, ◌<◌, Bool, List, [], ◌∷◌, length, get_or, refl, sym, ◌∙◌, subst, inl, inr, arith, append-nil}
+use Rattle.std.proofs.Common.{◌≡◌, ◌≢◌, ℕ, zero, suc, ◌<◌, Bool, List, [], ◌∷◌, ◌++◌, length, get_or, refl, sym, ◌∙◌, subst, inl, inr, arith, append-nil}
 use Rattle.std.specs.Prelude.{slice_get, slice_index_or, Some}
 use Rattle.std.specs.List.{All, AllPairs, Contains, remove}
 use Rattle.std.proofs.lemmas.List.{length-map, get_or-map as at_map}
@@ -13,11 +13,14 @@ use Rattle.plan_core.specs.Drawing.{Drawing}
 use Rattle.plan_core.specs.Lawful.{Instance, NodeOnGrid, LineOnGrid, Ordered, Joined, Aligned, Apart, Over, Parted, IsInstance, Meets, Lawful}
 use Rattle.search_why.specs.Explained.{IsLoose, IsChoiceOf, IsExplanation, AreWithout, IsIrreducible}
 use Rattle.search_why.specs.Task.{Task, law_at, MeetsAt, HasAllLaws}
-use Rattle.search_why.specs.Narrowed.{countdown, IsNarrowed}
+use Rattle.search_why.specs.Narrowed.{countdown, IsNarrowed, TellsNarrowed}
+use Rattle.refute_log.specs.Told.{Lines}
+use Rattle.search_why.specs.declared.outcome.Outcome.{Outcome}
+use Rattle.search_why.specs.declared.outcome.Outcome.TheVariants.{Exists, Laws, Stopped}
 use Rattle.search_why.specs.declared.oracle.Reply.{Reply}
 use Rattle.search_why.specs.declared.oracle.Reply.TheVariants.{Found}
-use Rattle.search_why.specs.Asked.{AreLawPlaces, IsRightReply}
-use Rattle.search_why.specs.Outcome.{laws_at}
+use Rattle.search_why.specs.Asked.{AreLawPlaces, IsRightReply, NoneMeetsLaws, NoneMeetsAll}
+use Rattle.search_why.specs.Outcome.{laws_at, TellsOutcome}
 use Rattle.search_why.proofs.PlaceLemmas.{countdown_below, countdown_once, countdown_has, remove_map}
 
 same_default : {X : Type 0} (xs : List X) (k : ℕ) (d e : X) → k < length xs → slice_index_or xs k d ≡ slice_index_or xs k e
@@ -138,3 +141,14 @@ found_all p all d reply every is right h =
     let got : IsRightReply p (countdown (length p.laws)) (Found d) = subst (λ (r : Reply). IsRightReply p (countdown (length p.laws)) r) is
     (subst (λ (w : List ℕ). IsRightReply p w reply) every right) in
     all_met p d h got.0 got.1
+
+-- ---- a search that stopped while it narrowed
+
+-- where no loose drawing meets some of the laws, none meets them all
+pub none_at_all : (p : Task) (places : List ℕ) → AreLawPlaces p places → NoneMeetsLaws p places → NoneMeetsAll p
+none_at_all p places are none = λ d loose all. none d loose (All-weaker (λ n. n < length p.laws) (MeetsAt p d) (λ n lt. all n lt) places are.there)
+
+pub narrowed_tells : (p : Task) (o : Outcome) (lines more : Lines) → NoneMeetsAll p → TellsNarrowed p o (lines ++ more) → TellsOutcome p o lines more
+narrowed_tells p (Exists d) lines more none tells = tt
+narrowed_tells p (Laws places without) lines more none tells = tt
+narrowed_tells p (Stopped stop) lines more none tells = (tells, inr none)

@@ -19,7 +19,7 @@ pub fn find_laws<O: LawOracle>(alloc: Global, oracle: &mut O) -> Result<Outcome,
     requires laws { HasAllLaws (O.task oracle.old) }
     ensures right { IfOk result (IsRightOutcome (O.task oracle.old)) }
     ensures lines { IfOk result (λ o. Continues O.knows O.log O.learnt oracle.old oracle.new (λ lines more.
-        TellsOutcome (O.task oracle.old) o (lines ++ more))) }
+        TellsOutcome (O.task oracle.old) o lines more)) }
     ensures leaves { OnErr result (Leaves [] (O.knows oracle.old) (O.log oracle.old) (O.log oracle.new)) }
     ensures task { O.task oracle.new ≡ O.task oracle.old }
     ensures later { O.is_later oracle.old oracle.new }

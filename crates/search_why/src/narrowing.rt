@@ -3,10 +3,10 @@ ghost use Rattle.std.specs.Prelude.{◌≡◌, ◌≤◌, ◌++◌, ◌∷◌, [
 ghost use Rattle.outside_io.specs.Counts.{Rose};
 ghost use Rattle.search_why.specs.declared.outcome.Outcome.TheVariants.{Laws};
 ghost use Rattle.search_why.specs.Task.{HasAllLaws};
-ghost use Rattle.search_why.specs.Narrowed.{IsNarrowed};
+ghost use Rattle.search_why.specs.Narrowed.{IsNarrowed, TellsNarrowed};
 ghost use Rattle.refute_log.specs.Steps.{Continues, Leaves};
 ghost use Rattle.search_why.specs.Asked.{AreLawPlaces, NoneMeetsLaws, TellsStop};
-ghost use Rattle.search_why.specs.Outcome.{IsRightOutcome, TellsOutcome};
+ghost use Rattle.search_why.specs.Outcome.{IsRightOutcome};
 
 use crate::oracle::{LawOracle, Reply};
 use crate::places::{both, keep_only};
@@ -97,7 +97,7 @@ pub(crate) fn narrow<O: LawOracle>(
     requires none { NoneMeetsLaws (O.task oracle.old) left.items }
     ensures right { IfOk result (IsRightOutcome (O.task oracle.old)) }
     ensures lines { IfOk result (λ o. Continues O.knows O.log O.learnt oracle.old oracle.new (λ lines more.
-        TellsOutcome (O.task oracle.old) o (lines ++ more))) }
+        TellsNarrowed (O.task oracle.old) o (lines ++ more))) }
     ensures leaves { OnErr result (Leaves [] (O.knows oracle.old) (O.log oracle.old) (O.log oracle.new)) }
     ensures task { O.task oracle.new ≡ O.task oracle.old }
     ensures later { O.is_later oracle.old oracle.new }

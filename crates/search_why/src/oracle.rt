@@ -1,5 +1,5 @@
 // What is asked: the drawings' clauses, a solver and a log, as one thing.
-ghost use Rattle.std.specs.Prelude.{◌≡◌, ◌≤◌, ◌++◌, [], ℕ, OnOk, OnErr, IfOk, IsErrOf, length, map};
+ghost use Rattle.std.specs.Prelude.{◌≡◌, ◌≤◌, [], ℕ, OnOk, OnErr, IfOk, IsErrOf, length, map};
 ghost use Rattle.outside_io.specs.Counts.{Rose};
 ghost use Rattle.refute_log.specs.Told.{Lines};
 ghost use Rattle.refute_log.specs.declared.line.LogLine.TheVariants.{Formula};
@@ -59,7 +59,7 @@ pub trait LawOracle {
         requires places { AreLawPlaces (task self.old) wanted.now }
         ensures right { IfOk result (IsRightReply (task self.old) wanted.now) }
         ensures lines { IfOk result (λ r. Continues knows log learnt self.old self.new (λ lines more.
-            TellsReply (task self.old) r (lines ++ more))) }
+            TellsReply (task self.old) r lines more)) }
         ensures leaves { OnErr result (Leaves [] (knows self.old) (log self.old) (log self.new)) }
         ensures ready { OnOk result (ready self.new) }
         ensures task { task self.new ≡ task self.old }

@@ -1,4 +1,4 @@
-use Rattle.std.proofs.Common.{◌<◌, ◌≤◌, ◌++◌, List, ℕ, length, sym, ◌∙◌, ap, subst}
+use Rattle.std.proofs.Common.{◌<◌, ◌≤◌, List, ℕ, length, sym, ◌∙◌, ap, subst}
 use Rattle.std.specs.Prelude.{All}
 use Rattle.cnf_core.specs.declared.limits.TheConstants.{VARS}
 use Rattle.outside_io.proofs.Results.{on_err_anyway}
@@ -18,9 +18,9 @@ returns-clause-lines g c =
     let y = layout_with k in
     goes_weaker (KnowsWhy (task_of y k.budget k.room) c.args.solver.now) (KnowsWhy (task_of y k.budget k.room) c.query.new.solver) (l.tells c.args.log.now)
     (l.tells c.query.new.log) (l.learnt c.args.log.now) (l.learnt c.query.new.log)
-    (λ lines more. TellsAnswer (task_of y k.budget k.room) c.in_ok-answer.answer (lines ++ more))
-    (λ lines more. TellsReply (task_of y k.budget k.room) c.in_ok-reply.reply (lines ++ more)) c.in_ok-answer.ensures.lines
-    (λ lines more. reply_tells y k.budget k.room c.in_ok-answer.answer c.in_ok-reply.reply (lines ++ more) c.in_ok-reply.ensures.of)
+    (λ lines more. TellsAnswer (task_of y k.budget k.room) c.in_ok-answer.answer lines more)
+    (λ lines more. TellsReply (task_of y k.budget k.room) c.in_ok-reply.reply lines more) c.in_ok-answer.ensures.lines
+    (λ lines more. reply_tells y k.budget k.room c.in_ok-answer.answer c.in_ok-reply.reply lines more c.in_ok-reply.ensures.of)
 
 pub returns-in_err-assume-clause-leaves : goal.returns-in_err-assume-clause-leaves
 returns-in_err-assume-clause-leaves g c =
@@ -38,7 +38,7 @@ returns-in_err-reply-clause-leaves g c =
     let y = layout_with x in
     on_err_anyway _ _ (later_left y x.budget x.room c.args.solver.now c.query.new.solver (k.tells c.args.log.now) (k.tells c.query.new.log)
     (k.tells c.query.new.log) (k.learnt c.args.log.now) (k.learnt c.query.new.log)
-    (λ lines more. TellsAnswer (task_of y x.budget x.room) c.in_ok-answer.answer (lines ++ more)) c.in_ok-answer.ensures.lines
+    (λ lines more. TellsAnswer (task_of y x.budget x.room) c.in_ok-answer.answer lines more) c.in_ok-answer.ensures.lines
     (known_left y x.budget x.room c.query.new.solver (k.tells c.query.new.log) (g.met.L.LogSink.one_reading c.query.new.log)))
 
 pub assumptions-requires : goal.assumptions-requires

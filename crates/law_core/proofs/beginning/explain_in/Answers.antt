@@ -1,4 +1,4 @@
-use Rattle.std.proofs.Common.{List, ◌++◌, length, map, refl, sym, ◌∙◌, ap, subst}
+use Rattle.std.proofs.Common.{List, length, map, refl, sym, ◌∙◌, ap, subst}
 use Rattle.outside_io.proofs.Results.{on_err_anyway}
 use Rattle.plan_core.specs.Lawful.{Instance}
 use Rattle.cdcl_core.specs.Kept.{blank}
@@ -147,5 +147,5 @@ returns-in_err-why-clause-left g c =
     c.requires.formula c.requires.new c.in_ok-begin.ensures.taken c.in_ok-begin.ensures.lines
     (later_left y budget room c.begin.new.solver c.search_from.new.solver (k.tells c.begin.new.log) (k.tells c.search_from.new.log)
     (k.tells c.search_from.new.log) (k.learnt c.begin.new.log) (k.learnt c.search_from.new.log)
-    (λ lines more. TellsOutcome (task_of y budget room) c.in_ok-outcome.outcome (lines ++ more)) c.in_ok-outcome.ensures.lines
+    (λ lines more. TellsOutcome (task_of y budget room) c.in_ok-outcome.outcome lines more) c.in_ok-outcome.ensures.lines
     (known_left y budget room c.search_from.new.solver (k.tells c.search_from.new.log) (g.met.L.LogSink.one_reading c.search_from.new.log))))

@@ -8,6 +8,10 @@ use Rattle.run_input.proofs.MetLemmas.{reads_one}
 use Rattle.run_explain_redraw.specs.Explained.{IsExplainAnswer}
 use Rattle.run_input.proofs.AnswerLemmas.{untold_here}
 use Rattle.run_input.proofs.DerivesLemmas.{new_unchanged}
+use Rattle.std.proofs.Common.{inr}
+use Rattle.outside_io.proofs.Results.{on_err_anyway}
+use Rattle.refute_log.proofs.StepLemmas.{on_err_weaker}
+use Rattle.run_explain_redraw.proofs.ExplainedLemmas.{left_unbegun}
 use Rattle.run_explain_redraw.proofs.explaining.explain.Goals as goal
 
 pub returns-in-Ok-clause-reads : goal.returns-in-Ok-clause-reads
@@ -38,3 +42,24 @@ returns-in_ok-fault_reply-in-Err-Fault-clause-derives g c = new_unchanged (g.T.L
 
 pub returns-in-Err-Memory-clause-derives : goal.returns-in-Err-Memory-clause-derives
 returns-in-Err-Memory-clause-derives g c = new_unchanged (g.T.LogSink.tells c.args.trace.now) (g.met.T.LogSink.one_reading c.args.trace.now)
+
+pub returns-in-Ok-clause-left : goal.returns-in-Ok-clause-left
+returns-in-Ok-clause-left g c =
+    on_err_weaker c.explain_station.result _ _ (λ h none lines is. inr (
+      c.in-Ok.station.graph,
+      c.in-Ok.station.order,
+      (c.in-Ok.ensures.reads, c.in-Ok.ensures.station),
+      h none lines is,
+    )) c.explain_station.ensures.left
+
+pub returns-in_err-fault_reply-in-Err-Fault-clause-left : goal.returns-in_err-fault_reply-in-Err-Fault-clause-left
+returns-in_err-fault_reply-in-Err-Fault-clause-left g c =
+    let at = g.F.Files.at in
+    let met = between (at c.args.files.now) (at c.station_of.new.files) in
+    on_err_anyway _ _ (left_unbegun c.args.asked.now c.args.input.now met (g.T.LogSink.tells c.args.trace.now) (g.met.T.LogSink.one_reading c.args.trace.now))
+
+pub returns-in-Err-Memory-clause-left : goal.returns-in-Err-Memory-clause-left
+returns-in-Err-Memory-clause-left g c =
+    let at = g.F.Files.at in
+    let met = between (at c.args.files.now) (at c.station_of.new.files) in
+    left_unbegun c.args.asked.now c.args.input.now met (g.T.LogSink.tells c.args.trace.now) (g.met.T.LogSink.one_reading c.args.trace.now)

@@ -13,6 +13,9 @@ use Rattle.run_input.proofs.AnswerLemmas.{leaves_same}
 use Rattle.run_input.proofs.LeavesLemmas.{left_alone}
 use Rattle.schematic_main.proofs.AloneLemmas.{trimmed_alone}
 use Rattle.run_input.proofs.DerivesLemmas.{new_unchanged}
+use Rattle.run_draw_front.specs.Fronted.{front_job}
+use Rattle.run_explain_redraw.specs.Explained.{explain_job}
+use Rattle.schematic_main.proofs.HeldLemmas.{unchanged_holds, held_as, front_holds, explain_holds}
 use Rattle.schematic_main.proofs.answers.answer_to.Goals as goal
 
 pub returns-in-Draw-clause-answer : goal.returns-in-Draw-clause-answer
@@ -230,3 +233,83 @@ returns-in_err-recheck-in-Recheck-clause-derives g c = new_unchanged (g.T.LogSin
 
 pub returns-in-Trim-clause-derives : goal.returns-in-Trim-clause-derives
 returns-in-Trim-clause-derives g c = new_unchanged (g.T.LogSink.tells c.args.trace.now) (g.met.T.LogSink.one_reading c.args.trace.now)
+
+pub returns-in_ok-print-in-Graph-clause-begins : goal.returns-in_ok-print-in-Graph-clause-begins
+returns-in_ok-print-in-Graph-clause-begins g c = unchanged_holds c.args.command.now _ (g.T.LogSink.tells c.args.trace.now)
+    (g.met.T.LogSink.one_reading c.args.trace.now)
+
+pub returns-in_err-print-in-Graph-clause-begins : goal.returns-in_err-print-in-Graph-clause-begins
+returns-in_err-print-in-Graph-clause-begins g c = unchanged_holds c.args.command.now _ (g.T.LogSink.tells c.args.trace.now)
+    (g.met.T.LogSink.one_reading c.args.trace.now)
+
+pub returns-in_ok-verify-in-Verify-clause-begins : goal.returns-in_ok-verify-in-Verify-clause-begins
+returns-in_ok-verify-in-Verify-clause-begins g c = unchanged_holds c.args.command.now _ (g.T.LogSink.tells c.args.trace.now)
+    (g.met.T.LogSink.one_reading c.args.trace.now)
+
+pub returns-in_err-verify-in-Verify-clause-begins : goal.returns-in_err-verify-in-Verify-clause-begins
+returns-in_err-verify-in-Verify-clause-begins g c = unchanged_holds c.args.command.now _ (g.T.LogSink.tells c.args.trace.now)
+    (g.met.T.LogSink.one_reading c.args.trace.now)
+
+pub returns-in_ok-check-in-Check-clause-begins : goal.returns-in_ok-check-in-Check-clause-begins
+returns-in_ok-check-in-Check-clause-begins g c = unchanged_holds c.args.command.now _ (g.T.LogSink.tells c.args.trace.now)
+    (g.met.T.LogSink.one_reading c.args.trace.now)
+
+pub returns-in_err-check-in-Check-clause-begins : goal.returns-in_err-check-in-Check-clause-begins
+returns-in_err-check-in-Check-clause-begins g c = unchanged_holds c.args.command.now _ (g.T.LogSink.tells c.args.trace.now)
+    (g.met.T.LogSink.one_reading c.args.trace.now)
+
+pub returns-in_ok-made-in-Make-clause-begins : goal.returns-in_ok-made-in-Make-clause-begins
+returns-in_ok-made-in-Make-clause-begins g c = unchanged_holds c.args.command.now _ (g.T.LogSink.tells c.args.trace.now)
+    (g.met.T.LogSink.one_reading c.args.trace.now)
+
+pub returns-in_err-made-in-Make-clause-begins : goal.returns-in_err-made-in-Make-clause-begins
+returns-in_err-made-in-Make-clause-begins g c = unchanged_holds c.args.command.now _ (g.T.LogSink.tells c.args.trace.now)
+    (g.met.T.LogSink.one_reading c.args.trace.now)
+
+pub returns-in_ok-recheck-in-Recheck-clause-begins : goal.returns-in_ok-recheck-in-Recheck-clause-begins
+returns-in_ok-recheck-in-Recheck-clause-begins g c = unchanged_holds c.args.command.now _ (g.T.LogSink.tells c.args.trace.now)
+    (g.met.T.LogSink.one_reading c.args.trace.now)
+
+pub returns-in_err-recheck-in-Recheck-clause-begins : goal.returns-in_err-recheck-in-Recheck-clause-begins
+returns-in_err-recheck-in-Recheck-clause-begins g c = unchanged_holds c.args.command.now _ (g.T.LogSink.tells c.args.trace.now)
+    (g.met.T.LogSink.one_reading c.args.trace.now)
+
+pub returns-in-Trim-clause-begins : goal.returns-in-Trim-clause-begins
+returns-in-Trim-clause-begins g c = unchanged_holds c.args.command.now _ (g.T.LogSink.tells c.args.trace.now)
+    (g.met.T.LogSink.one_reading c.args.trace.now)
+
+pub returns-in-Draw-clause-begins : goal.returns-in-Draw-clause-begins
+returns-in-Draw-clause-begins g c =
+    held_as c.args.command.now _ (between (g.F.Files.at c.args.files.now) (g.F.Files.at c.draw.new.files)) (g.T.LogSink.tells c.args.trace.now)
+    (g.T.LogSink.tells c.draw.new.trace) c.in-Draw.is (λ none lines is. tt)
+
+pub returns-in-Trial-clause-begins : goal.returns-in-Trial-clause-begins
+returns-in-Trial-clause-begins g c =
+    held_as c.args.command.now _ (between (g.F.Files.at c.args.files.now) (g.F.Files.at c.args.files.now)) (g.T.LogSink.tells c.args.trace.now)
+    (g.T.LogSink.tells c.trial.new.log) c.in-Trial.is (λ none lines is. tt)
+
+pub returns-in-Signals-clause-begins : goal.returns-in-Signals-clause-begins
+returns-in-Signals-clause-begins g c =
+    held_as c.args.command.now _ (between (g.F.Files.at c.args.files.now) (g.F.Files.at c.signals.new.files)) (g.T.LogSink.tells c.args.trace.now)
+    (g.T.LogSink.tells c.signals.new.trace) c.in-Signals.is (λ none lines is. tt)
+
+pub returns-in-Redraw-clause-begins : goal.returns-in-Redraw-clause-begins
+returns-in-Redraw-clause-begins g c =
+    held_as c.args.command.now _ (between (g.F.Files.at c.args.files.now) (g.F.Files.at c.redraw.new.files)) (g.T.LogSink.tells c.args.trace.now)
+    (g.T.LogSink.tells c.redraw.new.trace) c.in-Redraw.is (λ none lines is. tt)
+
+pub returns-in-Front-clause-begins : goal.returns-in-Front-clause-begins
+returns-in-Front-clause-begins g c =
+    let met = between (g.F.Files.at c.args.files.now) (g.F.Files.at c.front.new.files) in
+    let x = c.in-Front in
+    held_as c.args.command.now _ met (g.T.LogSink.tells c.args.trace.now) (g.T.LogSink.tells c.front.new.trace) x.is
+    (front_holds g.T.LogSink.tells g.T.LogSink.learnt c.args.trace.now c.front.new.trace x.input met (front_job x.grid x.first x.second x.budget) c.front.result
+    (g.met.T.LogSink.one_reading c.front.new.trace) c.front.ensures.left c.front.ensures.answer c.front.ensures.untold)
+
+pub returns-in-Explain-clause-begins : goal.returns-in-Explain-clause-begins
+returns-in-Explain-clause-begins g c =
+    let met = between (g.F.Files.at c.args.files.now) (g.F.Files.at c.explain.new.files) in
+    let x = c.in-Explain in
+    held_as c.args.command.now _ met (g.T.LogSink.tells c.args.trace.now) (g.T.LogSink.tells c.explain.new.trace) x.is
+    (explain_holds g.T.LogSink.tells g.T.LogSink.learnt c.args.trace.now c.explain.new.trace x.input met (explain_job x.grid x.budget) c.explain.result
+    (g.met.T.LogSink.one_reading c.explain.new.trace) c.explain.ensures.left c.explain.ensures.answer c.explain.ensures.untold)

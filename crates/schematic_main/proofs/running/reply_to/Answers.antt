@@ -1,5 +1,5 @@
 use Rattle.std.specs.Prelude.{IsOkAnd}
-use Rattle.std.proofs.Common.{subst, length, inl, inr}
+use Rattle.std.proofs.Common.{[], subst, length, inl, inr}
 use Rattle.std.proofs.lemmas.Result.{IfOk-weaker}
 use Rattle.plan_words.specs.declared.command.Command.{Command}
 use Rattle.plan_words.specs.Arguments.{texts_of}
@@ -61,3 +61,15 @@ returns-in_ok-fault_reply-in-Err-Words-clause-derives g c = new_unchanged (g.T.L
 
 pub returns-in-Err-Memory-clause-derives : goal.returns-in-Err-Memory-clause-derives
 returns-in-Err-Memory-clause-derives g c = new_unchanged (g.T.LogSink.tells c.args.trace.now) (g.met.T.LogSink.one_reading c.args.trace.now)
+
+pub returns-in-Ok-clause-begins : goal.returns-in-Ok-clause-begins
+returns-in-Ok-clause-begins g c = λ none lines is. inr (c.in-Ok.command, c.in-Ok.ensures.value, c.answer_to.ensures.begins none lines is)
+
+pub returns-in_err-fault_reply-in-Err-Words-clause-begins : goal.returns-in_err-fault_reply-in-Err-Words-clause-begins
+returns-in_err-fault_reply-in-Err-Words-clause-begins g c = λ none lines is. inl (g.met.T.LogSink.one_reading c.args.trace.now lines [] is none)
+
+pub returns-in_ok-fault_reply-in-Err-Words-clause-begins : goal.returns-in_ok-fault_reply-in-Err-Words-clause-begins
+returns-in_ok-fault_reply-in-Err-Words-clause-begins g c = λ none lines is. inl (g.met.T.LogSink.one_reading c.args.trace.now lines [] is none)
+
+pub returns-in-Err-Memory-clause-begins : goal.returns-in-Err-Memory-clause-begins
+returns-in-Err-Memory-clause-begins g c = λ none lines is. inl (g.met.T.LogSink.one_reading c.args.trace.now lines [] is none)

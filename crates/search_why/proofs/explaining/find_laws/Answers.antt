@@ -1,18 +1,18 @@
-use Rattle.std.proofs.Common.{[], ◌++◌, List, ℕ, sym, ◌∙◌, ap, subst, append_assoc}
-use Rattle.std.specs.Prelude.{IfOk}
+use Rattle.std.proofs.Common.{◌⊎◌, [], ◌++◌, List, ℕ, sym, ◌∙◌, ap, subst, append_assoc, inl}
+use Rattle.std.specs.Prelude.{All, IfOk}
 use Rattle.std.proofs.lemmas.Result.{IfOk-weaker}
 use Rattle.refute_log.specs.Told.{Lines}
 use Rattle.search_why.specs.declared.oracle.Reply.{Reply}
 use Rattle.search_why.specs.Task.{Task, HasAllLaws}
-use Rattle.search_why.specs.Narrowed.{countdown}
+use Rattle.search_why.specs.Narrowed.{countdown, TellsNarrowed}
 use Rattle.refute_log.specs.Steps.{Continues, Leaves}
 use Rattle.refute_log.specs.Cause.{IsCause}
-use Rattle.search_why.specs.Asked.{AreLawPlaces, IsRightReply, NoneMeetsLaws, TellsReply}
+use Rattle.search_why.specs.Asked.{AreLawPlaces, IsRightReply, NoneMeetsLaws, NoneMeetsAll, IsNoModel, TellsReply}
 use Rattle.search_why.specs.Outcome.{IsRightOutcome, TellsOutcome}
 use Rattle.refute_log.proofs.StepLemmas.{AnyLines, goes_on, becomes, leaves_same, on_err_weaker}
 use Rattle.search_why.proofs.NarrowLemmas.{first_refuted}
 use Rattle.search_why.proofs.LeftLemmas.{left_later}
-use Rattle.search_why.proofs.OutcomeLemmas.{all_places_are, found_all}
+use Rattle.search_why.proofs.OutcomeLemmas.{all_places_are, found_all, none_at_all, narrowed_tells}
 use Rattle.search_why.proofs.explaining.find_laws.Goals as goal
 use Rattle.outside_io.proofs.Results.{on_err_anyway}
 
@@ -38,7 +38,7 @@ returns-in-Found-clause-right g c = let o = g.O.LawOracle in
 pub returns-in-Found-clause-lines : goal.returns-in-Found-clause-lines
 returns-in-Found-clause-lines g c = let o = g.O.LawOracle in
     let p = o.task c.args.oracle.now in
-    becomes o.knows o.log o.learnt c.args.oracle.now c.ask.new.self (λ lines more. TellsReply p c.in_ok-d.field-0 (lines ++ more)) AnyLines
+    becomes o.knows o.log o.learnt c.args.oracle.now c.ask.new.self (λ lines more. TellsReply p c.in_ok-d.field-0 lines more) AnyLines
     c.in_ok-d.ensures.lines (λ lines xs ka kb q. tt)
 
 pub narrow-requires-clause-ready : goal.narrow-requires-clause-ready
@@ -76,14 +76,22 @@ returns-in-Refuted-clause-lines g c = let o = g.O.LawOracle in
     let a = c.args.oracle.now in
     let b = c.ask.new.self in
     let e = c.narrow.new.oracle in
+    let p = o.task a in
+    let start : AreLawPlaces p c.in_ok-all.all.items = subst (λ (w : List ℕ). AreLawPlaces p w) (sym (c.in_ok-all.ensures ∙ ap countdown c.laws.ensures))
+    (all_places_are p) in
+    let right = subst (λ (w : List ℕ). IsRightReply p w c.in_ok-d.field-0) c.deref.ensures.value c.in_ok-d.ensures.right in
+    let both = first_refuted p c.in_ok-all.all.items c.in-Refuted.core c.as_slice.result.now c.keep_only.new.places.items c.in_ok-d.field-0 start
+    c.in-Refuted.is right c.as_slice.ensures c.keep_only.ensures in
+    let none = none_at_all p c.keep_only.new.places.items both.0 both.1 in
     IfOk-weaker c.narrow.result
-    (λ x. Continues o.knows o.log o.learnt b e (λ lines more. TellsOutcome (o.task b) x (lines ++ more)))
-    (λ x. Continues o.knows o.log o.learnt a e (λ lines more. TellsOutcome (o.task a) x (lines ++ more)))
-    (λ x run. goes_on o.knows o.log o.learnt a b e (λ lines more. TellsReply (o.task a) c.in_ok-d.field-0 (lines ++ more))
-    (λ lines more. TellsOutcome (o.task b) x (lines ++ more)) (λ lines more. TellsOutcome (o.task a) x (lines ++ more))
+    (λ x. Continues o.knows o.log o.learnt b e (λ lines more. TellsNarrowed (o.task b) x (lines ++ more)))
+    (λ x. Continues o.knows o.log o.learnt a e (λ lines more. TellsOutcome (o.task a) x lines more))
+    (λ x run. goes_on o.knows o.log o.learnt a b e (λ lines more. TellsReply (o.task a) c.in_ok-d.field-0 lines more)
+    (λ lines more. TellsNarrowed (o.task b) x (lines ++ more)) (λ lines more. TellsOutcome (o.task a) x lines more)
     c.in_ok-d.ensures.lines run
-    (λ lines xs ys ka kb ke r s. subst (λ (t : Task). TellsOutcome t x (lines ++ (xs ++ ys))) c.in_ok-d.ensures.task
-    (subst (λ (ls : Lines). TellsOutcome (o.task b) x ls) (append_assoc lines xs ys) s)))
+    (λ lines xs ys ka kb ke r s. narrowed_tells p x lines (xs ++ ys) none
+    (subst (λ (t : Task). TellsNarrowed t x (lines ++ (xs ++ ys))) c.in_ok-d.ensures.task
+    (subst (λ (ls : Lines). TellsNarrowed (o.task b) x ls) (append_assoc lines xs ys) s))))
     c.narrow.ensures.lines
 
 pub returns-in-Refuted-clause-leaves : goal.returns-in-Refuted-clause-leaves
@@ -92,12 +100,12 @@ returns-in-Refuted-clause-leaves g c = let o = g.O.LawOracle in
     let b = c.ask.new.self in
     let e = c.narrow.new.oracle in
     on_err_weaker c.narrow.result (Leaves [] (o.knows b) (o.log b) (o.log e)) (Leaves [] (o.knows a) (o.log a) (o.log e))
-    (left_later o.knows o.log o.learnt o.task a b e (λ lines more. TellsReply (o.task a) c.in_ok-d.field-0 (lines ++ more)) c.in_ok-d.ensures.lines
+    (left_later o.knows o.log o.learnt o.task a b e (λ lines more. TellsReply (o.task a) c.in_ok-d.field-0 lines more) c.in_ok-d.ensures.lines
     g.met.O.LawOracle.gives c.in_ok-d.ensures.task) c.narrow.ensures.leaves
 
 pub returns-in-Stopped-clause-lines : goal.returns-in-Stopped-clause-lines
 returns-in-Stopped-clause-lines g c = let o = g.O.LawOracle in
     let p = o.task c.args.oracle.now in
-    becomes o.knows o.log o.learnt c.args.oracle.now c.ask.new.self (λ lines more. TellsReply p c.in_ok-d.field-0 (lines ++ more))
-    (λ lines more. IsCause p.budget p.room c.in-Stopped.stop (lines ++ more)) c.in_ok-d.ensures.lines
-    (λ lines xs ka kb q. subst (λ (r : Reply). TellsReply p r (lines ++ xs)) c.in-Stopped.is q)
+    becomes o.knows o.log o.learnt c.args.oracle.now c.ask.new.self (λ lines more. TellsReply p c.in_ok-d.field-0 lines more)
+    (λ lines more. IsCause p.budget p.room c.in-Stopped.stop (lines ++ more) × (All IsNoModel more ⊎ NoneMeetsAll p)) c.in_ok-d.ensures.lines
+    (λ lines xs ka kb q. let t = subst (λ (r : Reply). TellsReply p r lines xs) c.in-Stopped.is q in (t.0, inl t.1))

@@ -5,10 +5,10 @@ use Rattle.refute_log.specs.Told.{Lines}
 use Rattle.refute_log.specs.declared.stop.Stop.{Stop}
 use Rattle.search_why.specs.declared.outcome.Outcome.{Outcome}
 use Rattle.search_why.specs.Task.{Task}
-use Rattle.search_why.specs.Narrowed.{IsNarrowed}
+use Rattle.search_why.specs.Narrowed.{IsNarrowed, TellsNarrowed}
 use Rattle.refute_log.specs.Cause.{IsCause}
 use Rattle.search_why.specs.Asked.{TellsStop}
-use Rattle.search_why.specs.Outcome.{IsRightOutcome, TellsOutcome}
+use Rattle.search_why.specs.Outcome.{IsRightOutcome}
 use Rattle.refute_log.proofs.StepLemmas.{AnyLines, stays, goes_on, becomes}
 use Rattle.search_why.proofs.NarrowLemmas.{narrow_none, nothing_left}
 use Rattle.search_why.proofs.LeftLemmas.{left_later}
@@ -97,6 +97,6 @@ returns-clause-right g c = let o = g.O.LawOracle in
 pub returns-clause-lines : goal.returns-clause-lines
 returns-clause-lines g c = let o = g.O.LawOracle in
     let p = o.task c.args.oracle.now in
-    becomes o.knows o.log o.learnt c.args.oracle.now c.loop-law.oracle AnyLines (λ lines more. TellsOutcome p c.finish.result (lines ++ more))
+    becomes o.knows o.log o.learnt c.args.oracle.now c.loop-law.oracle AnyLines (λ lines more. TellsNarrowed p c.finish.result (lines ++ more))
     c.loop-law.invariant.lines
-    (λ lines xs ka kb q. subst (λ (x : Outcome). TellsOutcome p x (lines ++ xs)) (sym c.finish.ensures) tt)
+    (λ lines xs ka kb q. subst (λ (x : Outcome). TellsNarrowed p x (lines ++ xs)) (sym c.finish.ensures) tt)

@@ -28,14 +28,14 @@ returns-in_err-d-clause-leaves g c = on_err_anyway _ _ c.in_err-d.ensures.leaves
 pub returns-in_err-push-in-Found-clause-leaves : goal.returns-in_err-push-in-Found-clause-leaves
 returns-in_err-push-in-Found-clause-leaves g c = let o = g.O.LawOracle in
     let p = o.task c.args.oracle.now in
-    on_err_anyway _ _ (left_here o.knows o.log o.learnt o.task c.args.oracle.now c.ask.new.self (λ lines more. TellsReply p c.in_ok-d.field-0 (lines ++ more))
+    on_err_anyway _ _ (left_here o.knows o.log o.learnt o.task c.args.oracle.now c.ask.new.self (λ lines more. TellsReply p c.in_ok-d.field-0 lines more)
     c.in_ok-d.ensures.lines
     g.met.O.LawOracle.gives c.in_ok-d.ensures.task g.met.O.LawOracle.derives g.met.O.LawOracle.one_reading)
 
 pub returns-in_err-push-in-Found-2-clause-leaves : goal.returns-in_err-push-in-Found-2-clause-leaves
 returns-in_err-push-in-Found-2-clause-leaves g c = let o = g.O.LawOracle in
     let p = o.task c.args.oracle.now in
-    on_err_anyway _ _ (left_here o.knows o.log o.learnt o.task c.args.oracle.now c.ask.new.self (λ lines more. TellsReply p c.in_ok-d.field-0 (lines ++ more))
+    on_err_anyway _ _ (left_here o.knows o.log o.learnt o.task c.args.oracle.now c.ask.new.self (λ lines more. TellsReply p c.in_ok-d.field-0 lines more)
     c.in_ok-d.ensures.lines
     g.met.O.LawOracle.gives c.in_ok-d.ensures.task g.met.O.LawOracle.derives g.met.O.LawOracle.one_reading)
 
@@ -51,7 +51,7 @@ returns-in-Found-clause-narrowed g c = λ e. let o = g.O.LawOracle in
 pub returns-in-Found-clause-lines : goal.returns-in-Found-clause-lines
 returns-in-Found-clause-lines g c = let o = g.O.LawOracle in
     let p = o.task c.args.oracle.now in
-    becomes o.knows o.log o.learnt c.args.oracle.now c.ask.new.self (λ lines more. TellsReply p c.in_ok-d.field-0 (lines ++ more)) AnyLines
+    becomes o.knows o.log o.learnt c.args.oracle.now c.ask.new.self (λ lines more. TellsReply p c.in_ok-d.field-0 lines more) AnyLines
     c.in_ok-d.ensures.lines (λ lines xs ka kb q. tt)
 
 pub returns-in-Refuted-clause-narrowed : goal.returns-in-Refuted-clause-narrowed
@@ -70,15 +70,15 @@ returns-in-Refuted-clause-fewer g c = filter_shorter (has_number c.as_slice.resu
 pub returns-in-Refuted-clause-lines : goal.returns-in-Refuted-clause-lines
 returns-in-Refuted-clause-lines g c = let o = g.O.LawOracle in
     let p = o.task c.args.oracle.now in
-    becomes o.knows o.log o.learnt c.args.oracle.now c.ask.new.self (λ lines more. TellsReply p c.in_ok-d.field-0 (lines ++ more)) AnyLines
+    becomes o.knows o.log o.learnt c.args.oracle.now c.ask.new.self (λ lines more. TellsReply p c.in_ok-d.field-0 lines more) AnyLines
     c.in_ok-d.ensures.lines (λ lines xs ka kb q. tt)
 
 pub returns-clause-lines : goal.returns-clause-lines
 returns-clause-lines g c = let o = g.O.LawOracle in
     let p = o.task c.args.oracle.now in
-    becomes o.knows o.log o.learnt c.args.oracle.now c.ask.new.self (λ lines more. TellsReply p c.in_ok-d.field-0 (lines ++ more))
+    becomes o.knows o.log o.learnt c.args.oracle.now c.ask.new.self (λ lines more. TellsReply p c.in_ok-d.field-0 lines more)
     (λ lines more. IsCause p.budget p.room c.in-Stopped.stop (lines ++ more)) c.in_ok-d.ensures.lines
-    (λ lines xs ka kb q. subst (λ (r : Reply). TellsReply p r (lines ++ xs)) c.in-Stopped.is q)
+    (λ lines xs ka kb q. (subst (λ (r : Reply). TellsReply p r lines xs) c.in-Stopped.is q).0)
 
 pub same-d : goal.same-d
 same-d g c = refl
