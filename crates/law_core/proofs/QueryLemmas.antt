@@ -71,11 +71,10 @@ answered p old new Spent assume cs lines ending learnt_are spent is_room given b
     count_of_search Spent assume cs lines ending ends ∙ (let e : length cs ≡ p.budget - old.learnt = has in let f : length (flat_map learnt lines) + length cs
     ≡ p.budget = omega (arith, e, learnt_are, spent) in f) in
     ((count, subst (λ (ls : Lines). Open (lines ++ ls)) (sym same) (is_open assume cs lines new belongs_so true_answer)), unmodelled assume cs ending ends)
-answered p old new Room assume cs lines ending learnt_are spent is_room given belongs ends has true_answer =
-    (
-      subst (NextClausePasses (lines ++ search_lines assume cs ending)) is_room (has_no_room (lines ++ search_lines assume cs ending) new belongs true_answer),
-      unmodelled assume cs ending ends,
-    )
+answered p old new Room assume cs lines ending learnt_are spent is_room given belongs ends has true_answer = (
+  subst (NextClausePasses (lines ++ search_lines assume cs ending)) is_room (has_no_room (lines ++ search_lines assume cs ending) new belongs true_answer),
+  unmodelled assume cs ending ends,
+)
 
 -- a Model line behind a query that has a model
 model_answers : (y : Layout) (budget room : ℕ) (k : Kept) (assume : List Literal) (before : Lines) → IsWhyFormula y →

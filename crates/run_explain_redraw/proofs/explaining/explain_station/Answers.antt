@@ -44,7 +44,8 @@ returns-in_err-reply_of-in-Ok-clause-left g c =
     let k = g.L.LogSink in
     let lines = c.in-Ok.ensures.lines in
     on_err_anyway _ _ (told_why_left c.asked.inside.grid.now c.asked.inside.budget c.args.asked.now c.args.station.now.graph c.args.station.now.order
-    c.in-Ok.why lines.0 (k.tells c.args.log.now) (k.tells c.explain.new.log) c.asked.view_is lines.2 (g.met.L.LogSink.one_reading c.explain.new.log) lines.1.behind)
+    c.in-Ok.why lines.0 (k.tells c.args.log.now) (k.tells c.explain.new.log) c.asked.view_is lines.2
+    (g.met.L.LogSink.one_reading c.explain.new.log) lines.1.behind)
 
 pub returns-in-Err-Log-clause-left : goal.returns-in-Err-Log-clause-left
 returns-in-Err-Log-clause-left g c = λ none lines is. left_of_parts c.asked.inside.grid.now c.asked.inside.budget c.args.asked.now c.args.station.now.graph
