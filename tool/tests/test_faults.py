@@ -229,8 +229,16 @@ class Provoked(unittest.TestCase):
     def test_files_of_other_kinds_are_called_what_they_are(self):
         for data, piece in ((b"PK\3\4zip", "a packed archive"), (b"%PDF-1.7", "a PDF"), (b'{"a": 1}', "JSON"),
                             (b"name;km\n", "no XML"), (b"text <railml>", "nothing but comments")):
-            with self.subTest(piece):
-                self.assertIn(piece, text_faults.notes("f", data, "Markup", 0, "railplan")[0].text)
+            for fault in ("Markup", "NotUtf8"):
+                with self.subTest(piece, fault=fault):
+                    said = text_faults.notes("f", data, fault, 0, "railplan")[0].text
+                    self.assertEqual(piece in said, fault == "Markup" or b"<" not in data)
+
+    def test_other_kinds_of_xml(self):
+        for name, piece in (("railML", "this is railML 3"), ("rail3:railML", "this is railML 3"), ("rail:railml", "the prefix rail:"),
+                            ("timetable", "the first element is timetable")):
+            with self.subTest(name):
+                self.assertIn(piece, text_faults.notes("f", f"<{name}/>".encode(), "Root", 0, "railplan")[0].text)
 
     def test_a_file_of_another_name_is_not_meant(self):
         for missing, meant in (("station.xm", "station.xml"), ("statoin.xml", "station.xml"), ("depot.xml", ""), ("statio.sheet", "")):
