@@ -255,8 +255,8 @@ def words_behind(given: list[str]) -> list[str]:
 def summary(records: list[Record]) -> str:
     """how many stations ended how, and how many have a certificate"""
     certified = folder_index.certified(records)
-    return f"{folder_index.stations(len(records))}: {folder_index.counts(records)}" + \
-        (f", {certified} with a certificate" if certified else "")
+    ended = f": {folder_index.counts(records)}" if records else ""
+    return folder_index.stations(len(records)) + ended + (f", {certified} with a certificate" if certified else "")
 
 
 def left_over(out: Path, names: list[str]) -> list[str]:
