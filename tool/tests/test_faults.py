@@ -106,6 +106,9 @@ FALLING = b"""<infrastructure><tracks>
 <trackEnd id="qe" pos="500" absPos="200"><openEnd/></trackEnd></trackTopology></track></tracks></infrastructure>"""
 # further ways in which a file can have such a fault: the file, the fault, a piece of what is said, and where else it points
 FURTHER = (
+    (edited((b'"W3"', b'"W2"')), "topology RepeatedId", "the id W2 is that of an earlier element too", "W2 is here first"),
+    (signals(b'id="s" pos="5"', b'id="s" pos="6"'), "signal RepeatedId", "the id s is that of an earlier element too", "s is here first"),
+    (edited((b'pos="310"', b'pos="1310"')), "topology OutsideTrack", "goes from 0 to 1250", "the track begins here"),
     ((TOP / "cases/stations/ring.xml").read_bytes(), "graph NotForward", "the track m is joined to itself", ""),
     (TWO, "graph SideMismatch", "two tracks are joined, and both lie on one side of it", "it is joined to the begin of track q"),
     (edited((b'"ki" ref="rd"', b'"ki" ref="sa"'), (b'"ko" ref="sa"', b'"ko" ref="rd"'), (b'"rd" ref="ki"', b'"rd" ref="ko"'),
@@ -221,7 +224,7 @@ class Provoked(unittest.TestCase):
     def test_further_ways_to_have_a_fault(self):
         for data, fault, piece, other in FURTHER:
             with self.subTest(piece):
-                found, notes = self.told(["graph", self.file("s.xml", data)])
+                found, notes = self.told(["signals" if fault.startswith("signal") else "graph", self.file("s.xml", data)])
                 self.assertEqual(found, fault)
                 self.assertIn(piece, notes[0].text)
                 self.assertEqual(bool(other), any(other in it.text for it in notes[1:] if other))
