@@ -4,7 +4,7 @@ import re
 from functools import partial
 from html import escape
 
-from checking.crates import TOP, read
+from checking.crates import TOP, read, show
 
 RESULTS = TOP / "bench" / "results"
 PLOT = TOP / "docs" / "made" / "peers.svg"
@@ -74,9 +74,20 @@ def peers_plot():
     return bars("Seconds to find the least values on a grid of 64 by 12", names[:-1], [(who, it[:-1]) for who, it in seconds.items()])
 
 
-def all_failures():
+def unwritten():
+    """Tables that no script of bench/ writes, so that nobody can repeat them."""
+    scripts = "".join(read(path) for path in sorted((TOP / "bench").glob("*.py")))
+    written = {*re.findall(r"""Table\("(\w+)\"""", scripts), "when"}
+    return [f"{show(path)}: no script of bench/ writes it" for path in sorted(RESULTS.glob("*.csv")) if path.stem not in written]
+
+
+def unknown_headings():
     """Words of docs/measured.md that are set as a table's heading and that no table has."""
     heads = {word.lower() for path in RESULTS.glob("*.csv") for word in rows_of(path.stem)[0]}
     text = re.sub(r"<!-- made: .*?<!-- end -->|\*\*[^*]*\*\*", "", read(TOP / "docs" / "measured.md"), flags=re.S)
     return [f"docs/measured.md: no table has a heading {word}" for word in re.findall(r"(?<!\*)\*([^*\n]+)\*(?!\*)", text)
             if word.lower() not in heads]
+
+
+def all_failures():
+    return unwritten() + unknown_headings()
