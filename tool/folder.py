@@ -26,8 +26,11 @@ class Words(argparse.ArgumentParser):
     def error(self, message: str) -> NoReturn:
         missing = message.partition("arguments are required: ")[2]
         extra = message.partition("unrecognized arguments: ")[2]
+        option, is_option, wrong = message.removeprefix("argument ").partition(": ")
         said = f"{missing.replace(', ', ' and ')} {'are' if ',' in missing else 'is'} missing" if missing else \
             f"folder has no word `{extra}`" if extra else message
+        if is_option and message.startswith("argument "):
+            said = f"behind {option} its value is missing" if wrong == "expected one argument" else f"{option}: {wrong}"
         end(2, f"{said}: {called()} {FORM}")
 
 

@@ -324,6 +324,7 @@ class Folders(InClone):
         self.stations("a")
         for more, piece in ((["--shard", "3/2"], "`3/2` is no part"), (["-j", "0"], "no number of stations"),
                             (["--width", "65"], "`65` can't be behind --width"), (["x"], "folder has no word `x`"),
+                            (["-j"], "railplan: behind -j its value is missing: "), (["--shard", "2"], "railplan: --shard: `2` is no part"),
                             (["--svg", "s"], "folder has no word `--svg s`")):
             with self.subTest(more):
                 status, out, err = self.folder(*more)
