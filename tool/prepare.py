@@ -11,10 +11,11 @@ from decimal import Decimal, InvalidOperation
 from shlex import quote
 from xml.parsers import expat
 
-from tool import files, railml, words
+from tool import files, railml, text_faults, words
 from tool.places import of_byte
 from tool.railml import Element
 from tool.saying import called, end, say, why, write_error
+from tool.telling import too_long, unread
 from tool.topology_faults import lacks, leads_nowhere
 
 MARK = "prepared by railplan; no part of what is proved"
@@ -22,21 +23,27 @@ TAG = re.compile(rb"<[^\s/>]+(?:\s+[^\s=<>]+\s*=\s*(?:\"[^\"]*\"|'[^']*'))*\s*/?
 DECLARED = re.compile(r"""<\?xml[^>]*?encoding\s*=\s*["']([^"'<>]+)["']""")
 READ_AS = re.compile(r"\s*[+-]?(\d{1,9}(\.\d{0,6})?|\.\d{1,6})\s*")
 MEASURED = (*railml.ENDS, *railml.POINTS, "signal")
+# the bytes that are read: in UTF-16 a file has twice as many, and other encodings of one sign have up to four
+MOST = files.MOST_BYTES["railml"] * 4
 
 
 class Guess(Exception):
     """what the file doesn't say, and would have to be guessed"""
 
 
+class Unfit(Exception):
+    """why the file isn't one that can be mended"""
+
+
 Edit = tuple[int, int, bytes]
 
 
 class Prepared:
-    """A file's bytes while it is mended, as they were, the edits that lie between, and what was said of it: changes, what would
-    have to be guessed, and what to look at."""
+    """A file's bytes while it is mended, as they were, the edits that lie between, and what was said of it: why it isn't one that
+    can be mended, changes, what would have to be guessed, and what to look at."""
 
     def __init__(self, name: str, data: bytes):
-        self.name, self.data, self.source = name, data, data
+        self.name, self.data, self.source, self.unfit = name, data, data, ""
         self.edits: list[list[Edit]] = []
         self.changes: list[str] = []
         self.guesses: list[str] = []
@@ -248,6 +255,15 @@ def unknown_mileage(begin: Element) -> str:
 # ---- the file
 
 
+def refuse_others(it: Prepared) -> None:
+    """an empty file, packed ones, and what else has no tag where XML begins"""
+    if not it.data.strip():
+        raise Unfit(f"{it.at(0)}: {text_faults.unfinished(it.name, it.data, 0, called())}")
+    other = text_faults.no_xml(it.data)
+    if other:
+        raise Unfit(f"{it.at(0)}: this file is {other}")
+
+
 def refuse_text(it: Prepared) -> None:
     """what isn't XML is left to the program, which says what is wrong"""
     parser = expat.ParserCreate("UTF-8")
@@ -255,7 +271,14 @@ def refuse_text(it: Prepared) -> None:
         parser.Parse(it.data, True)
     except expat.ExpatError as error:
         place = of_byte(it.name, it.data, parser.ErrorByteIndex).head()
-        raise Guess(f"{place}: this isn't XML: {expat.ErrorString(error.code)}. {called()} graph {it.name} says more") from None
+        raise Unfit(f"{place}: this isn't XML: {expat.ErrorString(error.code)}. {called()} graph {quote(it.name)} says more") from None
+
+
+def refuse_root(it: Prepared) -> None:
+    """another kind of XML, as railML 3"""
+    first = railml.read(it.data).elements[0]
+    if first.name not in ("railml", "infrastructure"):
+        raise Unfit(f"{it.at(first.place)}: {text_faults.root(it.name, it.data, first.place, called())}")
 
 
 def with_mark(data: bytes) -> bytes:
@@ -271,14 +294,18 @@ def mended(name: str, data: bytes) -> Prepared:
     """the file as it is to be, with what was changed and what would have to be guessed"""
     it = Prepared(name, data)
     try:
+        refuse_others(it)
         mend_encoding(it)
         refuse_text(it)
         mend_prefix(it)
+        refuse_root(it)
         mend_numbers(it)
         mend_mileages(it)
         note_lacking(it)
     except Guess as guess:
         it.guesses.append(str(guess))
+    except Unfit as unfit:
+        it.unfit = str(unfit)
     return it
 
 
@@ -299,23 +326,39 @@ def refuse_other(out: str, source: str) -> None:
     except OSError as error:
         end(6, f"{out} is there, and can't be read to see who wrote it: {why(error)}. Name another file")
     if there.st_size and MARK.encode() not in begun:
-        end(2, f"{out} is there, and prepare didn't write it. Name another file, or delete it")
+        end(2, f"{out} is there, and nothing in it says that prepare wrote it. Name another file, or delete it")
+
+
+def read_whole(source: str) -> bytes:
+    """the file's bytes; what can't be read, or is too long, ends the run"""
+    try:
+        with open(source, "rb") as file:
+            data = file.read(MOST + 1)
+    except OSError:
+        end(5, unread(source))
+    if len(data) > MOST:
+        end(1, too_long(source, "railml"))
+    return data
 
 
 def run(line: words.Line) -> int:
     if len(line.words) != 3:
         end(2, f"prepare takes a file and a name for what is mended: {called()} prepare IN OUT")
     source, out = line.words[1:]
-    try:
-        with open(source, "rb") as file:
-            data = file.read(files.MOST_BYTES["railml"] * 4)
-    except OSError as error:
-        end(5, f"{source}: {why(error)}")
+    data = read_whole(source)
     refuse_other(out, source)
     it = mended(source, data)
-    write_error("".join(f"railplan: {said}\n" for said in it.changes + it.guesses + it.doubts))
+    write_error("".join(f"railplan: {said}\n" for said in [it.unfit] * bool(it.unfit) + it.changes + it.guesses + it.doubts))
+    if it.unfit:
+        end(1, "nothing is written")
     if it.guesses:
         end(1, f"nothing is written: {len(it.guesses)} {'thing' if len(it.guesses) == 1 else 'things'} would have to be guessed")
+    write(it, out)
+    return 0
+
+
+def write(it: Prepared, out: str) -> None:
+    """writes what is mended, or a copy of what needn't be, and says which of the two it is"""
     try:
         files.write_whole(out, with_mark(it.data) if it.changes else it.data)
     except OSError as error:
@@ -324,6 +367,5 @@ def run(line: words.Line) -> int:
         count = f"{len(it.changes)} {'change' if len(it.changes) == 1 else 'changes'}"
         say(f"{out} is written: {count}. This is no part of what is proved. {called()} draw {quote(out)} says whether more is wrong")
     else:
-        say(f"{out} is a copy of {source}, as nothing in it is of a kind that prepare mends. {called()} draw {quote(source)} says whether "
-            "something is wrong")
-    return 0
+        say(f"{out} is a copy of {it.name}, as nothing in it is of a kind that prepare mends. {called()} draw {quote(it.name)} says "
+            "whether something is wrong")

@@ -108,21 +108,21 @@ class Stopped(InClone):
 
     def test_an_interrupt_while_the_launcher_is_read(self):
         self.write("tool/launch.py", "import os, signal, time\nos.kill(os.getpid(), signal.SIGINT)\ntime.sleep(9)\n")
-        self.assertEqual(self.launch("draw", "one.xml"), (130, "", "railplan: stopped\n"))
+        self.assertEqual(self.launch_anew("draw", "one.xml"), (130, "", "railplan: stopped\n"))
 
     def test_an_interrupt_that_python_would_pass_over(self):
         """an error in what takes an object away is only reported, and the run would go on"""
         self.write("tool/launch.py", "import os, signal\nclass Gone:\n    def __del__(self):\n"
                                      "        os.kill(os.getpid(), signal.SIGINT)\n        for _ in range(9): pass\n"
                                      "Gone()\ndef main(given, top):\n    return 7\n")
-        self.assertEqual(self.launch("draw", "one.xml"), (130, "", "railplan: stopped\n"))
+        self.assertEqual(self.launch_anew("draw", "one.xml"), (130, "", "railplan: stopped\n"))
 
     def test_an_interrupt_at_the_end_comes_too_late(self):
         """with the interpreter's own end an interrupt would be reported as an error of the run"""
         late = "import atexit, os, signal\ndef NAME(*given):\n" \
             "    atexit.register(lambda: os.kill(os.getpid(), signal.SIGINT))\n    return 3\n"
         self.write("tool/launch.py", late.replace("NAME", "main"))
-        self.assertEqual(self.launch("draw", "one.xml"), (3, "", ""))
+        self.assertEqual(self.launch_anew("draw", "one.xml"), (3, "", ""))
         self.write("pages/command.py", late.replace("NAME", "start"))
         ran = subprocess.run([sys.executable, "-SB", self.top / "pages/run.py", "railplan", "p", "draw", "one.xml"], text=True,
                              stdin=subprocess.DEVNULL, capture_output=True, timeout=60)

@@ -106,6 +106,9 @@ FALLING = b"""<infrastructure><tracks>
 <trackEnd id="qe" pos="500" absPos="200"><openEnd/></trackEnd></trackTopology></track></tracks></infrastructure>"""
 # further ways in which a file can have such a fault: the file, the fault, a piece of what is said, and where else it points
 FURTHER = (
+    (edited((b'"W3"', b'"W2"')), "topology RepeatedId", "the id W2 is that of an earlier element too", "W2 is here first"),
+    (signals(b'id="s" pos="5"', b'id="s" pos="6"'), "signal RepeatedId", "the id s is that of an earlier element too", "s is here first"),
+    (edited((b'pos="310"', b'pos="1310"')), "topology OutsideTrack", "goes from 0 to 1250", "the track begins here"),
     ((TOP / "cases/stations/ring.xml").read_bytes(), "graph NotForward", "the track m is joined to itself", ""),
     (TWO, "graph SideMismatch", "two tracks are joined, and both lie on one side of it", "it is joined to the begin of track q"),
     (edited((b'"ki" ref="rd"', b'"ki" ref="sa"'), (b'"ko" ref="sa"', b'"ko" ref="rd"'), (b'"rd" ref="ki"', b'"rd" ref="ko"'),
@@ -221,7 +224,7 @@ class Provoked(unittest.TestCase):
     def test_further_ways_to_have_a_fault(self):
         for data, fault, piece, other in FURTHER:
             with self.subTest(piece):
-                found, notes = self.told(["graph", self.file("s.xml", data)])
+                found, notes = self.told(["signals" if fault.startswith("signal") else "graph", self.file("s.xml", data)])
                 self.assertEqual(found, fault)
                 self.assertIn(piece, notes[0].text)
                 self.assertEqual(bool(other), any(other in it.text for it in notes[1:] if other))
@@ -229,8 +232,16 @@ class Provoked(unittest.TestCase):
     def test_files_of_other_kinds_are_called_what_they_are(self):
         for data, piece in ((b"PK\3\4zip", "a packed archive"), (b"%PDF-1.7", "a PDF"), (b'{"a": 1}', "JSON"),
                             (b"name;km\n", "no XML"), (b"text <railml>", "nothing but comments")):
-            with self.subTest(piece):
-                self.assertIn(piece, text_faults.notes("f", data, "Markup", 0, "railplan")[0].text)
+            for fault in ("Markup", "NotUtf8"):
+                with self.subTest(piece, fault=fault):
+                    said = text_faults.notes("f", data, fault, 0, "railplan")[0].text
+                    self.assertEqual(piece in said, fault == "Markup" or b"<" not in data)
+
+    def test_other_kinds_of_xml(self):
+        for name, piece in (("railML", "this is railML 3"), ("rail3:railML", "this is railML 3"), ("rail:railml", "the prefix rail:"),
+                            ("timetable", "the first element is timetable")):
+            with self.subTest(name):
+                self.assertIn(piece, text_faults.notes("f", f"<{name}/>".encode(), "Root", 0, "railplan")[0].text)
 
     def test_a_file_of_another_name_is_not_meant(self):
         for missing, meant in (("station.xm", "station.xml"), ("statoin.xml", "station.xml"), ("depot.xml", ""), ("statio.sheet", "")):

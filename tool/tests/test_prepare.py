@@ -22,6 +22,10 @@ def mended(text, encoding="utf-8"):
     return it.data.decode("utf-8", "replace"), it.changes, it.guesses
 
 
+def unfit(data):
+    return prepare.mended("s.xml", data).unfit
+
+
 class Mended(unittest.TestCase):
     def test_the_mileage_of_a_joined_begin(self):
         text, changes, guesses = mended(TRACK)
@@ -151,8 +155,17 @@ class Mended(unittest.TestCase):
         text = text.replace('xmlns="x"', 'xmlns="x" xmlns:r="y"')
         self.assertIn("isn't clear", mended(text)[2][0])
 
-    def test_what_is_no_xml(self):
-        self.assertIn("this isn't XML", mended(TRACK[:-5])[2][0])
+    def test_what_is_no_railml_2(self):
+        for data, said in ((TRACK[:-5].encode(), "this isn't XML: "), (b" \n", "s.xml:1:1: the file is empty. "),
+                           (b"\x1f\x8b\x08\xff", "this file is a packed file. Unpack it first"),
+                           (b"PK\3\4\xff", "this file is a packed archive. Unpack it, and name the railML file in it"),
+                           (b"name;km\n", "this file is no XML"),
+                           (b'<?xml version="1.0"?>\n<railML version="3.1"/>', "s.xml:2:1: this is railML 3, which isn't read"),
+                           (b'<r:railML xmlns:r="x"><r:infrastructure/></r:railML>', "s.xml:1:1: this is railML 3, which isn't read"),
+                           (b"<timetable/>", "the first element is timetable, so the file isn't railML 2")):
+            with self.subTest(data):
+                self.assertIn(said, unfit(data))
+        self.assertEqual(unfit(TRACK.encode()), "")
 
     def test_what_is_whole_stays_to_the_byte(self):
         whole = '<?xml version="1.0"?>\r\n' + mended(TRACK)[0] + "\n\n<!-- pos=\"1,5\" -->"
@@ -201,7 +214,7 @@ class Written(InClone):
                                ("none/s.xml", 6, "none isn't there. Make the folder"),
                                ("s.xml", 2, "s.xml is named twice. Name"), ("./s.xml", 2, "s.xml and ./s.xml are one file. Name"),
                                ("-", 2, "`-` is no name of a file that is written"),
-                               ("other.xml", 2, "is there, and prepare didn't write it")):
+                               ("other.xml", 2, "is there, and nothing in it says that prepare wrote it")):
             with self.subTest(out):
                 status, printed, err = self.prepare(out)
                 self.assertEqual((status, printed, err.count("\n")), (due, "", 1))
@@ -209,6 +222,22 @@ class Written(InClone):
         self.assertEqual((self.top / "other.xml").read_text(), "mine")
         self.assertTrue((self.top / "link.xml").is_symlink())
         self.assertFalse((self.top / "nosuch.xml").exists())
+
+    def test_what_cannot_be_mended_is_not_copied(self):
+        self.write("s.xml", '<railML version="3.1"/>')
+        status, out, err = self.prepare("new.xml")
+        self.assertEqual((status, out, (self.top / "new.xml").exists()), (1, "", False))
+        self.assertEqual(err, "railplan: s.xml:1:1: this is railML 3, which isn't read. Export the infrastructure as railML 2\n"
+                              "railplan: nothing is written\n")
+
+    def test_a_file_that_is_not_there_or_is_too_long(self):
+        for given, due, said in (("s.xm", 5, "s.xm isn't there. Did you mean s.xml?"), ("-", 5, "standard input is /dev/stdin"),
+                                 (".", 5, ". is a folder. Name one file in it"), ("long", 1, "long has more than 4 MiB")):
+            (self.top / "long").write_bytes(b" " * (prepare.MOST + 1))
+            status, out, err = self.launch("prepare", given, "new.xml")
+            with self.subTest(given):
+                self.assertEqual((status, out, err.count("\n")), (due, "", 1))
+                self.assertIn(said, err)
 
     def test_a_file_that_cannot_be_read(self):
         with mock.patch("builtins.open", side_effect=PermissionError(13, "Permission denied")), \
