@@ -5,7 +5,7 @@ from dataclasses import dataclass, field
 from typing import Callable, Optional
 
 from pages import cad, facts, faults, sentences, signs, texts
-from pages.drawing import Marks, Picture, Scene, draw
+from pages.drawing import Marks, Picture, Scene, alone, draw, small
 from pages.facts import Build, FileFacts, Provenance
 from pages.files import Input
 from pages.infrastructure import Infrastructure, read
@@ -451,6 +451,11 @@ PAGES: dict[str, Callable[[Run], Page]] = {"draw": draw_page, "signals": draw_pa
 def make(run: Run) -> Page:
     """the page of a run, or of its fault"""
     return PAGES[run.command](run) if run.status in ANSWERED else fault_page(run)
+
+
+def small_of(page: Page, style: str) -> str:
+    """the drawing of a page as a small picture; nothing where it has none"""
+    return f"{alone(small(page.scene), style, page.scene.title or 'the drawing')}\n" if page.scene else ""
 
 
 def dxf_of(page: Page) -> str:
