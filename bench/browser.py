@@ -129,7 +129,9 @@ class Tab:
         """opens a page; how many seconds it took until it was laid out"""
         self.browser.events.clear()
         began = time.time()
-        self.ask("Page.navigate", url=page.resolve().as_uri() + part)
+        failed = self.ask("Page.navigate", url=page.resolve().as_uri() + part).get("errorText")
+        if failed:
+            raise Gone(f"{page}: {failed}")
         until = began + SECONDS
         while time.time() < until:
             ready = self.ask("Runtime.evaluate", expression="document.readyState + location.protocol", returnByValue=True)
