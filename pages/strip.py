@@ -5,7 +5,7 @@ import math
 from typing import TYPE_CHECKING, Optional
 
 from pages import places, signs
-from pages.columns import BEYOND, Columns, Strip
+from pages.columns import BEYOND, Columns, Strip, last_row
 from pages.markup import Element, element
 from pages.places import Box, Field, Line, Name, Sign, Spot, Wish
 from pages.signs import shown, spots
@@ -345,8 +345,7 @@ class StripPlan:
 
     def put_grid(self, box: Box) -> None:
         """the columns and rows, which are shown where they are asked for"""
-        rows = max([node.point[1] for node in self.scene.drawing.nodes]
-                   + [y for it in self.scene.drawing.edges for _, y in it.points])
+        rows = last_row(self.scene.drawing)
         for column in range(self.strip.first, self.strip.last + 1):
             x = self.x(column)
             self.grid.append(line_at("", (x, box[1]), (x, box[3])))
