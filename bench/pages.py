@@ -3,7 +3,7 @@
 
   measure   asks the browser how the pages of made stations come out, of six kinds, in six namings by turns or in all
   drive     drives each interaction of each kind of page
-  largest   opens the page of 120 nodes, 158 pieces and 512 signals, and says how long that takes
+  largest   opens the page of 120 nodes, 158 pieces and 512 signals, and says how much processor time that takes
   planted   plants wrong lines in a copy of pages/, and says which the tests of the package don't see
   dxf       has LibreCAD's dxf2pdf print the drawings of some stations
 
@@ -336,9 +336,9 @@ def largest(words: argparse.Namespace) -> list[tuple[str, list[str]]]:
     from largest_page import page_text_of_largest
     with tempfile.TemporaryDirectory() as folder, Browser() as browser:
         page = Path(folder) / "largest.html"
-        began = time.time()
+        began = time.process_time()
         page.write_text(page_text_of_largest(), encoding="utf-8")
-        made = time.time() - began
+        made = time.process_time() - began
         tab = Tab(browser)
         seconds = min(tab.open(page) for _ in range(3))
         rows, size = tab.run("rows.length"), page.stat().st_size
