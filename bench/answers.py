@@ -10,13 +10,6 @@ import subprocess
 from pathlib import Path
 
 SECONDS = 3600
-LAUNCHER = """import os, sys
-sys.path.insert(0, {bench!r})
-from answers import Answers
-status, output = Answers({program!r}, {folder!r}).of(sys.argv[1:])
-sys.stdout.buffer.write(output)
-sys.exit(status)
-"""
 
 
 class Answers:
@@ -43,7 +36,3 @@ class Answers:
             part.replace(path)
         status, _, output = path.read_bytes().partition(b"\n")
         return int(status), output
-
-    def launcher(self) -> str:
-        """what the pages start in the launcher's place: it asks here"""
-        return LAUNCHER.format(bench=str(Path(__file__).resolve().parent), program=self.program, folder=str(self.folder))

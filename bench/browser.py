@@ -108,7 +108,7 @@ class Tab:
         self.browser = browser
         self.target = browser.ask("Target.createTarget", url="about:blank")["targetId"]
         self.session = browser.ask("Target.attachToTarget", targetId=self.target, flatten=True)["sessionId"]
-        for domain in ("Page", "Runtime", "Network"):
+        for domain in ("Page", "Runtime", "Network", "Performance"):
             self.ask(f"{domain}.enable")
         self.size(width, height)
 
@@ -125,11 +125,17 @@ class Tab:
         features = [{"name": "prefers-color-scheme", "value": "dark" if dark else "light"}]
         self.ask("Emulation.setEmulatedMedia", media=media, features=features)
 
+    def spent(self) -> float:
+        """the processor time of the process that the page is in"""
+        return next(it["value"] for it in self.ask("Performance.getMetrics")["metrics"] if it["name"] == "ProcessTime")
+
     def open(self, page: Path, part: str = "") -> float:
-        """opens a page; how many seconds it took until it was laid out"""
+        """opens a page; how many seconds of processor time it took until it was laid out"""
         self.browser.events.clear()
-        began = time.time()
-        self.ask("Page.navigate", url=page.resolve().as_uri() + part)
+        began, before = time.time(), self.spent()
+        failed = self.ask("Page.navigate", url=page.resolve().as_uri() + part).get("errorText")
+        if failed:
+            raise Gone(f"{page}: {failed}")
         until = began + SECONDS
         while time.time() < until:
             ready = self.ask("Runtime.evaluate", expression="document.readyState + location.protocol", returnByValue=True)
@@ -137,7 +143,9 @@ class Tab:
                 self.ask("Runtime.evaluate",
                          expression="new Promise(r => requestAnimationFrame(() => requestAnimationFrame(r)))",
                          awaitPromise=True)
-                return time.time() - began
+                now = self.spent()
+                # a page in a new process begins at nothing
+                return now - before if now > before else now
             time.sleep(0.01)
         raise Gone(f"{page} isn't loaded")
 

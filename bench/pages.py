@@ -3,7 +3,7 @@
 
   measure   asks the browser how the pages of made stations come out, of six kinds, in six namings by turns or in all
   drive     drives each interaction of each kind of page
-  largest   opens the page of 120 nodes, 158 pieces and 512 signals, and says how long that takes
+  largest   opens the page of 120 nodes, 158 pieces and 512 signals, and says how much processor time that takes
   planted   plants wrong lines in a copy of pages/, and says which the tests of the package don't see
   dxf       has LibreCAD's dxf2pdf print the drawings of some stations
 
@@ -24,7 +24,8 @@ import tempfile
 import time
 from concurrent.futures import ProcessPoolExecutor
 from dataclasses import asdict, dataclass, field
-from functools import partial
+from functools import cache, partial
+from multiprocessing.util import Finalize
 from pathlib import Path
 from typing import Callable, Iterator
 
@@ -36,8 +37,13 @@ import page_stations  # noqa: E402
 from answers import Answers  # noqa: E402
 from browser import Browser, Gone, Tab  # noqa: E402
 from measuring import Table  # noqa: E402
+from pages import command  # noqa: E402
 from pages.columns import MM, room_on  # noqa: E402
+from pages.kinds import Run, make  # noqa: E402
 from pages.tests.drawn import faults_of_names, faults_of_signs, Drawn, Written  # noqa: E402
+from pages.texts import NoPage  # noqa: E402
+from pages.whole import page_text  # noqa: E402
+from tool import words as words_of_program  # noqa: E402
 
 PROGRAM = TOP / "crates/railplan_main/out/railplan_main"
 SAMPLES = TOP / "pages/tests/samples"
@@ -83,12 +89,11 @@ def program(*words: str) -> tuple[int, str]:
     return ran.returncode, ran.stdout.decode("utf-8", "replace")
 
 
-def run_pages(*words: str, launcher: str = f"import os, sys\nos.execv({str(PROGRAM)!r}, ['railplan_main', *sys.argv[1:]])\n"
-              ) -> tuple[int, str]:
+def run_pages(*words: str) -> tuple[int, str]:
     """runs the pages as the launcher does, with the program that is there: nothing is built; the status, and what was printed"""
     with tempfile.TemporaryDirectory() as folder:
         file = Path(folder) / "launcher"
-        file.write_text(launcher, encoding="utf-8")
+        file.write_text(f"import os, sys\nos.execv({str(PROGRAM)!r}, ['railplan_main', *sys.argv[1:]])\n", encoding="utf-8")
         ran = subprocess.run([sys.executable, str(TOP / "pages/run.py"), str(file), *words], capture_output=True, timeout=3600)
     return ran.returncode, ran.stdout.decode("utf-8", "replace")
 
@@ -151,20 +156,16 @@ class Looked:
 
 
 def look(tab: Tab, page: Path, paper: str = "A3") -> tuple[list[str], dict]:
-    """what is wrong with a page, as it is printed and on a phone"""
-    tab.size(round(room_on(paper)[0]), 1000)
-    tab.media("print")
-    seconds = tab.open(page)
-    seen = {**tab.run(SEEN), "seconds": seconds}
-    found = list(faults_of(seen))
-    found += [f"it asks for {it}" for it in tab.requests()] + tab.alarms()
+    """what is wrong with a page, on a phone and as it is printed; it is opened once"""
     tab.media()
     tab.size(390, 800, True)
-    tab.open(page)
-    if tab.run("document.documentElement.scrollWidth") > 390:
-        found.append("it is wider than a phone")
-    tab.size(1600, 1000)
-    return found, seen
+    seconds = tab.open(page)
+    wide = tab.run("document.documentElement.scrollWidth")
+    tab.size(round(room_on(paper)[0]), 1000)
+    tab.media("print")
+    seen = {**tab.run(SEEN), "seconds": seconds}
+    found = [*faults_of(seen), *(f"it asks for {it}" for it in tab.requests()), *tab.alarms()]
+    return found + ["it is wider than a phone"] * (wide > 390), seen
 
 
 class Files:
@@ -213,16 +214,39 @@ def pages_of(number: int, kinds: int, namings: int) -> Iterator[tuple[str, str]]
             yield KINDS[(number + at) % len(KINDS)], names[(number // len(KINDS) + number + at + turn) % len(names)]
 
 
-def looked(tab: Tab, files: Files, kind: str, launcher: str) -> Looked:
+class Asked(command.Program):
+    """the program in the pages' hands, which answers what it answered before"""
+
+    def __init__(self, answers: Answers) -> None:
+        self.answers = answers
+
+    def run(self, words: list[str], is_quiet: bool = False) -> tuple[int, bytes]:
+        return self.answers.of(words)
+
+
+def write_page(page: Path, words: list[str], answers: Answers) -> int:
+    """writes the page of a run as `--html` does, without another process; the run's status"""
+    line, asked = words_of_program.read(words), Asked(answers)
+    with tempfile.TemporaryDirectory() as folder:
+        inputs, copied = command.read_inputs(line, Path(folder))
+        status, output = asked.run(copied)
+        run = Run(words, line.names, line.options, output.decode("utf-8", "replace"), status, inputs, page=str(page), copied=copied)
+        command.complete(run, asked, line)
+    page.write_text(page_text(make(run)), encoding="utf-8", errors="replace")
+    return status
+
+
+def looked(files: Files, kind: str) -> Looked:
     """a page that is made, opened and looked at, or what is kept of that"""
     page = Path(f"{files.stem}.{kind}.html")
     kept, found = page.with_suffix(".seen"), Looked(kind, page.name)
     if kept.exists():
         return Looked(**json.loads(kept.read_text(encoding="utf-8")))
     try:
-        status, _ = run_pages(str(page), *files.words(kind), launcher=launcher)
-        found.faults, seen = look(tab, page)
-    except (Gone, OSError, subprocess.TimeoutExpired) as error:
+        status = write_page(page, files.words(kind), files.answers)
+        found.faults, seen = look(open_tab(), page)
+    except (Gone, NoPage, OSError, subprocess.TimeoutExpired) as error:
+        open_tab.cache_clear()
         found.faults = [repr(error)]
         return found
     texts = [it for picture in seen["pictures"] for it in picture["texts"]]
@@ -234,16 +258,19 @@ def looked(tab: Tab, files: Files, kind: str, launcher: str) -> Looked:
     return found
 
 
+@cache
+def open_tab() -> Tab:
+    """the one tab of this process's browser, which ends with the process"""
+    browser = Browser()
+    Finalize(None, browser.close, exitpriority=1)
+    return Tab(browser)
+
+
 def measured(number: int, folder: Path, kinds: int, namings: int) -> list[Looked]:
     """the pages of a station"""
     (folder / "answers").mkdir(exist_ok=True)
     answers = Answers(str(PROGRAM), str(folder / "answers"))
-    found = []
-    with Browser() as browser:
-        tab = Tab(browser)
-        for kind, naming in pages_of(number, kinds, namings):
-            found.append(looked(tab, Files(number, naming, folder, answers), kind, answers.launcher()))
-    return found
+    return [looked(Files(number, naming, folder, answers), kind) for kind, naming in pages_of(number, kinds, namings)]
 
 
 def measure(words: argparse.Namespace) -> list[tuple[str, list[str]]]:
@@ -309,9 +336,9 @@ def largest(words: argparse.Namespace) -> list[tuple[str, list[str]]]:
     from largest_page import page_text_of_largest
     with tempfile.TemporaryDirectory() as folder, Browser() as browser:
         page = Path(folder) / "largest.html"
-        began = time.time()
+        began = time.process_time()
         page.write_text(page_text_of_largest(), encoding="utf-8")
-        made = time.time() - began
+        made = time.process_time() - began
         tab = Tab(browser)
         seconds = min(tab.open(page) for _ in range(3))
         rows, size = tab.run("rows.length"), page.stat().st_size

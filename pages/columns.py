@@ -63,6 +63,10 @@ def last_column(drawings: Iterable[Drawing]) -> int:
                 + [x for edge in one.edges for x, _ in edge.points]), default=0)
 
 
+def last_row(drawing: Drawing) -> int:
+    return max([it.point[1] for it in drawing.nodes] + [y for edge in drawing.edges for _, y in edge.points], default=0)
+
+
 def sloped_intervals(drawing: Drawing, last: int) -> list[bool]:
     """for each two columns side by side whether a line rises or falls between them"""
     found = [False] * last

@@ -19,7 +19,7 @@ from pages.facts import Build
 from pages.files import Input, Output, Refused, hashed, read_once
 from pages.kinds import ANSWERED, INPUTS, Run, Settings
 from pages.texts import Graph, NoPage
-from pages.whole import page_text
+from pages.whole import page_text, styles_of
 from tool import advice, built, files, running, telling
 from tool import words as table
 from tool.saying import Ended, is_terminal, say
@@ -28,6 +28,8 @@ from tool.version import VERSION
 USE = "a page is asked for by --html FILE and the words of draw, signals, front, explain, redraw or verify"
 CHOICES = {it.word: it.choices for it in table.PAGE_WORDS.values() if it.choices}
 FILES = ("--html", "--dxf", "--csv")
+# what the environment names: a small picture of the drawing, for an index
+SMALL = "RAILPLAN_SMALL"
 
 
 @dataclass
@@ -196,7 +198,8 @@ def write(run: Run, outputs: dict[str, Output]) -> None:
     """makes the page, and writes each file that is asked for"""
     page = kinds.make(run)
     made = {"--html": lambda: page_text(page, run.settings.paper), "--dxf": lambda: kinds.dxf_of(page),
-            "--csv": lambda: page.objects.csv() if page.objects else ""}
+            "--csv": lambda: page.objects.csv() if page.objects else "",
+            SMALL: lambda: kinds.small_of(page, styles_of(run.settings.paper)[1])}
     for word, output in outputs.items():
         text = made[word]()
         if text:
@@ -285,6 +288,8 @@ def start(given: list[str]) -> int:
         files.look(line)
         for word, name in asked.files.items():
             outputs[word] = Output(name)
+        if os.environ.get(SMALL):
+            outputs[SMALL] = Output(os.environ[SMALL])
         folder = tempfile.mkdtemp(prefix="railplan-")
         return run_asked(given[0], asked, Path(folder), outputs, is_open)
     except Refused as why:

@@ -10,7 +10,8 @@ import re
 from dataclasses import dataclass, field
 from typing import Callable, Iterator, Optional
 
-from pages.columns import BESIDE_CUT, LEVEL, ROW, SLOPED, Columns, Demand, cut, last_column, positions, room_on, sloped_intervals
+from pages.columns import BESIDE_CUT, LEVEL, ROW, SLOPED, Columns, Demand, Strip, cut, last_column, positions, room_on
+from pages.columns import last_row, sloped_intervals
 from pages.markup import Element, element, flat
 from pages.places import LONGEST, SIZES, NoPlace
 from pages.signs import shown
@@ -23,6 +24,10 @@ TRIES = 6
 TALL = 1.35
 WIDE = 3.0
 FULL = 1.6
+# what a page needs above and below the rows: its heading, names at the outer rows, and the scale
+BESIDE_ROWS = 230
+# how close the columns and rows of a small picture are to those of others
+SMALL = 0.75
 
 
 @dataclass
@@ -133,7 +138,8 @@ def layout(scene: Scene, wider: dict[int, float], taller: float) -> Columns:
     free = room - outer[0] - outer[1]
     grown = max(1.0, min(WIDE, free / at[-1])) if at[-1] else 1.0
     at = [x * grown for x in at]
-    columns = Columns(at, ROW * taller * min(TALL, max(1.0, grown * 0.8)))
+    high = (room_on(scene.paper)[1] - BESIDE_ROWS) / max(1, last_row(scene.drawing))
+    columns = Columns(at, min(ROW * taller * min(TALL, max(1.0, grown * 0.8)), max(ROW, high)))
     columns.strips = cut(at, sloped, room, outer)
     if len(columns.strips) > 1:
         columns.at = spread(columns, room, outer)
@@ -201,6 +207,16 @@ def last_tries(scene: Scene, wider: dict[int, float]) -> Picture:
         except NoPlace:
             continue
     raise NoPage("its names have no room")
+
+
+def small(scene: Scene) -> Picture:
+    """a picture to be seen beside others: in one strip, without names and scale, and with columns and rows close together"""
+    last = last_column([scene.drawing])
+    steps = [SMALL * (SLOPED if it else LEVEL) for it in sloped_intervals(scene.drawing, last)]
+    columns = Columns(positions(steps, []), SMALL * ROW, [Strip(0, last)])
+    plan = StripPlan(scene, columns, columns.strips[0], set())
+    plan.lay_bare()
+    return Picture([plan.svg()], [plan.box], columns)
 
 
 def without_hits(one: Element) -> Element:

@@ -25,9 +25,17 @@ class Excerpt:
 
 
 @dataclass
+class Sentence:
+    """a sentence, and the line of a file that it is about, where there is one"""
+    text: str
+    file: str = ""
+    line: int = 0
+
+
+@dataclass
 class Fault:
     """sentences, the program's own line, and the excerpts that they are about"""
-    sentences: list[str]
+    sentences: list[Sentence]
     line: str
     excerpts: list[Excerpt] = field(default_factory=list)
 
@@ -81,9 +89,16 @@ def excerpts(places: list[tuple[str, int]], inputs: list[Input]) -> list[Excerpt
 def of_run(words: list[str], output: str, status: int, inputs: list[Input]) -> Fault:
     """the fault that a run ended with; `words` are those that the program got, with the names of copies"""
     notes = notes_of(words, output, status)
+    names = {one.copy: one.facts.name for one in inputs if one.copy}
+    places = [(it.place.name, it.place.line) for it in notes if it.place]
+    sentences = [sentence(it, names) for it in notes]
     plain = f"The run ended with {status}: {ENDINGS.get(status, 'no more is known')}."
-    sentences = [ended(note.text) for note in notes] or [plain]
-    for one in inputs:
-        if one.copy:
-            sentences = [it.replace(one.copy, one.facts.name) for it in sentences]
-    return Fault(sentences, line_of(output), excerpts([(it.place.name, it.place.line) for it in notes if it.place], inputs))
+    return Fault(sentences or [Sentence(plain)], line_of(output), excerpts(places, inputs))
+
+
+def sentence(note: Note, names: dict[str, str]) -> Sentence:
+    """what a note says, with the names of files in the place of those of their copies"""
+    text = ended(note.text)
+    for copy, name in names.items():
+        text = text.replace(copy, name)
+    return Sentence(text, names.get(note.place.name, note.place.name), note.place.line) if note.place else Sentence(text)

@@ -5,7 +5,7 @@ from dataclasses import dataclass, field
 from typing import Callable, Optional
 
 from pages import cad, facts, faults, sentences, signs, texts
-from pages.drawing import Marks, Picture, Scene, draw
+from pages.drawing import Marks, Picture, Scene, alone, draw, small
 from pages.facts import Build, FileFacts, Provenance
 from pages.files import Input
 from pages.infrastructure import Infrastructure, read
@@ -263,8 +263,9 @@ def verify_page(run: Run) -> Page:
         page.badge = ("broken", f"law {law.number} is broken")
         page.lead = [law_item(law, sentences.broken(law, sheet.drawing, page.station), "b")]
     is_rising = not law or law.number > 2
-    page.draw(run.scene(sheet.drawing, page.station, marks=marks, has_scale=is_rising),
-              CAPTION if is_rising else "Not to scale, and mileages needn't rise from west to east here.")
+    caption = [CAPTION if is_rising else "Not to scale, and mileages needn't rise from west to east here."]
+    caption += [" The broken line is the grid's last column or row."] if marks.limits else []
+    page.draw(run.scene(sheet.drawing, page.station, marks=marks, has_scale=is_rising), *caption)
     add_values(page, sheet.values, sheet.grid)
     page.fact("What was judged", "The drawing of the sheet that is named. What the sheet says of a search wasn't judged.")
     page.provenance.check = ["./railplan", *run.words]
@@ -414,17 +415,21 @@ def fault_page(run: Run) -> Page:
     page = page_of(run, "Not drawn: a fault")
     page.badge = ("broken", "fault")
     fault = faults.of_run(run.copied or run.words, run.output, run.status, run.inputs)
-    page.lead = [element("p", element("b", fault.sentences[0])), *(element("p", it) for it in fault.sentences[1:])]
+    said = [[place_of(it, fault.excerpts), it.text] for it in fault.sentences]
+    page.lead = [element("p", element("b", said[0])), *(element("p", it) for it in said[1:])]
     if fault.line:
         page.lead += [element("p", "The program's own line: ", facts.code(fault.line))]
     for number, part in enumerate(fault.excerpts, 1):
         page.figures.append(Figure(None, [excerpt(part, number)], [part.name], kind="excerpt"))
-    meant = [(number, line) for number, part in enumerate(fault.excerpts, 1) for line in part.meant]
-    if len(meant) > 1:
-        links = [[element("a", f"line {line}", href=f"#·line-{number}-{line}"), " "] for number, line in meant]
-        page.lead.append(element("p", "What is meant: ", links))
     page.provenance.check = ["./railplan", *run.words]
     return page
+
+
+def place_of(sentence: faults.Sentence, shown: list[faults.Excerpt]) -> Child:
+    """the line that a sentence is about, as it leads to the excerpt that has it; nothing where none has it"""
+    found = [number for number, part in enumerate(shown, 1) if part.name == sentence.file and sentence.line in part.meant]
+    file = f"{sentence.file}, " if len({part.name for part in shown}) > 1 else ""
+    return [element("a", f"{file}line {sentence.line}", href=f"#·line-{found[0]}-{sentence.line}"), ": "] if found else None
 
 
 def excerpt(part: faults.Excerpt, figure: int) -> Element:
@@ -451,6 +456,11 @@ PAGES: dict[str, Callable[[Run], Page]] = {"draw": draw_page, "signals": draw_pa
 def make(run: Run) -> Page:
     """the page of a run, or of its fault"""
     return PAGES[run.command](run) if run.status in ANSWERED else fault_page(run)
+
+
+def small_of(page: Page, style: str) -> str:
+    """the drawing of a page as a small picture; nothing where it has none"""
+    return f"{alone(small(page.scene), style, page.scene.title or 'the drawing')}\n" if page.scene else ""
 
 
 def dxf_of(page: Page) -> str:

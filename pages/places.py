@@ -40,7 +40,8 @@ class Line:
         left, top, right, bottom = box[0] - reach, box[1] - reach, box[2] + reach, box[3] + reach
         (x, y), (u, v) = self.start, self.end
         across, down, shift = u - x, v - y, (v - y) * x - (u - x) * y
-        sides = [across * b - down * a + shift for a, b in ((left, top), (left, bottom), (right, top), (right, bottom))]
+        up, under, west, east = across * top, across * bottom, shift - down * left, shift - down * right
+        sides = up + west, under + west, up + east, under + east
         return min(sides) <= 0 <= max(sides)
 
 
@@ -106,8 +107,9 @@ class Field:
         self.all: list[Thing] = []
 
     def squares_of(self, box: Box) -> list[tuple[int, int]]:
-        left, top, right, bottom = (math.floor(at / CELL) for at in box)
-        return [(x, y) for x in range(left, right + 1) for y in range(top, bottom + 1)]
+        lefts = range(math.floor(box[0] / CELL), math.floor(box[2] / CELL) + 1)
+        tops = range(math.floor(box[1] / CELL), math.floor(box[3] / CELL) + 1)
+        return [(x, y) for x in lefts for y in tops]
 
     def add(self, thing: Thing) -> None:
         self.all.append(thing)
@@ -123,16 +125,14 @@ class Field:
         if isinstance(thing, Name) and thing.leader:
             self.remove(thing.leader)
 
-    def near(self, box: Box) -> list[Thing]:
-        """what is in the squares of a box and close to it"""
+    def near(self, box: Box) -> Iterator[Thing]:
+        """what is in the squares of a box and close to it; what is in several of them comes so often"""
         left, top, right, bottom = box[0] - CLOSE, box[1] - CLOSE, box[2] + CLOSE, box[3] + CLOSE
-        found = []
         for square in self.squares_of((left, top, right, bottom)):
             for thing in self.squares.get(square, ()):
                 one = thing.box
                 if one[0] < right and left < one[2] and one[1] < bottom and top < one[3]:
-                    found.append(thing)
-        return found
+                    yield thing
 
     def is_hit(self, box: Box) -> bool:
         """whether a box meets anything, or reaches beyond a limit"""

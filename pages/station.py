@@ -52,6 +52,7 @@ class Station:
             texts |= {it.name for it in self.graph.nodes} | {it.track for it in self.graph.edges}
         self.letters = Letters(texts)
         self.repeated = self.names_of_two()
+        self.repeated_by_signals = twice(it.name for it in self.file.signals.values())
 
     # ---- names
 
@@ -65,7 +66,7 @@ class Station:
         if self.labels != "name" or name == "":
             return False
         if is_signal:
-            return self.file.signals[id].name.strip() not in twice(it.name for it in self.file.signals.values())
+            return self.file.signals[id].name.strip() not in self.repeated_by_signals
         return self.file.names.get(id, "").strip() not in self.repeated
 
     def shown(self, text: str) -> str:

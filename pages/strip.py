@@ -5,7 +5,7 @@ import math
 from typing import TYPE_CHECKING, Optional
 
 from pages import places, signs
-from pages.columns import BEYOND, Columns, Strip
+from pages.columns import BEYOND, Columns, Strip, last_row
 from pages.markup import Element, element
 from pages.places import Box, Field, Line, Name, Sign, Spot, Wish
 from pages.signs import shown, spots
@@ -345,8 +345,7 @@ class StripPlan:
 
     def put_grid(self, box: Box) -> None:
         """the columns and rows, which are shown where they are asked for"""
-        rows = max([node.point[1] for node in self.scene.drawing.nodes]
-                   + [y for it in self.scene.drawing.edges for _, y in it.points])
+        rows = last_row(self.scene.drawing)
         for column in range(self.strip.first, self.strip.last + 1):
             x = self.x(column)
             self.grid.append(line_at("", (x, box[1]), (x, box[3])))
@@ -358,15 +357,24 @@ class StripPlan:
 
     # ---- the whole
 
-    def lay(self) -> None:
-        """finds a place for everything"""
+    def lay_signs(self) -> list[Wish]:
+        """finds a place for lines and signs; the names that these want"""
         drawing = self.scene.drawing
         self.put_limits()
         for edge in sorted(drawing.edges, key=lambda edge: edge.number in self.scene.marks.edges):
             self.put_edge(edge)
         wishes = [self.put_node(node) for node in drawing.nodes if self.has(node.point[0])]
-        wishes += [self.put_signal(signal) for signal in self.scene.signals if self.has(signal.point[0])]
-        self.put_names(wishes + self.track_wishes())
+        return wishes + [self.put_signal(signal) for signal in self.scene.signals if self.has(signal.point[0])]
+
+    def lay_bare(self) -> None:
+        """finds a place for lines and signs alone"""
+        self.lay_signs()
+        box = bounds([thing.box for thing in self.field.all] or [(0, 0, BEYOND, BEYOND)])
+        self.box = (box[0] - 6, box[1] - 6, box[2] + 6, box[3] + 6)
+
+    def lay(self) -> None:
+        """finds a place for everything"""
+        self.put_names(self.lay_signs() + self.track_wishes())
         box = bounds([thing.box for thing in self.field.all] or [(0, 0, BEYOND, BEYOND)])
         self.put_match_lines(box[1], box[3])
         if self.scene.has_scale:

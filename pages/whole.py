@@ -59,9 +59,8 @@ def object_list(objects: Objects, changes: list[Element]) -> Element:
     if changes:
         parts += [element("h2", "Changes, to be ticked off"), element("ul", changes, class_="changes")]
     parts += [element("h2", "Objects by kilometre"), element("table", head, body)]
-    said = element("div", element("p", "Choose a row or a sign. Two signals, one after the other, show the path between them.",
-                                  class_="screen"),
-                   class_="said", aria_live="polite")
+    path = " Two signals, one after the other, show the path between them." if objects.scene.signals else ""
+    said = element("div", element("p", f"Choose a row or a sign.{path}", class_="screen"), class_="said", aria_live="polite")
     return element("aside", said, *parts, class_="list", aria_label="objects by kilometre")
 
 

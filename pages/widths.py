@@ -6,6 +6,7 @@ text's length to the width that it has by this table, so that it takes the same 
 from __future__ import annotations
 
 import unicodedata
+from functools import lru_cache
 
 FONT = "'Liberation Sans', Arial, Helvetica, sans-serif"
 ASCENT, DESCENT = 0.905, 0.212
@@ -16,6 +17,7 @@ SAME = {191: "'", 222: "ijl", 260: "|", 278: " !,./:;I[\\]ft·", 333: "()-`r", 3
 WIDTHS = {letter: width for width, letters in SAME.items() for letter in letters}
 
 
+@lru_cache(maxsize=4096)
 def letter_width(letter: str) -> int:
     if letter in WIDTHS:
         return WIDTHS[letter]
@@ -27,6 +29,7 @@ def letter_width(letter: str) -> int:
     return WIDTHS.get(plain, OTHER)
 
 
+@lru_cache(maxsize=65536)
 def width_of(text: str, size: float) -> float:
     """the width of a text, in the units of the letters' size; one of marks alone has some too"""
     return max(sum(map(letter_width, text)), 200) * size / 1000

@@ -8,7 +8,7 @@ from tool import words
 from tool.saying import end, why
 
 # how a file of each kind begins, in small letters, and what a kind is called
-BEGINS = {"log": b"railplan-log", "picture": b"<svg", "hints": b"railplan-hints", "page": b"<!doctype html",
+BEGINS = {"log": b"railplan-log", "picture": b"<svg", "small": b"<svg", "hints": b"railplan-hints", "page": b"<!doctype html",
           "dxf": b"0\r\nsection", "csv": b"km,kind,name,id", "sheet": b"railplan "}
 CALLED = {"log": "a log", "picture": "a picture", "hints": "hinted lines", "page": "a page", "dxf": "a CAD drawing",
           "csv": "a table", "railml": "a railML file", "sheet": "a sheet"}

@@ -9,7 +9,7 @@ from pathlib import Path
 from typing import NoReturn
 
 from tool import built, files, folder_index, running, words
-from tool.folder_station import ENDINGS, RECORDS, Jobs, Record, Setting, draw, read_record
+from tool.folder_station import ENDINGS, RECORDS, SMALL, Jobs, Record, Setting, draw, file_name, read_record
 from tool.progress import bar
 from tool.saying import called, end, is_terminal, say, why, write_error
 
@@ -99,7 +99,7 @@ def of_shard(names: list[str], part: tuple[int, int]) -> list[str]:
 
 def refuse_others(out: Path, names: list[str]) -> None:
     """nothing that is something else is written over"""
-    listed = [(out / f"{name}{ending}", kind) for name in names for kind, ending in ENDINGS.items()]
+    listed = [(out / file_name(name, kind), kind) for name in names for kind in ENDINGS]
     for path, kind in [*listed, (out / "index.html", "page")]:
         if os.path.lexists(path) and not may_replace(path, kind):
             end(2, f"{path} is there, and railplan didn't make it. Name another folder, or delete it")
@@ -127,7 +127,8 @@ def make_folder(out: Path) -> None:
     if out.exists() and not out.is_dir():
         end(6, f"{out} is a file. Name a folder, or one that isn't there yet")
     try:
-        (out / RECORDS).mkdir(parents=True, exist_ok=True)
+        for name in (RECORDS, SMALL):
+            (out / name).mkdir(parents=True, exist_ok=True)
     except OSError as error:
         end(6, f"{out} can't be made: {why(error)}")
     if not os.access(out, os.W_OK | os.X_OK):

@@ -2,9 +2,10 @@
 from __future__ import annotations
 
 from itertools import groupby
+from urllib.parse import quote
 
 from pages.markup import Element, document, element
-from tool.folder_station import ENDINGS, Record
+from tool.folder_station import Record, file_name
 
 # statuses from the best to the worst; and what a run that ended so is called
 WORST = (0, 3, 4, 8, 5, 1, 2, 7, 6, 10)
@@ -15,7 +16,7 @@ RULES = """
 body{font:15px/1.4 system-ui,sans-serif;margin:2em auto;max-width:90em;padding:0 1em;color:#222;background:#fff}
 table{border-collapse:collapse;width:100%}th{text-align:left;font-weight:600}
 td,th{border-top:1px solid #ccc;padding:.5em .6em;vertical-align:top}td p{margin:0 0 .3em}
-td.drawing{width:46%;max-width:34em}img{max-width:100%;max-height:8em;background:#fff}
+td.drawing{width:46%;max-width:34em}img{max-width:100%;max-height:8em;background:#fff;vertical-align:bottom}
 pre{margin:0 0 .5em;overflow-x:auto;font-size:12px}.line{color:#777;font-size:12px}
 .fault td{background:#fdecea}.open td{background:#fff6dd}.badge{border:1px solid #2a7a2a;color:#2a7a2a;border-radius:.6em;
 padding:0 .5em;white-space:nowrap}.number{white-space:nowrap}
@@ -49,16 +50,22 @@ def in_order(records: list[Record]) -> list[Record]:
     return sorted(records, key=lambda it: (-rank(it.status), it.name))
 
 
-def link(record: Record, text: str, ending: str) -> Element | str:
-    """a link to a file of the station; the bare text where there is none"""
-    name = record.name + ending
-    return element("a", text, href=name) if name in record.files else text
+def address(record: Record, kind: str) -> str:
+    """what leads to a file of the station from the page; nothing where there is none"""
+    name = file_name(record.name, kind)
+    return quote(name, errors="surrogateescape") if name in record.files else ""
+
+
+def link(record: Record, what: Element | str, kind: str) -> Element | str:
+    """a link to a file of the station; what is to be its text alone where there is none"""
+    found = address(record, kind)
+    return element("a", what, href=found) if found else what
 
 
 def links(record: Record) -> list[Element | str]:
     """the station's name, which leads to its page, and its sheet"""
-    sheet = link(record, "sheet", ENDINGS["sheet"])
-    return [link(record, record.name, ENDINGS["page"])] + ([element("br"), sheet] if isinstance(sheet, Element) else [])
+    sheet = link(record, "sheet", "sheet")
+    return [link(record, record.name, "page")] + ([element("br"), sheet] if isinstance(sheet, Element) else [])
 
 
 def badge(record: Record) -> Element | str:
@@ -72,7 +79,7 @@ def badge(record: Record) -> Element | str:
         return "claims nothing"
     else:
         text = f"certified: {', '.join(record.order[:int(count)])}"
-    return element("a", text, href=record.name + ENDINGS["hints"], class_="badge",
+    return element("a", text, href=address(record, "hints") or None, class_="badge",
                    title="what is left of the search's log was checked again")
 
 
@@ -90,10 +97,10 @@ def said(text: str) -> list[Element]:
 
 
 def shown(record: Record) -> list[Element]:
-    """the small drawing, and what is said of the run"""
-    picture = record.name + ENDINGS["picture"]
-    found = [element("img", src=picture, alt=f"the drawing of {record.name}", loading="lazy")] if picture in record.files else []
-    return found + said(record.said)
+    """the small drawing, which leads to the page, and what is said of the run"""
+    source = address(record, "small")
+    picture = element("img", src=source, alt=f"the drawing of {record.name}", loading="lazy")
+    return ([link(record, picture, "page")] if source else []) + said(record.said)
 
 
 def ended(record: Record) -> list[Element | str]:

@@ -18,9 +18,15 @@ from tool import advice, notes, running, telling, words
 from tool.files import state_of, write_whole
 from tool.version import VERSION
 
-# the files that are left of a station, by their kinds
-ENDINGS = {"page": ".html", "picture": ".svg", "sheet": ".sheet", "hints": ".hints"}
-RECORDS = "records"
+# the files that are left of a station, by their kinds: how their names end
+ENDINGS = {"page": ".html", "picture": ".svg", "small": ".svg", "sheet": ".sheet", "hints": ".hints"}
+# folders of their own: for records, and for the small pictures of the index
+RECORDS, SMALL = "records", "small"
+
+
+def file_name(name: str, kind: str) -> str:
+    """where a station's file of a kind is in the folder for what is made"""
+    return (f"{SMALL}/" if kind == "small" else "") + name + ENDINGS[kind]
 
 
 @dataclass
@@ -143,8 +149,7 @@ class Drawing:
 
     def path(self, kind: str) -> Path:
         """where a file is until it is done; the page, which names itself, is where it belongs, and is written whole or not"""
-        folder = self.setting.out if kind == "page" else self.work
-        return folder / f"{self.name}{ENDINGS.get(kind, '.' + kind)}"
+        return self.setting.out / file_name(self.name, kind) if kind == "page" else self.work / kind
 
     def program(self, *given: str) -> tuple[int, bytes]:
         return self.jobs.run([self.setting.program, *given])
@@ -164,8 +169,9 @@ class Drawing:
             top = self.setting.top
             command = [sys.executable, "-S", f"{top}/pages/run.py", f"{top}/tool/bare.py", str(self.path("page")), *given]
             ran, output = self.jobs.run(command, RAILPLAN_PROGRAM=self.setting.program, RAILPLAN_MORE="\n".join(more),
-                                        RAILPLAN_BUILD=self.setting.build, RAILPLAN_SHEET=f"{self.name}{ENDINGS['sheet']}",
-                                        RAILPLAN_HINTS=f"{self.name}{ENDINGS['hints']}" if self.setting.certifies else "")
+                                        RAILPLAN_BUILD=self.setting.build, RAILPLAN_SHEET=file_name(self.name, "sheet"),
+                                        RAILPLAN_HINTS=file_name(self.name, "hints") if self.setting.certifies else "",
+                                        RAILPLAN_SMALL=str(self.path("small")))
             if ran != 3:
                 break
         return ran, output, given
@@ -191,7 +197,7 @@ class Drawing:
             if self.setting.certifies:
                 record.certified = self.certify()
         record.said = explained(given, running.Ran(status, output, 0), self.setting.program,
-                                str(self.setting.out / (self.name + ENDINGS["picture"])))
+                                str(self.setting.out / file_name(self.name, "picture")))
         if record.is_refused():
             record.status = 8
             record.said += f"railplan: the certificate of {self.station} was refused: {record.certified}\n"
@@ -217,13 +223,14 @@ def draw(station: Path, name: str, setting: Setting, jobs: Jobs) -> Record:
         drawing = Drawing(station, name, setting, jobs, Path(folder))
         page = written(drawing.path("page"))
         record = drawing.record(key)
-        for kind, ending in ENDINGS.items():
-            source, target = drawing.path(kind), setting.out / f"{name}{ending}"
+        for kind in ENDINGS:
+            source, made = drawing.path(kind), file_name(name, kind)
+            target = setting.out / made
             if source.exists() and (kind != "page" or written(source) != page):
                 if source != target:
                     write_whole(str(target), source.read_bytes())
-                record.files.append(target.name)
-            elif known and target.name in known.files:
+                record.files.append(made)
+            elif known and made in known.files:
                 target.unlink(missing_ok=True)
         write_whole(str(record_path(setting.out, name)), json.dumps(asdict(record), indent=1).encode())
     return record

@@ -10,6 +10,7 @@ const signs = key => every(`[data-key="${CSS.escape(key)}"]`);
 const keyOf = event => { const at = event.target.closest("[data-key]"); return at ? at.dataset.key : null; };
 const label = key => objects[key].name || objects[key].id;
 let chosen = null, firstSignal = null, current = strips[0];
+const advice = one(".said") && one(".said").firstElementChild;
 
 // ---- marks
 
@@ -59,7 +60,7 @@ const sayOf = key => {
 const letGo = () => {
   chosen = firstSignal = null;
   for (const name of ["chosen", "related", "path"]) mark(name, []);
-  one(".said").replaceChildren(text("p", "Choose a row or a sign. Two signals, one after the other, show the path between them."));
+  one(".said").replaceChildren(advice);
   history.replaceState(null, "", location.pathname + location.search);
 };
 

@@ -135,6 +135,16 @@ class Runs(Case):
                                                                              "STATUS": "5"}).returncode, 5)
         self.assertIn("no.xml isn't there", self.page())
 
+    def test_a_small_picture_for_an_index(self) -> None:
+        self.start("p.html", "draw", "a.xml", environment={"RAILPLAN_SMALL": "s.svg"})
+        self.assertEqual(self.left(), ["p.html", "s.svg"])
+        small = (self.base / "s.svg").read_text(encoding="utf-8")
+        self.assertEqual([small.count(it) for it in ('class="wedge"', 'class="open"', 'class="edge', "<svg", "<text", 'class="hit')],
+                         [4, 4, 8, 2, 0, 0])
+        (self.base / "out").write_text("topology 3 Missing at 440 absPos\n")
+        self.start("q.html", "draw", "a.xml", environment={"RAILPLAN_SMALL": "t.svg", "OUTPUT": str(self.base / "out"), "STATUS": "1"})
+        self.assertEqual(self.left(), ["out", "p.html", "q.html", "s.svg"])
+
     def test_dxf_and_csv_without_a_page(self) -> None:
         ran = self.start("--dxf", "s.dxf", "--csv", "s.csv", "draw", "a.xml")
         self.assertEqual((ran.returncode, self.left()), (0, ["s.csv", "s.dxf"]))

@@ -43,8 +43,10 @@ class Faults(unittest.TestCase):
         self.assertIn("The connection c1 refers to c2, and c2 refers to c3.", lead(page))
         lines = [MUTUAL.count(b"\n", 0, MUTUAL.index(id)) + 1 for id in (b'id="c1"', b'id="c2"')]
         targets = {str(it.attributes.get("id")) for figure in page.figures for part in figure.parts for it in part.all()}
-        for line in lines:
-            self.assertTrue(any(it.endswith(f"-{line}") for it in targets), targets)
+        for line, said in zip(lines, ("The connection c1 refers to c2", "c2 is here.")):
+            self.assertIn(f"line {line}: {said}", lead(page))
+            self.assertIn(f'<a href="#·line-1-{line}">line {line}</a>: {said}', page_text(page))
+            self.assertIn(f"·line-1-{line}", targets)
         self.assertEqual(page_text(page).count('class="facts"'), 0)
 
     def test_lines_that_are_near_each_other_are_shown_once(self) -> None:

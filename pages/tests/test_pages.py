@@ -187,6 +187,16 @@ class Commands(unittest.TestCase):
         self.assertEqual(page.lead[0].attributes["data-parties"], "n2")
         self.assertEqual(make(sample("verify_lawful")).badge, ("settled", "lawful"))
 
+    def test_the_limit_that_is_drawn_is_named(self) -> None:
+        for name, is_there in (("verify_law_1", True), ("verify_law_4", False)):
+            page = make(sample(name, status=8))
+            self.assertEqual("The broken line is the grid's last column or row." in words_of(page.figures[0].caption), is_there)
+            self.assertEqual(any(it.attributes.get("class") == "limit" for it in page.figures[0].picture.strips[0].all()), is_there)
+
+    def test_paths_are_spoken_of_where_there_are_signals(self) -> None:
+        for run, is_there in ((sample("signals"), True), (example(), False)):
+            self.assertEqual("Two signals, one after the other, show the path between them." in page_text(make(run)), is_there)
+
     def test_what_the_drawing_does_not_show(self) -> None:
         xml = (TOP / "examples/station.xml").read_text(encoding="utf-8")
         xml = xml.replace("<connections>", '<mileageChanges><mileageChange id="m"/></mileageChanges><connections>', 1)

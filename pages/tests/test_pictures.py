@@ -187,6 +187,15 @@ class Paper(unittest.TestCase):
             self.assertLessEqual(max(box[2] - box[0] for box in picture.boxes), columns.room_on(paper)[0], paper)
             self.assertGreater(len(picture.strips), 1 if paper in ("A4", "A3") else 0)
 
+    def test_no_strip_is_higher_than_the_paper(self) -> None:
+        sheet = crowded.sheet_of(13, 12, crowded.crossovers_of(__import__("random").Random(3), 13, 12), "W{}".format, "t{}".format)
+        high = {}
+        for paper in columns.PAPERS:
+            page = make(fixtures.run_of(["draw", "no.xml"], sheet, settings=Settings(paper=paper)))
+            high[paper] = max(bottom - top for _, top, _, bottom in page.figures[0].picture.boxes)
+            self.assertLessEqual(high[paper], columns.room_on(paper)[1], paper)
+        self.assertGreater(high["A3"], columns.room_on("A4")[1])
+
     def test_strips_go_on_where_they_are_cut(self) -> None:
         page = make(fixtures.run_of(["draw", "no.xml"], dict(crowded.crowded_stations())["crowded long 7 by 18"]))
         strips = [drawn.of_strip(strip) for strip in page.figures[0].picture.strips]

@@ -8,6 +8,7 @@ from tool import folder, folder_index, folder_station, running
 from tool.folder_station import Record, Setting
 from tool.saying import Ended
 from tool.tests.clones import InClone
+from tool.tests.places import TOP
 
 # a program that answers by the name of the file: it says in `asked` what it was asked for
 PROGRAM = """#!/bin/sh
@@ -28,6 +29,12 @@ trim) echo 'railplan-hints 1' > "$5"; echo 'trimmed 2 1' ;;
 recheck) echo 'certified 2' ;;
 esac
 """
+# a program that answers what the clone's texts of a station have
+OF_EXAMPLES = """#!/bin/sh
+word=$1
+while test $# -gt 0; do case $1 in --svg) cp "$HERE/station.svg" "$2" ;; esac; shift; done
+case $word in graph) cat "$HERE/station.graph" ;; draw) cat "$HERE/station.sheet" ;; esac
+"""
 # a program that says in `most` how many of it run at the same time: it waits until COUNT do, and then for one too many
 SIDE_BY_SIDE = """#!/bin/sh
 case $1 in draw) ;; *) exit 1 ;; esac
@@ -43,10 +50,12 @@ rm "$HERE/running.$$"
 printf 'railplan 2\\ngrid 40 8 1\\norder height\\nend none\\n'
 """
 # in the place of what makes a page: it has the program run, and writes a page unless there is a fault
-RUN = """import os, sys
-status = os.spawnv(os.P_WAIT, sys.executable, [sys.executable, "-S", sys.argv[1], *sys.argv[3:]])
-if status != 1: open(sys.argv[2], "w").write("<!DOCTYPE html>")
-sys.exit(status)
+RUN = """import os, subprocess, sys
+ran = subprocess.run([sys.executable, "-S", sys.argv[1], *sys.argv[3:]], stdout=subprocess.PIPE)
+if ran.returncode != 1: open(sys.argv[2], "w").write("<!DOCTYPE html>")
+if ran.returncode == 0: open(os.environ["RAILPLAN_SMALL"], "w").write("<svg small")
+sys.stdout.buffer.write(ran.stdout)
+sys.exit(ran.returncode)
 """
 
 
@@ -64,7 +73,7 @@ class Folders(InClone):
         return self.launch("folder", "in", "out", *more)
 
     def made(self):
-        return sorted(it.name for it in (self.top / "out").iterdir() if it.name != "records")
+        return sorted(it.name for it in (self.top / "out").iterdir() if it.name not in ("records", "small"))
 
     def drawn(self):
         """the draw runs of the program so far, which are forgotten then"""
@@ -101,7 +110,9 @@ class Folders(InClone):
         page = (self.top / "out/index.html").read_text()
         places = [page.index(it) for it in (">refused<", ">a<", ">b<")]
         self.assertEqual(places, sorted(places))
-        self.assertIn('<img src="a.svg"', page)
+        self.assertIn('<a href="a.html"><img src="small/a.svg"', page)
+        self.assertEqual((self.top / "out/small/a.svg").read_text(), "<svg small")
+        self.assertFalse((self.top / "out/small/refused.svg").exists())
         self.assertEqual(page.count(">1, 2, 3, 4<"), 2)
         self.assertEqual(self.record("a")["values"], [1, 2, 3, 4])
 
@@ -137,6 +148,9 @@ class Folders(InClone):
         (self.top / "out/b.svg").unlink()
         self.assertEqual(self.folder()[0], 1)
         self.assertEqual(len(self.drawn()), 2)
+        (self.top / "out/small/b.svg").unlink()
+        self.folder()
+        self.assertEqual(len(self.drawn()), 1)
         self.folder("--least", "2")
         self.assertEqual(len(self.drawn()), 3)
         self.assertTrue(self.record("a")["key"])
@@ -291,7 +305,7 @@ class Folders(InClone):
 
     def test_files_of_others_stay(self):
         self.stations("a")
-        for name in ("index.html", "a.svg", "a.html", "a.sheet"):
+        for name in ("index.html", "a.svg", "a.html", "a.sheet", "small/a.svg"):
             with self.subTest(name):
                 self.write(f"out/{name}", "mine")
                 status, out, err = self.folder()
@@ -355,8 +369,30 @@ class Folders(InClone):
     def test_as_many_side_by_side_as_there_are_processors(self):
         self.assertEqual(folder.read_words(["in", "out"]).j, running.processors())
 
+    def test_what_a_page_leads_to_has_its_name_as_an_address(self):
+        page = folder_index.text("", [Record("a#1?%20:b", "", 0, files=["a#1?%20:b.html", "a#1?%20:b.sheet", "small/a#1?%20:b.svg"])])
+        for name in ("a%231%3F%2520%3Ab.html", "a%231%3F%2520%3Ab.sheet", "small/a%231%3F%2520%3Ab.svg"):
+            self.assertIn(f'="{name}"', page)
+        self.assertIn(">a#1?%20:b<", page)
+
     def test_names_in_the_page_are_text(self):
         page = folder_index.text("<b>", [Record("<i>&", "", 1, said="<u>")])
         self.assertNotIn("<i>", page)
         self.assertNotIn("<u>", page)
         self.assertIn("&lt;i&gt;&amp;", page)
+
+
+class FoldersWithPages(InClone):
+    """a folder with the pages' own code, and a program that answers what examples/ has"""
+
+    def test_the_index_shows_the_drawings_of_the_pages(self):
+        for name in ("station.sheet", "station.graph", "station.svg"):
+            (self.top / name).write_bytes((TOP / "examples" / name).read_bytes())
+        self.script("crates/railplan_main/out/railplan_main", OF_EXAMPLES)
+        self.write("in/station.xml", (TOP / "examples/station.xml").read_text())
+        self.assertEqual(self.launch("folder", "in", "out")[0], 0)
+        self.assertIn('<img src="small/station.svg"', (self.top / "out/index.html").read_text())
+        small, picture = (self.top / "out/small/station.svg").read_text(), (self.top / "out/station.svg").read_text()
+        self.assertEqual((small.count('class="wedge"'), small.count("<svg")), (4, 2))
+        self.assertNotIn("<text", small)
+        self.assertEqual(picture, (TOP / "examples/station.svg").read_text())
