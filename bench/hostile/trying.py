@@ -67,7 +67,7 @@ class Tally:
 
 
 class Runner:
-    """starts programs in a folder, and waits for them"""
+    """starts programs in a folder, and waits for them. Its handles are closed behind it: a long run has many"""
 
     def __init__(self, folder: Path) -> None:
         self.folder = folder
@@ -75,6 +75,10 @@ class Runner:
         self.texts = [os.memfd_create(name) for name in ("printed", "said")]
         self.running, self.hung, self.left = 0, False, 0.0
         signal.signal(signal.SIGALRM, self.tick)
+
+    def close(self) -> None:
+        for handle in (self.nothing, *self.texts):
+            os.close(handle)
 
     def tick(self, *_: object) -> None:
         """comes again and again while a run goes on, and ends it once it has taken too long. While the script itself is
@@ -190,9 +194,8 @@ def emptied(folder: Path) -> None:
 def try_some(words: argparse.Namespace, attempt: Try, numbers: range) -> Tally:
     """tries the cases of these numbers, in a folder of their own"""
     tally = Tally()
-    with tempfile.TemporaryDirectory() as name:
-        folder = Path(name)
-        runner = Runner(folder)
+    with tempfile.TemporaryDirectory() as name, contextlib.closing(Runner(Path(name))) as runner:
+        folder = runner.folder
         for number in numbers:
             if Stop.asked or time.time() > words.until:
                 break

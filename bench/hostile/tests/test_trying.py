@@ -2,6 +2,7 @@
 import argparse
 import contextlib
 import io
+import os
 import random
 import signal
 import subprocess
@@ -76,6 +77,22 @@ class Scripts(unittest.TestCase):
         tally = trying.try_some(words, attempt, range(3))
         self.assertEqual((tally.cases, tally.counts["tried"], len(tally.wrong)), (3, 3, 1))
         self.assertIn("seed 1, case 1: the script fails: ValueError('here')", tally.wrong[0])
+
+
+    def test_batches_leave_nothing(self) -> None:
+        words = argparse.Namespace(program=Path("/bin/sh"), seed=1, until=time.time() + 60, keep=None)
+
+        def left() -> tuple[list[str], list[str]]:
+            return os.listdir("/proc/self/fd"), os.listdir(tempfile.gettempdir())
+
+        with tempfile.TemporaryDirectory() as folder, mock.patch.object(tempfile, "tempdir", folder):
+            trying.try_some(words, lambda case: case.run("-c", "echo out > there"), range(1))
+            before = left()
+            for number in range(3):
+                trying.try_some(words, lambda case: case.run("-c", "echo out > there"), range(number, number + 1))
+            self.assertEqual(left(), before)
+        with self.assertRaises(ChildProcessError):
+            os.waitpid(-1, os.WNOHANG)
 
 
 class Interrupts(unittest.TestCase):
