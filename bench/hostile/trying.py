@@ -32,6 +32,8 @@ TICK = 0.1
 DEFAULT = (signal.SIGPIPE, signal.SIGXFSZ, signal.SIGHUP, signal.SIGINT, signal.SIGQUIT, signal.SIGTERM)
 # so many cases are handed to a process at a time
 BATCH = 25
+# a folder in memory, where the system has one: there a file takes a tenth of the time, and a sync next to none
+MEMORY = "/dev/shm"
 
 
 @dataclass
@@ -73,6 +75,7 @@ class Runner:
         self.folder = folder
         self.nothing = os.open(os.devnull, os.O_RDONLY)
         self.texts = [os.memfd_create(name) for name in ("printed", "said")]
+        self.environment = dict(os.environb)
         self.running, self.hung, self.left = 0, False, 0.0
         signal.signal(signal.SIGALRM, self.tick)
 
@@ -97,7 +100,7 @@ class Runner:
         actions = [(os.POSIX_SPAWN_DUP2, ours, theirs) for ours, theirs in handles]
         self.hung, self.left = False, seconds
         os.chdir(self.folder)
-        self.running = os.posix_spawn(command[0], command, os.environ if environment is None else environment,
+        self.running = os.posix_spawn(command[0], command, self.environment if environment is None else environment,
                                       file_actions=actions, setsigmask=(), setsigdef=DEFAULT)
         signal.setitimer(signal.ITIMER_REAL, TICK, TICK)
         _, status = os.waitpid(self.running, 0)
@@ -187,14 +190,21 @@ Prepare = Callable[[argparse.Namespace], object]
 
 
 def emptied(folder: Path) -> None:
-    for path in folder.iterdir():
-        shutil.rmtree(path) if path.is_dir() and not path.is_symlink() else path.unlink()
+    with os.scandir(folder) as there:
+        for one in there:
+            shutil.rmtree(one) if one.is_dir(follow_symlinks=False) else os.unlink(one)
+
+
+def place_of_folders() -> str | None:
+    """where the folders of cases are made: in memory, unless TMPDIR names another place or there is none"""
+    return MEMORY if "TMPDIR" not in os.environ and os.access(MEMORY, os.W_OK | os.X_OK) else None
 
 
 def try_some(words: argparse.Namespace, attempt: Try, numbers: range) -> Tally:
     """tries the cases of these numbers, in a folder of their own"""
     tally = Tally()
-    with tempfile.TemporaryDirectory() as name, contextlib.closing(Runner(Path(name))) as runner:
+    place = place_of_folders()
+    with tempfile.TemporaryDirectory(dir=place) as name, contextlib.closing(Runner(Path(name))) as runner:
         folder = runner.folder
         for number in numbers:
             if Stop.asked or time.time() > words.until:

@@ -78,14 +78,13 @@ class Scripts(unittest.TestCase):
         self.assertEqual((tally.cases, tally.counts["tried"], len(tally.wrong)), (3, 3, 1))
         self.assertIn("seed 1, case 1: the script fails: ValueError('here')", tally.wrong[0])
 
-
     def test_batches_leave_nothing(self) -> None:
         words = argparse.Namespace(program=Path("/bin/sh"), seed=1, until=time.time() + 60, keep=None)
 
         def left() -> tuple[list[str], list[str]]:
-            return os.listdir("/proc/self/fd"), os.listdir(tempfile.gettempdir())
+            return os.listdir("/proc/self/fd"), os.listdir(folder)
 
-        with tempfile.TemporaryDirectory() as folder, mock.patch.object(tempfile, "tempdir", folder):
+        with tempfile.TemporaryDirectory() as folder, mock.patch.object(trying, "place_of_folders", lambda: folder):
             trying.try_some(words, lambda case: case.run("-c", "echo out > there"), range(1))
             before = left()
             for number in range(3):
@@ -93,6 +92,22 @@ class Scripts(unittest.TestCase):
             self.assertEqual(left(), before)
         with self.assertRaises(ChildProcessError):
             os.waitpid(-1, os.WNOHANG)
+
+    def test_folders_are_in_memory_unless_another_place_is_named(self) -> None:
+        for environment, memory, place in (({}, "/", "/"), ({}, "/nothing/there", None), ({"TMPDIR": "/tmp"}, "/", None)):
+            with mock.patch.dict(os.environ, environment, clear=True), mock.patch.object(trying, "MEMORY", memory):
+                self.assertEqual(trying.place_of_folders(), place)
+
+    def test_a_folder_is_emptied_and_what_a_link_leads_to_stays(self) -> None:
+        with tempfile.TemporaryDirectory() as name, tempfile.TemporaryDirectory() as other:
+            folder, kept = Path(name), Path(other) / "kept"
+            kept.write_text("kept")
+            (folder / "inner/deep").mkdir(parents=True)
+            (folder / "file").write_text("x")
+            (folder / "link").symlink_to(kept)
+            (folder / "leads").symlink_to(other)
+            trying.emptied(folder)
+            self.assertEqual((list(folder.iterdir()), kept.read_text()), ([], "kept"))
 
 
 class Interrupts(unittest.TestCase):
