@@ -28,6 +28,8 @@ TOP = Path(__file__).resolve().parents[2]
 # a run that takes longer is said to hang
 SECONDS = 60.0
 TICK = 0.1
+# a run that is to end is looked at again no sooner
+LOOK = 5.0
 # signals that a run takes as a program does that is started from a terminal, however the script was started
 DEFAULT = (signal.SIGPIPE, signal.SIGXFSZ, signal.SIGHUP, signal.SIGINT, signal.SIGQUIT, signal.SIGTERM)
 # so many cases are handed to a process at a time
@@ -68,6 +70,29 @@ class Tally:
         self.runs += other.runs
 
 
+def processes_of(number: int) -> list[list[str]]:
+    """of a process, and of all below it, what the system tells in /proc: the state first, then the number of the one above"""
+    told: dict[int, list[str]] = {}
+    for path in Path("/proc").glob("[0-9]*/stat"):
+        with contextlib.suppress(OSError):
+            told[int(path.parent.name)] = path.read_text(encoding="latin-1").rpartition(")")[2].split()
+    found = [number]
+    for one in found:
+        found += [other for other, fields in told.items() if int(fields[1]) == one]
+    return [told[one] for one in found if one in told]
+
+
+def seconds_used(number: int) -> float:
+    """the seconds of the processor that a process has used, and those below it"""
+    ticks = sum(int(field) for fields in processes_of(number) for field in fields[11:15])
+    return ticks / os.sysconf("SC_CLK_TCK")
+
+
+def waits_for_a_processor(number: int, seconds: float) -> bool:
+    """whether a process, or one below it, could go on and has had less of the processors than so many seconds"""
+    return any(fields[0] == "R" for fields in processes_of(number)) and seconds_used(number) < seconds
+
+
 class Runner:
     """starts programs in a folder, and waits for them. Its handles are closed behind it: a long run has many"""
 
@@ -76,7 +101,7 @@ class Runner:
         self.nothing = os.open(os.devnull, os.O_RDONLY)
         self.texts = [os.memfd_create(name) for name in ("printed", "said")]
         self.environment = dict(os.environb)
-        self.running, self.hung, self.left = 0, False, 0.0
+        self.running, self.hung, self.limit, self.left = 0, False, 0.0, 0.0
         signal.signal(signal.SIGALRM, self.tick)
 
     def close(self) -> None:
@@ -85,9 +110,12 @@ class Runner:
 
     def tick(self, *_: object) -> None:
         """comes again and again while a run goes on, and ends it once it has taken too long. While the script itself is
-        stopped no tick is counted"""
+        stopped no tick is counted, and on a busy machine a run that waits for a processor gets the time again"""
         self.left -= TICK
         if self.running and self.left <= 0:
+            self.left = max(self.limit, LOOK)  # to look takes a while, in which further ticks come
+            if waits_for_a_processor(self.running, self.limit):
+                return
             with contextlib.suppress(ProcessLookupError):
                 os.kill(self.running, signal.SIGKILL)
                 self.hung = True
@@ -98,7 +126,7 @@ class Runner:
             os.lseek(text, 0, os.SEEK_SET)
         handles = zip((self.nothing, *self.texts), range(3))
         actions = [(os.POSIX_SPAWN_DUP2, ours, theirs) for ours, theirs in handles]
-        self.hung, self.left = False, seconds
+        self.hung, self.limit, self.left = False, seconds, seconds
         os.chdir(self.folder)
         self.running = os.posix_spawn(command[0], command, self.environment if environment is None else environment,
                                       file_actions=actions, setsigmask=(), setsigdef=DEFAULT)

@@ -52,6 +52,23 @@ class Runs(unittest.TestCase):
         self.assertTrue(answer.hung)
         self.assertEqual(len(case.tally.wrong), 1)
 
+    def test_a_run_that_waits_for_a_processor_does_not_hang(self) -> None:
+        for command, waits in (("while :; do :; done", True), ("exec sleep 60", False), ("(while :; do :; done) & wait", True)):
+            job = subprocess.Popen(["/bin/sh", "-c", command], cwd="/", start_new_session=True)
+            try:
+                time.sleep(0.3)
+                self.assertEqual(trying.waits_for_a_processor(job.pid, 30.0), waits, command)
+                while waits and trying.seconds_used(job.pid) < 0.1:
+                    time.sleep(0.1)
+                self.assertFalse(trying.waits_for_a_processor(job.pid, 0.1), command)
+            finally:
+                os.killpg(job.pid, signal.SIGKILL)
+                job.wait()
+
+    def test_a_run_that_goes_round_for_ever_hangs(self) -> None:
+        with tempfile.TemporaryDirectory() as folder:
+            self.assertTrue(case_of(folder).run("-c", "while :; do :; done", seconds=0.3).hung)
+
     def test_an_answer_is_held_to_the_byte(self) -> None:
         for answer, wrong in ((Answer(0, b"a\n"), 0), (Answer(0, b"a"), 1), (Answer(1, b"a\n"), 1), (Answer(0, b"a\n", b"x"), 1)):
             with tempfile.TemporaryDirectory() as folder:
