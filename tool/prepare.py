@@ -24,8 +24,6 @@ READ_AS = re.compile(r"\s*[+-]?(\d{1,9}(\.\d{0,6})?|\.\d{1,6})\s*")
 # how a file begins, the codec that this tells, and the encoding's name
 BEGINS = ((codecs.BOM_UTF8, "utf-8", "UTF-8"), (codecs.BOM_UTF16_LE, "utf-16", "UTF-16"), (codecs.BOM_UTF16_BE, "utf-16", "UTF-16"),
           (b"<\0", "utf-16-le", "UTF-16"), (b"\0<", "utf-16-be", "UTF-16"))
-# no more of a file is read
-MOST = files.MOST_BYTES["railml"] * 4
 MEASURED = (*railml.ENDS, *railml.POINTS, "signal")
 
 
@@ -320,11 +318,9 @@ def run(line: words.Line) -> int:
     source, out = line.words[1:]
     try:
         with open(source, "rb") as file:
-            data = file.read(MOST + 1)
+            data = file.read(files.MOST_BYTES["railml"] * 4)
     except OSError as error:
         end(5, f"{source}: {why(error)}")
-    if len(data) > MOST:
-        end(1, f"{source} has more than {MOST >> 20} MiB, and no more is read. Export one station, and of it the infrastructure alone")
     refuse_other(out, source)
     it = mended(source, data)
     for said in it.changes + it.guesses + it.doubts:

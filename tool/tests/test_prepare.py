@@ -202,14 +202,6 @@ class Written(InClone):
             self.assertEqual(self.prepare(out)[0], 0)
         self.assertIn(prepare.MARK, (self.top / "new.xml").read_text())
 
-    def test_of_a_file_that_is_too_long_nothing_is_written(self):
-        for more, status in ((0, 0), (1, 1)):
-            self.write("s.xml", TRACK + " " * (prepare.MOST - len(TRACK) + more))
-            ended, _, err = self.prepare("new.xml")
-            self.assertEqual((ended, (self.top / "new.xml").exists()), (status, not more), err)
-            (self.top / "new.xml").unlink(missing_ok=True)
-        self.assertIn("s.xml has more than 16 MiB, and no more is read", err)
-
     def test_nothing_is_written_where_something_lacks(self):
         self.write("s.xml", TRACK.replace(' course="left"', ""))
         status, out, err = self.prepare("new.xml")
