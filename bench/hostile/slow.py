@@ -174,7 +174,6 @@ def main() -> int:
     parser.add_argument("--times", type=float, default=20.0, help="how often the ordinary seconds a byte are slow (20)")
     parser.add_argument("--limit", type=float, default=2.0, help="a run is ended after so many seconds of the processor (2)")
     parser.add_argument("--floor", type=float, default=0.3, help="so many seconds are never slow (0.3)")
-    parser.add_argument("--write", action="store_true", help="write the table into bench/results")
     parser.add_argument("--only", default="", help="only families whose command and name have this text")
     parser.add_argument("--station", type=Path, default=TOP / "cases/stations/loop.xml", help="the station")
     parser.add_argument("--width", type=int, default=6)

@@ -6,6 +6,8 @@ from __future__ import annotations
 
 import argparse
 import contextlib
+import csv
+import hashlib
 import multiprocessing
 import os
 import random
@@ -25,6 +27,9 @@ from pathlib import Path
 from known import KNOWN
 
 TOP = Path(__file__).resolve().parents[2]
+# what long runs came to, from which docs/measured.md is made
+TABLE = TOP / "bench/results/hostile.csv"
+HEAD = ["script", "seed", "cases", "runs", "wrong", "s", "program"]
 # a run that takes longer is said to hang
 SECONDS = 60.0
 TICK = 0.1
@@ -273,8 +278,20 @@ def parser_of(text: str, count: int) -> argparse.ArgumentParser:
     parser.add_argument("--seconds", type=float, default=10.0 ** 9, help="no case begins after so many seconds")
     parser.add_argument("--first", type=int, default=0, help="the number of the first case (0)")
     parser.add_argument("--jobs", type=int, default=1, help="how many processes try cases side by side (1)")
+    parser.add_argument("--write", action="store_true", help="write what comes of it into bench/results")
     parser.add_argument("--keep", type=Path, help="a folder that gets the files of each case that is wrong")
     return parser
+
+
+def write_row(words: argparse.Namespace, tally: Tally) -> None:
+    """puts what was tried into the table, in place of an earlier row of the script and the seed"""
+    program = hashlib.sha256(words.program.read_bytes()).hexdigest()[:8]
+    seconds = round(time.time() - words.began)
+    row = [words.name, *map(str, (words.seed, tally.cases, tally.runs, len(tally.wrong), seconds)), program]
+    rows = list(csv.reader(TABLE.read_text(encoding="utf-8").splitlines()))[1:] if TABLE.exists() else []
+    rows = sorted([*(it for it in rows if it[:2] != row[:2]), row], key=lambda it: (it[0], int(it[1])))
+    with TABLE.open("w", encoding="utf-8", newline="") as text:
+        csv.writer(text, lineterminator="\n").writerows([HEAD, *rows])
 
 
 def report(words: argparse.Namespace, tally: Tally) -> int:
@@ -315,4 +332,7 @@ def main(text: str, attempt: Try, count: int, prepare: Prepare | None = None) ->
         tally.add(one)
         for what in one.wrong[:3]:
             print(f"wrong: {what}", file=sys.stderr, flush=True)
-    return report(words, tally)
+    status = report(words, tally)
+    if words.write:
+        write_row(words, tally)
+    return status

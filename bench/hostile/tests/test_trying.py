@@ -1,6 +1,7 @@
 """Cases, runs and reports, and the changes by chance."""
 import argparse
 import contextlib
+import hashlib
 import io
 import os
 import random
@@ -125,6 +126,20 @@ class Scripts(unittest.TestCase):
             (folder / "leads").symlink_to(other)
             trying.emptied(folder)
             self.assertEqual((list(folder.iterdir()), kept.read_text()), ([], "kept"))
+
+
+class Written(unittest.TestCase):
+    def test_a_run_has_its_row(self) -> None:
+        def words_of(name: str, seed: int) -> argparse.Namespace:
+            return argparse.Namespace(name=name, seed=seed, began=time.time(), program=Path("/bin/sh"))
+
+        with tempfile.TemporaryDirectory() as folder, mock.patch.object(trying, "TABLE", Path(folder) / "rows.csv"):
+            for name, seed, cases in (("sheets", 12, 1), ("files", 3, 2), ("sheets", 7, 3), ("sheets", 12, 4)):
+                trying.write_row(words_of(name, seed), Tally(cases=cases, runs=9, wrong=["x"]))
+            rows = [line.split(",") for line in trying.TABLE.read_text().splitlines()]
+        self.assertEqual([row[:5] for row in rows], [["script", "seed", "cases", "runs", "wrong"], ["files", "3", "2", "9", "1"],
+                                                    ["sheets", "7", "3", "9", "1"], ["sheets", "12", "4", "9", "1"]])
+        self.assertEqual(rows[1][5:], ["0", hashlib.sha256(Path("/bin/sh").read_bytes()).hexdigest()[:8]])
 
 
 class Interrupts(unittest.TestCase):
