@@ -84,16 +84,23 @@ def refuse_hyphen(written: list[words.File]) -> None:
                "called so is ./-")
 
 
-def refuse_output(named: list[words.File]) -> None:
-    """standard output that goes into a file of the run"""
-    out = os.fstat(1)
+def refuse_stream(named: list[words.File], handle: int, called: str, behind: str) -> None:
+    """standard output or standard error that goes into a file of the run. Where the sentence would come behind what is in the file
+    it isn't said"""
+    out = os.fstat(handle)
     if not stat.S_ISREG(out.st_mode):
         return
     for it in named:
         there = state_of(it.word)
         if there and os.path.samestat(there, out):
             done = "writes" if it.is_written else "reads" if out.st_size else "reads. The shell has emptied it by now"
-            end(2, f"standard output goes into {it.word}, which this run {done}. Name another file behind >")
+            said = f"{called} goes into {it.word}, which this run {done}. Name another file behind {behind}"
+            end(2, "" if out.st_size and os.path.samestat(out, os.fstat(2)) else said)
+
+
+def refuse_streams(named: list[words.File]) -> None:
+    refuse_stream(named, 1, "standard output", ">")
+    refuse_stream(named, 2, "standard error", "2>")
 
 
 def begins_as(data: bytes, kind: str) -> bool:
@@ -221,7 +228,7 @@ def look(line: words.Line) -> None:
     written = [it for it in line.files_written if it.at < 0 or not has_fault]
     refuse_hyphen(written)
     refuse_one_file(line.files_read, written)
-    refuse_output(written if has_fault else line.files_read + written)
+    refuse_streams(written if has_fault else line.files_read + written)
     refuse_other_kinds(written)
     refuse_unwritable(written)
 

@@ -71,14 +71,15 @@ def read_words(given: list[str]) -> argparse.Namespace:
 
 
 def stations(folder: Path) -> dict[str, Path]:
-    """the railML files of a folder by the names of what is made of them, in the order of these"""
+    """the railML files of a folder by the names of what is made of them, in the order of these: without the ending, but where that is
+    the name of what is made of another file, or of the page of all"""
     if not folder.is_dir():
         end(5, f"{folder} " + ("is no folder" if folder.exists() else "isn't there") + ". Name a folder with railML files")
     found = sorted(it for it in folder.iterdir() if it.suffix.lower() in ENDINGS_READ and it.is_file())
     if not found:
         end(5, f"{folder} has no file *.xml or *.railml")
-    stems = [it.stem for it in found]
-    return {it.stem if stems.count(it.stem) == 1 else it.name: it for it in found}
+    taken = ["index", *(it.stem for it in found), *(it.name for it in found)]
+    return {it.stem if taken.count(it.stem) == 1 else it.name: it for it in found}
 
 
 def passed_over(folder: Path) -> str:

@@ -6,7 +6,7 @@ import os
 from dataclasses import dataclass
 
 from tool.places import Place
-from tool.saying import coloured, write_error
+from tool.saying import coloured, printable, write_error
 
 
 @dataclass(frozen=True)
@@ -17,21 +17,21 @@ class Note:
 
     def show(self) -> str:
         if self.place is None:
-            return f"railplan: {self.text}\n"
-        return f"{coloured(self.place.head() + ':', '1')} {self.text}\n{self.place.excerpt()}"
+            return f"railplan: {printable(self.text)}\n"
+        return f"{coloured(printable(self.place.head()) + ':', '1')} {printable(self.text)}\n{self.place.excerpt()}"
 
 
 def plain(note: Note) -> str:
     """the note without colours, to be kept"""
     if note.place is None:
-        return note.text + "\n"
-    return f"{note.place.head()}: {note.text}\n{note.place.excerpt(False)}"
+        return printable(note.text) + "\n"
+    return printable(f"{note.place.head()}: {note.text}\n") + note.place.excerpt(False)
 
 
 def named(text: str) -> str:
     """the text with the names of files in the place of those of the copies that pages hand to the program"""
     for copy, name in json.loads(os.environ.get("RAILPLAN_NAMES") or "{}").items():
-        text = text.replace(copy, name)
+        text = text.replace(copy, printable(name))
     return text
 
 

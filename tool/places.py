@@ -5,7 +5,7 @@ import os
 from dataclasses import dataclass
 
 from tool.files import is_plain
-from tool.saying import coloured
+from tool.saying import coloured, printable
 
 WIDTH = 100
 
@@ -28,11 +28,6 @@ class Place:
         mark = coloured("^", "1;32") if has_colour else "^"
         before = " " * (self.column - 1 - cut + (1 if cut else 0))
         return f"{self.line:5} | {printable(shown)}\n      | {before}{mark}\n"
-
-
-def printable(text: str) -> str:
-    """one sign for each sign, none of which a terminal takes for an order"""
-    return "".join(it if it.isprintable() else " " if it.isspace() else "\ufffd" for it in text)
 
 
 def of_byte(name: str, data: bytes, place: int) -> Place:

@@ -22,6 +22,9 @@ MARK = "prepared by railplan; no part of what is proved"
 TAG = re.compile(rb"<[^\s/>]+(?:\s+[^\s=<>]+\s*=\s*(?:\"[^\"]*\"|'[^']*'))*\s*/?>")
 DECLARED = re.compile(r"""<\?xml[^>]*?encoding\s*=\s*["']([^"'<>]+)["']""")
 READ_AS = re.compile(r"\s*[+-]?(\d{1,9}(\.\d{0,6})?|\.\d{1,6})\s*")
+# how a file begins, the codec that this tells, and the encoding's name
+BEGINS = ((codecs.BOM_UTF8, "utf-8", "UTF-8"), (codecs.BOM_UTF16_LE, "utf-16", "UTF-16"), (codecs.BOM_UTF16_BE, "utf-16", "UTF-16"),
+          (b"<\0", "utf-16-le", "UTF-16"), (b"\0<", "utf-16-be", "UTF-16"))
 MEASURED = (*railml.ENDS, *railml.POINTS, "signal")
 # the bytes that are read: in UTF-16 a file has twice as many, and other encodings of one sign have up to four
 MOST = files.MOST_BYTES["railml"] * 4
@@ -81,21 +84,23 @@ def before(edits: list[Edit], place: int) -> int:
 
 def text_of(data: bytes) -> tuple[str, str]:
     """the text, and the name of the encoding where it isn't UTF-8"""
-    for mark, name in ((codecs.BOM_UTF8, "utf-8-sig"), (codecs.BOM_UTF16_LE, "utf-16"), (codecs.BOM_UTF16_BE, "utf-16"),
-                       (b"<\0", "utf-16-le"), (b"\0<", "utf-16-be")):
+    for mark, codec, name in BEGINS:
         if data.startswith(mark):
-            return data.decode(name), "" if name == "utf-8-sig" else "UTF-16"
+            try:
+                return data.decode(codec).removeprefix("\ufeff"), "" if name == "UTF-8" else name
+            except UnicodeDecodeError as error:
+                raise Guess(f"the file begins as {name} does, and byte {error.start} isn't") from None
     found = DECLARED.match(data[:200].decode("latin-1"))
     name = found[1] if found else "UTF-8"
     try:
         if codecs.lookup(name).name == "utf-8":
             return data.decode("utf-8"), ""
         return data.decode(name), name
-    except LookupError:
-        raise Guess(f"the file says that it is {name}, and this encoding isn't known") from None
     except UnicodeDecodeError as error:
         raise Guess(f"{'the file says that it is' if found else 'without a word on its encoding a file is'} {name}, and byte "
                     f"{error.start} isn't. Name its encoding in the first line, as encoding=\"ISO-8859-1\"") from None
+    except (LookupError, ValueError):
+        raise Guess(f"the file says that it is {name}, and this encoding isn't known") from None
 
 
 def mend_encoding(it: Prepared) -> None:
@@ -105,7 +110,10 @@ def mend_encoding(it: Prepared) -> None:
         it.changes.append(f"{name or found[1]} is written as UTF-8")
         if found:
             text = text[:found.start(1)] + "UTF-8" + text[found.end(1):]
-        it.data = it.source = text.encode("utf-8")
+        try:
+            it.data = it.source = text.encode("utf-8")
+        except UnicodeEncodeError:
+            raise Guess(f"the file says that it is {name}, and it has one half of a character alone") from None
 
 
 # ---- prefixes
@@ -282,12 +290,14 @@ def refuse_root(it: Prepared) -> None:
 
 
 def with_mark(data: bytes) -> bytes:
-    """the file with a comment that says who wrote it, behind the declaration"""
+    """the file with a comment that says who wrote it, behind a byte order mark and the declaration"""
     if MARK.encode() in data[:400]:
         return data
-    found = re.match(rb"(\xef\xbb\xbf)?<\?xml[^>]*\?>", data)
-    at = found.end() if found else 0
-    return data[:at] + (b"\n" if at else b"") + f"<!-- {MARK} -->".encode() + (b"" if at else b"\n") + data[at:]
+    at = len(codecs.BOM_UTF8) if data.startswith(codecs.BOM_UTF8) else 0
+    declared, comment = re.compile(rb"<\?xml[^>]*\?>").match(data, at), f"<!-- {MARK} -->".encode()
+    if declared:
+        return data[:declared.end()] + b"\n" + comment + data[declared.end():]
+    return data[:at] + comment + b"\n" + data[at:]
 
 
 def mended(name: str, data: bytes) -> Prepared:

@@ -26,8 +26,17 @@ def write_error(text: str) -> None:
         pass
 
 
+def printable(text: str) -> str:
+    """one sign for each sign of what others wrote, none of which a terminal takes for an order or shows elsewhere. Line feeds stay,
+    and so does what of a file's name is no UTF-8"""
+    if text.isascii() and text.isprintable():
+        return text
+    return "".join(it if it.isprintable() or it == "\n" or "\udc80" <= it <= "\udcff" else " " if it.isspace() else "\ufffd"
+                   for it in text)
+
+
 def say(text: str) -> None:
-    write_error(f"railplan: {text}\n")
+    write_error(f"railplan: {printable(text)}\n")
 
 
 def end(status: int, why: str = "") -> NoReturn:

@@ -19,7 +19,7 @@ from opinion import drawing, graph  # noqa: E402
 from small import station  # noqa: E402
 from trying import Case, main  # noqa: E402
 
-FORGED = 16
+FORGED = 40
 GRIDS = [("5", "1"), ("6", "1"), ("6", "2"), ("8", "1"), ("4", "1")]
 Lines = list[bytes]
 

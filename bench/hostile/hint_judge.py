@@ -6,12 +6,14 @@ from __future__ import annotations
 
 import re
 from dataclasses import dataclass
+from functools import lru_cache
 
 from opinion import drawing, log, reading
 
 HEADER = b"railplan-hints 1\n"
 FAULTS = ["", "Header", "Form", "Number", "Twice", "Range"]
 LAST, LAST_CAP = 1_073_741_823, 65_535
+Bounds = dict[tuple[str, int], int]
 WHOLE, CAPS = re.compile(rb"-?[0-9]+"), re.compile(rb"caps(?: -?[0-9]+){4}")
 
 
@@ -31,7 +33,7 @@ class Hinted:
 class Claims:
     """what a judged text shows: the Refuted clauses, and the Bound lines' variables"""
     refuted: list[set[int]]
-    bounds: dict[tuple[str, int], int]
+    bounds: Bounds
 
 
 def number_of(field: bytes, least: int) -> int | None:
@@ -88,12 +90,14 @@ def refuse(fault: int, number: int) -> None:
     raise reading.Refused(b"hints %d %s line %d" % (fault, FAULTS[fault].encode(), number))
 
 
-def expected(sheet: drawing.Sheet, written: log.Written, caps: list[int]) -> list[tuple[str, tuple]]:
-    """the Formula and Bound lines that are expected for these caps"""
-    lines, is_whole = written.expected(sheet.order, dict(zip(drawing.CRITERIA, caps)))
+@lru_cache(maxsize=16)
+def expected(written: log.Written, order: tuple[str, ...], caps: tuple[int, ...]) -> tuple[list[tuple[int, ...]], Bounds]:
+    """the Formula lines that are expected for these caps, and the variables of the Bound lines"""
+    lines, is_whole = written.expected(order, dict(zip(drawing.CRITERIA, caps)))
     if not is_whole:
         raise Unknown
-    return lines
+    clauses = [what for word, what in lines if word == "f"]
+    return clauses, {what[:2]: what[2] for word, what in lines if word == "b"}
 
 
 def claims_of(text: bytes, sheet: drawing.Sheet, graph: object, written: log.Written) -> Claims:
@@ -108,9 +112,8 @@ def claims_of(text: bytes, sheet: drawing.Sheet, graph: object, written: log.Wri
     caps = caps_of(lines[0], greatest)
     if isinstance(caps, int):
         refuse(caps, 2)
-    lines_expected = expected(sheet, written, caps)
-    clauses = [what for word, what in lines_expected if word == "f"]
-    claims = Claims([], {what[:2]: what[2] for word, what in lines_expected if word == "b"})
+    of_station, bounds = expected(written, tuple(sheet.order), tuple(caps))
+    clauses, claims = list(of_station), Claims([], bounds)
     for number, one in enumerate(lines[1:], 3):
         line = line_of(one)
         if isinstance(line, int):

@@ -14,7 +14,7 @@ from forms import why_otherwise  # noqa: E402
 from small import Drawn, drawn, with_other_ending  # noqa: E402
 from trying import Case, main  # noqa: E402
 
-TEXTS = 10
+TEXTS = 30
 
 
 def judge(case: Case, station: Drawn, sheet: bytes, text: bytes) -> None:

@@ -5,10 +5,14 @@ Of each family of slow_families.py and slow_files.py files of doubling sizes are
 taken. The table has a line for each size: bytes, seconds, seconds for each megabyte, how often the seconds a byte of the
 ordinary kind, at the same size, that is, and the power of the bytes with which the seconds grow since the line before: 1 is
 linear. A family is slow where its last line has more than --times of the ordinary seconds, or where a run takes longer than
---limit; less than --floor seconds are never slow. `--count` says how many sizes there are."""
+--limit; less than --floor seconds are never slow. `--count` says how many sizes there are.
+
+`--write` puts each family's last size into bench/results/slow.csv, from which docs/measured.md is made. There the power is that
+from the first size that takes 0.02 seconds to the last."""
 from __future__ import annotations
 
 import argparse
+import csv
 import math
 import os
 import random
@@ -34,6 +38,10 @@ FAMILIES = {"recheck": HINTS, "check": LOGS, "trim": LOGS, "graph": FILES, "veri
 # the greatest size of what a command reads
 MOST = {"graph": MOST_FILE, "verify": MOST_FILE}
 STATUSES = (0, 1, 8)
+# of fewer seconds no power is told
+FEW = 0.02
+TABLE = TOP / "bench/results/slow.csv"
+HEAD = ["command", "family", "MB", "s", "s for each MB", "times the ordinary", "power"]
 
 
 @dataclass
@@ -105,15 +113,23 @@ def measure(words: argparse.Namespace, command: str, maker: Maker, material: Mat
 
 def power_of(before: Measured | None, one: Measured) -> str:
     """the power with which the seconds grow; nothing where they are too few to say"""
-    if before is None or before.seconds < 0.02 or one.was_ended or one.size == before.size:
+    if before is None or before.seconds < FEW or one.was_ended or one.size == before.size:
         return ""
-    return f"power {math.log(one.seconds / before.seconds) / math.log(one.size / before.size):.1f}"
+    return f"{math.log(one.seconds / before.seconds) / math.log(one.size / before.size):.2f}"
+
+
+def row_of(command: str, family: str, measured: list[Measured], ordinary: float) -> list[str]:
+    """what the table says of a family that was measured at these sizes; `ordinary` is the ordinary rate at the last one"""
+    last, first = measured[-1], next((one for one in measured if one.seconds >= FEW), None)
+    end = "ended" if last.was_ended else power_of(first, last) or "-"
+    numbers = [f"{last.size / 1e6:.1f}", f"{last.seconds:.2f}", f"{last.rate():.3f}", f"{last.rate() / ordinary:.1f}"]
+    return [command, family, *numbers, end]
 
 
 def line_of(command: str, family: str, one: Measured, ordinary: float, power: str) -> str:
     end = "ended at the limit" if one.was_ended else f"status {one.status}"
     return (f"{command:8}{family:44}{one.size:12,}{one.seconds:10.3f} s{one.rate():10.3f} s/MB"
-            f"{one.rate() / ordinary:9.1f} times  {power:10} {end}")
+            f"{one.rate() / ordinary:9.1f} times  {power and 'power ' + power:10} {end}")
 
 
 def is_slow(words: argparse.Namespace, one: Measured, ordinary: float) -> bool:
@@ -121,17 +137,17 @@ def is_slow(words: argparse.Namespace, one: Measured, ordinary: float) -> bool:
 
 
 def try_family(words: argparse.Namespace, command: str, family: str, material: Material, rates: dict[int, float],
-               tally: Tally) -> None:
-    """measures a family at each size, until it is slow"""
-    slow, before = False, None
+               tally: Tally) -> list[str]:
+    """measures a family at each size, until it is slow; its row of the table"""
+    slow, measured = False, []
     for doubling in range(words.count):
         size = min(words.least << doubling, MOST.get(command, 1 << 29) - 2000)
         one = measure(words, command, FAMILIES[command][family], material, size)
         tally.runs += 1
         if family == "ordinary":
             rates[size] = max(one.rate(), 1e-4)
-        print(line_of(command, family, one, rates[size], power_of(before, one)), flush=True)
-        before = one
+        print(line_of(command, family, one, rates[size], power_of(measured[-1] if measured else None, one)), flush=True)
+        measured.append(one)
         slow = is_slow(words, one, rates[size])
         if not one.was_ended and one.status not in STATUSES:
             tally.wrong.append(f"{command}, {family}: ends with {one.status}")
@@ -144,6 +160,12 @@ def try_family(words: argparse.Namespace, command: str, family: str, material: M
         tally.seen[key] += slow
     elif slow:
         tally.wrong.append(f"{command} is slow on the family `{family}`")
+    return row_of(command, family, measured, rates[size])
+
+
+def write_table(rows: list[list[str]]) -> None:
+    with TABLE.open("w", encoding="utf-8", newline="") as text:
+        csv.writer(text, lineterminator="\n").writerows([HEAD, *rows])
 
 
 def main() -> int:
@@ -160,7 +182,7 @@ def main() -> int:
     words.program, words.station = words.program.resolve(), words.station.resolve()
     words.name, words.began = "slow", time.time()
     words.until = words.began + words.seconds
-    tally = Tally()
+    tally, rows = Tally(), []
     with tempfile.TemporaryDirectory() as folder:
         os.chdir(folder)
         material = material_of(words)
@@ -168,8 +190,10 @@ def main() -> int:
             rates: dict[int, float] = {}
             for family in families:
                 if family == "ordinary" or words.only in f"{command} {family}":
-                    try_family(words, command, family, material, rates, tally)
+                    rows.append(try_family(words, command, family, material, rates, tally))
         os.chdir(TOP)
+    if words.write:
+        write_table(rows)
     return report(words, tally)
 
 

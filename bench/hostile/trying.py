@@ -6,6 +6,8 @@ from __future__ import annotations
 
 import argparse
 import contextlib
+import csv
+import hashlib
 import multiprocessing
 import os
 import random
@@ -25,13 +27,20 @@ from pathlib import Path
 from known import KNOWN
 
 TOP = Path(__file__).resolve().parents[2]
+# what long runs came to, from which docs/measured.md is made
+TABLE = TOP / "bench/results/hostile.csv"
+HEAD = ["script", "seed", "cases", "runs", "wrong", "s", "program"]
 # a run that takes longer is said to hang
 SECONDS = 60.0
 TICK = 0.1
+# a run that is to end is looked at again no sooner
+LOOK = 5.0
 # signals that a run takes as a program does that is started from a terminal, however the script was started
 DEFAULT = (signal.SIGPIPE, signal.SIGXFSZ, signal.SIGHUP, signal.SIGINT, signal.SIGQUIT, signal.SIGTERM)
 # so many cases are handed to a process at a time
 BATCH = 25
+# a folder in memory, where the system has one: there a file takes a tenth of the time, and a sync next to none
+MEMORY = "/dev/shm"
 
 
 @dataclass
@@ -66,21 +75,52 @@ class Tally:
         self.runs += other.runs
 
 
+def processes_of(number: int) -> list[list[str]]:
+    """of a process, and of all below it, what the system tells in /proc: the state first, then the number of the one above"""
+    told: dict[int, list[str]] = {}
+    for path in Path("/proc").glob("[0-9]*/stat"):
+        with contextlib.suppress(OSError):
+            told[int(path.parent.name)] = path.read_text(encoding="latin-1").rpartition(")")[2].split()
+    found = [number]
+    for one in found:
+        found += [other for other, fields in told.items() if int(fields[1]) == one]
+    return [told[one] for one in found if one in told]
+
+
+def seconds_used(number: int) -> float:
+    """the seconds of the processor that a process has used, and those below it"""
+    ticks = sum(int(field) for fields in processes_of(number) for field in fields[11:15])
+    return ticks / os.sysconf("SC_CLK_TCK")
+
+
+def waits_for_a_processor(number: int, seconds: float) -> bool:
+    """whether a process, or one below it, could go on and has had less of the processors than so many seconds"""
+    return any(fields[0] == "R" for fields in processes_of(number)) and seconds_used(number) < seconds
+
+
 class Runner:
-    """starts programs in a folder, and waits for them"""
+    """starts programs in a folder, and waits for them. Its handles are closed behind it: a long run has many"""
 
     def __init__(self, folder: Path) -> None:
         self.folder = folder
         self.nothing = os.open(os.devnull, os.O_RDONLY)
         self.texts = [os.memfd_create(name) for name in ("printed", "said")]
-        self.running, self.hung, self.left = 0, False, 0.0
+        self.environment = dict(os.environb)
+        self.running, self.hung, self.limit, self.left = 0, False, 0.0, 0.0
         signal.signal(signal.SIGALRM, self.tick)
+
+    def close(self) -> None:
+        for handle in (self.nothing, *self.texts):
+            os.close(handle)
 
     def tick(self, *_: object) -> None:
         """comes again and again while a run goes on, and ends it once it has taken too long. While the script itself is
-        stopped no tick is counted"""
+        stopped no tick is counted, and on a busy machine a run that waits for a processor gets the time again"""
         self.left -= TICK
         if self.running and self.left <= 0:
+            self.left = max(self.limit, LOOK)  # to look takes a while, in which further ticks come
+            if waits_for_a_processor(self.running, self.limit):
+                return
             with contextlib.suppress(ProcessLookupError):
                 os.kill(self.running, signal.SIGKILL)
                 self.hung = True
@@ -91,9 +131,9 @@ class Runner:
             os.lseek(text, 0, os.SEEK_SET)
         handles = zip((self.nothing, *self.texts), range(3))
         actions = [(os.POSIX_SPAWN_DUP2, ours, theirs) for ours, theirs in handles]
-        self.hung, self.left = False, seconds
+        self.hung, self.limit, self.left = False, seconds, seconds
         os.chdir(self.folder)
-        self.running = os.posix_spawn(command[0], command, os.environ if environment is None else environment,
+        self.running = os.posix_spawn(command[0], command, self.environment if environment is None else environment,
                                       file_actions=actions, setsigmask=(), setsigdef=DEFAULT)
         signal.setitimer(signal.ITIMER_REAL, TICK, TICK)
         _, status = os.waitpid(self.running, 0)
@@ -183,16 +223,22 @@ Prepare = Callable[[argparse.Namespace], object]
 
 
 def emptied(folder: Path) -> None:
-    for path in folder.iterdir():
-        shutil.rmtree(path) if path.is_dir() and not path.is_symlink() else path.unlink()
+    with os.scandir(folder) as there:
+        for one in there:
+            shutil.rmtree(one) if one.is_dir(follow_symlinks=False) else os.unlink(one)
+
+
+def place_of_folders() -> str | None:
+    """where the folders of cases are made: in memory, unless TMPDIR names another place or there is none"""
+    return MEMORY if "TMPDIR" not in os.environ and os.access(MEMORY, os.W_OK | os.X_OK) else None
 
 
 def try_some(words: argparse.Namespace, attempt: Try, numbers: range) -> Tally:
     """tries the cases of these numbers, in a folder of their own"""
     tally = Tally()
-    with tempfile.TemporaryDirectory() as name:
-        folder = Path(name)
-        runner = Runner(folder)
+    place = place_of_folders()
+    with tempfile.TemporaryDirectory(dir=place) as name, contextlib.closing(Runner(Path(name))) as runner:
+        folder = runner.folder
         for number in numbers:
             if Stop.asked or time.time() > words.until:
                 break
@@ -232,8 +278,20 @@ def parser_of(text: str, count: int) -> argparse.ArgumentParser:
     parser.add_argument("--seconds", type=float, default=10.0 ** 9, help="no case begins after so many seconds")
     parser.add_argument("--first", type=int, default=0, help="the number of the first case (0)")
     parser.add_argument("--jobs", type=int, default=1, help="how many processes try cases side by side (1)")
+    parser.add_argument("--write", action="store_true", help="write what comes of it into bench/results")
     parser.add_argument("--keep", type=Path, help="a folder that gets the files of each case that is wrong")
     return parser
+
+
+def write_row(words: argparse.Namespace, tally: Tally) -> None:
+    """puts what was tried into the table, in place of an earlier row of the script and the seed"""
+    program = hashlib.sha256(words.program.read_bytes()).hexdigest()[:8]
+    seconds = round(time.time() - words.began)
+    row = [words.name, *map(str, (words.seed, tally.cases, tally.runs, len(tally.wrong), seconds)), program]
+    rows = list(csv.reader(TABLE.read_text(encoding="utf-8").splitlines()))[1:] if TABLE.exists() else []
+    rows = sorted([*(it for it in rows if it[:2] != row[:2]), row], key=lambda it: (it[0], int(it[1])))
+    with TABLE.open("w", encoding="utf-8", newline="") as text:
+        csv.writer(text, lineterminator="\n").writerows([HEAD, *rows])
 
 
 def report(words: argparse.Namespace, tally: Tally) -> int:
@@ -274,4 +332,7 @@ def main(text: str, attempt: Try, count: int, prepare: Prepare | None = None) ->
         tally.add(one)
         for what in one.wrong[:3]:
             print(f"wrong: {what}", file=sys.stderr, flush=True)
-    return report(words, tally)
+    status = report(words, tally)
+    if words.write:
+        write_row(words, tally)
+    return status

@@ -37,12 +37,10 @@ def topology_fault(number, place, *told):
 # --- items ---
 
 
-def begins_name(byte):
-    return 65 <= byte <= 90 or 97 <= byte <= 122 or byte in b"_:" or byte >= 0x80
-
-
-def goes_on_name(byte):
-    return begins_name(byte) or 48 <= byte <= 57 or byte in b"-."
+NAME = re.compile(rb"[A-Za-z_:\x80-\xff][A-Za-z_:\x80-\xff0-9.-]*")
+BLANK, TEXT = re.compile(rb"[ \t\n\r]*"), re.compile(rb"[^<&]*")
+# what may stand in a value behind each of the quotes
+IN_QUOTES = {ord(quote): re.compile(rb"[^<%s]*" % quote) for quote in (b'"', b"'")}
 
 
 def byte_at(text, at):
@@ -52,17 +50,15 @@ def byte_at(text, at):
 
 
 def behind_white(text, at):
-    while at < len(text) and text[at] in WHITE:
-        at += 1
-    return at
+    return BLANK.match(text, at).end()
 
 
 def behind_name(text, at):
-    if not begins_name(byte_at(text, at)):
+    byte_at(text, at)
+    found = NAME.match(text, at)
+    if not found:
         raise Wrong
-    while at < len(text) and goes_on_name(text[at]):
-        at += 1
-    return at
+    return found.end()
 
 
 def expect(text, at, byte):
@@ -78,17 +74,16 @@ def attribute(text, at):
     name = text[at:end]
     at = behind_white(text, expect(text, behind_white(text, end), "="))
     quote = byte_at(text, at)
-    if quote not in b"\"'":
+    if quote not in IN_QUOTES:
         raise Wrong
-    at = begin = at + 1
-    while byte_at(text, at) != quote:
-        if text[at] == ord("<"):
-            raise Wrong
-        at += 1
-    return name, text[begin:at], at + 1
+    end = IN_QUOTES[quote].match(text, at + 1).end()
+    if byte_at(text, end) != quote:
+        raise Wrong
+    return name, text[at + 1:end], end + 1
 
 
 REFERENCE = re.compile(rb"&(?:(lt|gt|amp|apos|quot)|#([0-9]{1,8})|#x([0-9A-Fa-f]{1,8}));")
+PUT_OTHERWISE = re.compile(rb"[&\t\n\r]")
 NAMED = {b"lt": b"<", b"gt": b">", b"amp": b"&", b"apos": b"'", b"quot": b'"'}
 
 
@@ -108,6 +103,8 @@ def reference(text, at):
 def value_text(raw):
     """the text of an attribute's value; none where an `&` begins no reference"""
     text, at = bytearray(), 0
+    if not PUT_OTHERWISE.search(raw):
+        return raw
     while at < len(raw):
         if raw[at] == ord("&"):
             found = reference(raw, at)
@@ -194,9 +191,7 @@ def item(text, at, is_first):
             raise text_fault(5, at)
         return "reference", found[0], None, []
     if text[at] != ord("<"):
-        end = at
-        while end < len(text) and text[end] not in b"<&":
-            end += 1
+        end = TEXT.match(text, at).end()
         return ("white" if not text[at:end].strip(WHITE) else "text"), end, None, []
     try:
         return markup(text, at, is_first)

@@ -1,4 +1,5 @@
 """Every fault, refusal and law has a sentence. Faults of files are provoked, where there is a program, and what is said is looked at."""
+import json
 import os
 import re
 import subprocess
@@ -290,6 +291,34 @@ class Provoked(unittest.TestCase):
                              (["draw", self.file("x", b" " * 4194305)], "4 MiB")):
             with self.subTest(given=given):
                 self.assertIn(piece, self.told(given)[1][0].text)
+
+
+class Signs(unittest.TestCase):
+    """a file, a name and an answer are other people's: none gives a terminal an order"""
+    ODD = "\x1b[31mx\x9b2J\x07\u202ey\r"
+    HARMLESS = "\ufffd[31mx\ufffd2J\ufffd\ufffdy "
+
+    def test_sentences_and_places(self):
+        from tool import notes
+        self.assertEqual(saying.printable(self.ODD), self.HARMLESS)
+        self.assertEqual(saying.printable("é\n\udcff\U0001f682"), "é\n\udcff\U0001f682")
+        note = notes.Note(self.ODD, places.Place(self.ODD, 1, 1, self.ODD))
+        for text in (notes.plain(note), note.show()):
+            self.assertEqual(text.count(self.HARMLESS), 3)
+        with mock.patch("tool.saying.write_error") as said:
+            saying.say(self.ODD)
+        said.assert_called_with(f"railplan: {self.HARMLESS}\n")
+
+    def test_names_of_copies(self):
+        from tool import notes
+        with mock.patch.dict(os.environ, {"RAILPLAN_NAMES": json.dumps({"copy": self.ODD})}):
+            self.assertEqual(notes.named("copy:1:1"), f"{self.HARMLESS}:1:1")
+
+    def test_what_a_file_says_of_itself(self):
+        from tool import notes
+        encoding = f'<?xml version="1.0" encoding="{self.ODD}"?>'.encode()
+        found = notes.plain(text_faults.notes("f", encoding, "Encoding", 0, "railplan")[0])
+        self.assertIn(f"the file says that it is {self.HARMLESS}", found)
 
 
 class Exchanged(unittest.TestCase):

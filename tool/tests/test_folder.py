@@ -1,7 +1,10 @@
 """A folder of stations: what is drawn, on which grids, what is not drawn again, parts, and the page of all."""
 import json
 import signal
+import tempfile
 import time
+import unittest
+from pathlib import Path
 from unittest import mock
 
 from tool import folder, folder_index, folder_station, running
@@ -57,6 +60,18 @@ if ran.returncode == 0: open(os.environ["RAILPLAN_SMALL"], "w").write("<svg smal
 sys.stdout.buffer.write(ran.stdout)
 sys.exit(ran.returncode)
 """
+
+
+class Names(unittest.TestCase):
+    def test_nothing_that_is_made_has_the_name_of_another(self):
+        for found, names in ((("a.xml", "b.railml"), ["a", "b"]), (("a.xml", "a.XML"), ["a.XML", "a.xml"]),
+                             (("index.xml", "a.xml"), ["a", "index.xml"]), (("index.railml",), ["index.railml"]),
+                             (("a.xml", "a.XML", "a.xml.xml"), ["a.XML", "a.xml", "a.xml.xml"])):
+            with self.subTest(found), tempfile.TemporaryDirectory() as there:
+                for name in found:
+                    (Path(there) / name).write_text("<railml/>")
+                named = folder.stations(Path(there))
+                self.assertEqual((sorted(named), sorted(it.name for it in named.values())), (names, sorted(found)))
 
 
 class Folders(InClone):

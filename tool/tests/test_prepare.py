@@ -126,7 +126,27 @@ class Mended(unittest.TestCase):
         for text in ("<!-- \u00fc -->" + TRACK, '<?xml version="1.0" encoding="UTF-8"?><!-- \u00fc -->' + TRACK):
             found, changes, guesses = mended(text.encode("latin-1"))
             self.assertIn("Name its encoding in the first line", guesses[0])
-        self.assertIn("isn't known", mended('<?xml version="1.0" encoding="x-y"?>' + TRACK)[2][0])
+        for name in ("x-y", "undefined", "rot13", "a\0b"):
+            with self.subTest(name):
+                self.assertIn("isn't known", mended(f'<?xml version="1.0" encoding="{name}"?>' + TRACK)[2][0])
+        self.assertIn("half of a character", mended('<?xml version="1.0" encoding="utf-7"?><!-- +2AA- -->' + TRACK)[2][0])
+
+    def test_bytes_that_are_not_of_the_encoding_by_which_the_file_begins(self):
+        for data, said in ((b"\xef\xbb\xbf" + TRACK.encode() + b"\xfc", f"begins as UTF-8 does, and byte {len(TRACK) + 3} isn't"),
+                           (TRACK.encode("utf-16") + b"x", f"begins as UTF-16 does, and byte {2 * len(TRACK) + 2} isn't"),
+                           (TRACK.encode("utf-16-le") + b"x", f"begins as UTF-16 does, and byte {2 * len(TRACK)} isn't")):
+            with self.subTest(said):
+                found, changes, guesses = mended(data)
+                self.assertEqual((changes, len(guesses)), ([], 1))
+                self.assertIn(said, guesses[0])
+
+    def test_the_mark_stands_behind_a_byte_order_mark(self):
+        declared = '<?xml version="1.0"?>'
+        for front, behind in (("", ""), ("\ufeff", ""), (declared, "\n"), ("\ufeff" + declared, "\n")):
+            marked = prepare.with_mark((front + TRACK).encode()).decode()
+            with self.subTest(front):
+                self.assertTrue(marked.startswith(f"{front}{behind}<!-- {prepare.MARK} -->"))
+                self.assertEqual(mended(marked)[2], [])
 
     def test_a_prefix(self):
         text = TRACK.replace("<", "<r:").replace("<r:/", "</r:").replace('xmlns="x"', 'xmlns:r="x"')

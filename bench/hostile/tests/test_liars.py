@@ -26,7 +26,7 @@ LIES = {
     "refused_memory": [("graph", '"$P" "$@"; exit 0')],
 }
 # so many cases come upon each of the lies
-COUNTS = {"files": 120, "sheets": 15, "logs": 5, "hints": 4, "forgeries": 5, "forged_logs": 2, "refused_memory": 17}
+COUNTS = {"files": 120, "sheets": 6, "logs": 5, "hints": 4, "forgeries": 5, "forged_logs": 2, "refused_memory": 17}
 
 
 @unittest.skipUnless(os.access(PROGRAM, os.X_OK), "no program is built")

@@ -1,7 +1,9 @@
 """Cases, runs and reports, and the changes by chance."""
 import argparse
 import contextlib
+import hashlib
 import io
+import os
 import random
 import signal
 import subprocess
@@ -51,6 +53,23 @@ class Runs(unittest.TestCase):
         self.assertTrue(answer.hung)
         self.assertEqual(len(case.tally.wrong), 1)
 
+    def test_a_run_that_waits_for_a_processor_does_not_hang(self) -> None:
+        for command, waits in (("while :; do :; done", True), ("exec sleep 60", False), ("(while :; do :; done) & wait", True)):
+            job = subprocess.Popen(["/bin/sh", "-c", command], cwd="/", start_new_session=True)
+            try:
+                time.sleep(0.3)
+                self.assertEqual(trying.waits_for_a_processor(job.pid, 30.0), waits, command)
+                while waits and trying.seconds_used(job.pid) < 0.1:
+                    time.sleep(0.1)
+                self.assertFalse(trying.waits_for_a_processor(job.pid, 0.1), command)
+            finally:
+                os.killpg(job.pid, signal.SIGKILL)
+                job.wait()
+
+    def test_a_run_that_goes_round_for_ever_hangs(self) -> None:
+        with tempfile.TemporaryDirectory() as folder:
+            self.assertTrue(case_of(folder).run("-c", "while :; do :; done", seconds=0.3).hung)
+
     def test_an_answer_is_held_to_the_byte(self) -> None:
         for answer, wrong in ((Answer(0, b"a\n"), 0), (Answer(0, b"a"), 1), (Answer(1, b"a\n"), 1), (Answer(0, b"a\n", b"x"), 1)):
             with tempfile.TemporaryDirectory() as folder:
@@ -76,6 +95,51 @@ class Scripts(unittest.TestCase):
         tally = trying.try_some(words, attempt, range(3))
         self.assertEqual((tally.cases, tally.counts["tried"], len(tally.wrong)), (3, 3, 1))
         self.assertIn("seed 1, case 1: the script fails: ValueError('here')", tally.wrong[0])
+
+    def test_batches_leave_nothing(self) -> None:
+        words = argparse.Namespace(program=Path("/bin/sh"), seed=1, until=time.time() + 60, keep=None)
+
+        def left() -> tuple[list[str], list[str]]:
+            return os.listdir("/proc/self/fd"), os.listdir(folder)
+
+        with tempfile.TemporaryDirectory() as folder, mock.patch.object(trying, "place_of_folders", lambda: folder):
+            trying.try_some(words, lambda case: case.run("-c", "echo out > there"), range(1))
+            before = left()
+            for number in range(3):
+                trying.try_some(words, lambda case: case.run("-c", "echo out > there"), range(number, number + 1))
+            self.assertEqual(left(), before)
+        with self.assertRaises(ChildProcessError):
+            os.waitpid(-1, os.WNOHANG)
+
+    def test_folders_are_in_memory_unless_another_place_is_named(self) -> None:
+        for environment, memory, place in (({}, "/", "/"), ({}, "/nothing/there", None), ({"TMPDIR": "/tmp"}, "/", None)):
+            with mock.patch.dict(os.environ, environment, clear=True), mock.patch.object(trying, "MEMORY", memory):
+                self.assertEqual(trying.place_of_folders(), place)
+
+    def test_a_folder_is_emptied_and_what_a_link_leads_to_stays(self) -> None:
+        with tempfile.TemporaryDirectory() as name, tempfile.TemporaryDirectory() as other:
+            folder, kept = Path(name), Path(other) / "kept"
+            kept.write_text("kept")
+            (folder / "inner/deep").mkdir(parents=True)
+            (folder / "file").write_text("x")
+            (folder / "link").symlink_to(kept)
+            (folder / "leads").symlink_to(other)
+            trying.emptied(folder)
+            self.assertEqual((list(folder.iterdir()), kept.read_text()), ([], "kept"))
+
+
+class Written(unittest.TestCase):
+    def test_a_run_has_its_row(self) -> None:
+        def words_of(name: str, seed: int) -> argparse.Namespace:
+            return argparse.Namespace(name=name, seed=seed, began=time.time(), program=Path("/bin/sh"))
+
+        with tempfile.TemporaryDirectory() as folder, mock.patch.object(trying, "TABLE", Path(folder) / "rows.csv"):
+            for name, seed, cases in (("sheets", 12, 1), ("files", 3, 2), ("sheets", 7, 3), ("sheets", 12, 4)):
+                trying.write_row(words_of(name, seed), Tally(cases=cases, runs=9, wrong=["x"]))
+            rows = [line.split(",") for line in trying.TABLE.read_text().splitlines()]
+        self.assertEqual([row[:5] for row in rows], [["script", "seed", "cases", "runs", "wrong"], ["files", "3", "2", "9", "1"],
+                                                    ["sheets", "7", "3", "9", "1"], ["sheets", "12", "4", "9", "1"]])
+        self.assertEqual(rows[1][5:], ["0", hashlib.sha256(Path("/bin/sh").read_bytes()).hexdigest()[:8]])
 
 
 class Interrupts(unittest.TestCase):
@@ -150,6 +214,13 @@ class Slow(unittest.TestCase):
         words = argparse.Namespace(floor=0.3, times=20.0)
         for seconds, ended, slow_one in ((0.2, False, False), (1.0, False, False), (3.0, False, True), (0.1, True, True)):
             self.assertEqual(slow.is_slow(words, slow.Measured(1_000_000, seconds, 0, ended), 0.1), slow_one)
+
+    def test_a_row_of_the_table(self) -> None:
+        sizes = [slow.Measured(1_000_000, 0.001, 0, False), slow.Measured(2_000_000, 0.03, 0, False),
+                 slow.Measured(4_000_000, 0.06, 0, False), slow.Measured(8_000_000, 0.48, 0, False)]
+        self.assertEqual(slow.row_of("check", "x", sizes, 0.03), ["check", "x", "8.0", "0.48", "0.060", "2.0", "2.00"])
+        self.assertEqual(slow.row_of("check", "x", sizes[:1], 0.001)[-1], "-")
+        self.assertEqual(slow.row_of("check", "x", [slow.Measured(4_000_000, 9.0, -9, True)], 0.03)[-1], "ended")
 
     def test_seconds_of_the_processor(self) -> None:
         seconds, status, ended = slow.timed(["/bin/sh", "-c", "while :; do :; done"], 0.3)
