@@ -196,7 +196,7 @@ class Folders(InClone):
         self.assertNotIn("left in", self.folder()[2])
         for name in ("b", "c"):
             (self.top / f"in/{name}.xml").unlink()
-        for path in (self.top / "out").glob("c.*"):
+        for path in [*(self.top / "out").glob("c.*"), *(self.top / "out/small").glob("c.*")]:
             path.unlink()
         self.assertIn("railplan: left in out from former runs, as in has no such station any more: b\n", self.folder()[2])
         self.assertIn("b.html", self.made())
