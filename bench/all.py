@@ -29,7 +29,7 @@ class Script:
 
 # those that take longest come first
 SCRIPTS = (
-    Script("peers", "g++"), Script("stations"), Script("everyday"), Script("reader"), Script("redraws"), Script("fronts"),
+    Script("peers", "g++"), Script("stations"), Script("everyday"), Script("large"), Script("reader"), Script("redraws"), Script("fronts"),
     Script("search", "minisat"), Script("explanations"), Script("formula"),
     Script("pages", "chromium", ("drive",), takes_program=False), Script("folders", is_alone=True))
 # these prove crates before they measure, where that isn't done yet

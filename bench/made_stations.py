@@ -225,6 +225,57 @@ LARGER = (
 )
 
 
+def large_through(above, below, throats):
+    """two tracks with loops on both sides, a siding at the outermost ones, and so many pairs of crossovers at both ends"""
+    station, lower, upper = two_tracks(1, 20000)
+    for i in range(throats):
+        for west in (100 + 720 * i, 19200 - 720 * i):
+            station.crossover(lower, upper, west, west + 300)
+            station.crossover(lower, upper, west + 350, west + 650, False)
+    for track, count, is_upper in ((upper, above, True), (lower, below, False)):
+        for i in range(count):
+            track = station.loop(track, 7000 + 200 * i, 13000 - 200 * i, is_upper)
+        station.siding(track, 9500, 10500, is_upper)
+    return station
+
+
+def loops_on_both(k):
+    """two tracks, each with k loops on its outer side"""
+    station, lower, upper = two_tracks(k)
+    for i in range(k):
+        station.loop(upper, 1000 * i + 200, 1000 * i + 800, True)
+        station.loop(lower, 1000 * i + 200, 1000 * i + 800, False)
+    station.crossover(lower, upper, 900, 1100)
+    return station
+
+
+def two_yards(k, roads):
+    """a line of two tracks with k groups of roads beside it, by turns above and below, each road a loop of the one before"""
+    station, lower, upper = two_tracks(k, 3000)
+    for i in range(k):
+        at, is_upper = 3000 * i, i % 2 == 0
+        station.crossover(lower, upper, at + 100, at + 300, is_upper)
+        track = upper if is_upper else lower
+        for j in range(roads):
+            track = station.loop(track, at + 500 + 200 * j, at + 2800 - 200 * j, is_upper)
+    return station
+
+
+# thirty of 60 to 128 nodes: throats, lines with many loops, yards of thirty tracks, and what the grid just holds or doesn't
+LARGE = (
+    [(f"through station {a} {b}, {t} throats", large_through(a, b, t))
+     for a, b, t in ((1, 1, 7), (2, 2, 6), (3, 3, 5), (4, 4, 5), (2, 4, 6), (4, 3, 6), (5, 3, 6), (4, 4, 8))]
+    + [(f"loops on both tracks {k}", loops_on_both(k)) for k in (14, 15, 16)]
+    + [(f"passing places {k}", passing(k, sidings)) for k, sidings in ((15, 3), (20, 2))]
+    + [(f"line {k}", line(k)) for k in (14, 20)]
+    + [(f"yard {k}", yard(k)) for k in (10, 11, 15)]
+    + [(f"roads {k} by {r}", two_yards(k, r)) for k, r in ((6, 4), (7, 4))]
+    + [(f"ladder {k}", ladder(k)) for k in (9, 10, 12, 14, 16)]
+    + [(f"scissors {k}", scissors(k)) for k in (12, 16, 22)]
+    + [(f"crossovers {k}", crossovers(k)) for k in (29, 31)]
+)
+
+
 def named(stations, words):
     """those of the stations whose name holds one of the words; all, where there are none"""
     return [it for it in stations if not words or any(word in it[0] for word in words)]

@@ -1,8 +1,9 @@
 -- The status of an outcome, and its lines.
-use Rattle.std.proofs.Common.{List, None, Some}
+use Rattle.std.proofs.Common.{◌≡◌, List, None, Some, refl, arith}
+use Rattle.std.specs.Prelude.{length, min}
 use Rattle.plan_core.specs.declared.criterion.Criterion.{Criterion}
 use Rattle.refute_log.specs.Told.{Lines}
-use Rattle.refute_log.specs.Expected.{caps}
+use Rattle.refute_log.specs.Expected.{bound_vars, caps}
 use Rattle.search_least.specs.Task.{Task, greatest_of}
 use Rattle.search_least.specs.Outcome.{IsOutcome, IsSearched, IsLeastLeft}
 use Rattle.search_least.specs.declared.outcome.Outcome.{Outcome}
@@ -31,4 +32,9 @@ searched_of p order (outcomes.Room (Some d) settled) lines ended = ended.searche
 pub outcome_left : (p : Task) (order : List Criterion) (outcome : Outcome) (lines : Lines) → IsOutcome p order outcome lines → IsLeastLeft p order lines
 outcome_left p order outcome lines ended =
     let searched = searched_of p order outcome lines ended in
-    record { derives = searched.derives; cap = caps (greatest_of p) lines; begins = searched.front }
+    record {
+      derives = searched.derives;
+      cap = caps (greatest_of p) lines;
+      within = λ c. let e : min (length (bound_vars c lines)) (greatest_of p c) ≡ caps (greatest_of p) lines c = refl in omega (arith, e);
+      begins = searched.front;
+    }

@@ -71,7 +71,7 @@ pub(crate) struct BestSearch<'a> {
 }
 
 impl<'a> Searching for BestSearch<'a> {
-    ghost use Rattle.std.proofs.Common.{refl};
+    ghost use Rattle.std.proofs.Common.{refl, arith};
     ghost use Rattle.track_order.specs.Order.{IsOrderOf};
     ghost use Rattle.refute_log.proofs.LogLemmas.{derives_none};
     ghost use Rattle.run_draw_front.specs.Drawn.{search_job, HasEnded, IsLeftOfDraw};
@@ -106,7 +106,7 @@ impl<'a> Searching for BestSearch<'a> {
         }
     }
 
-    ghost left_none = { λ s. record { derives = derives_none; cap = λ _. 0; begins = (_, refl) } };
+    ghost left_none = { λ s. record { derives = derives_none; cap = λ _. 0; within = λ c. omega arith; begins = (_, refl) } };
 }
 
 /// The sheet of what was asked, with this drawing and this ending.
