@@ -23,15 +23,15 @@ use Rattle.schematic_main.specs.Run.{HoldsIfNew}
 -- ---- nothing was told
 
 none_held : (command : Command) (met : Met) → TraceMayHold command met []
-none_held (Draw input grid order budget svg log) met = tt
+none_held (Draw input grid order budget svg log) met = inl refl
 none_held (PrintGraph input) met = refl
 none_held (Verify input sheet) met = refl
 none_held (Check input sheet log) met = refl
 none_held (Make n) met = refl
-none_held (Trial n) met = tt
-none_held (Signals input grid order budget log) met = tt
+none_held (Trial n) met = inl refl
+none_held (Signals input grid order budget log) met = inl refl
 none_held (Front input first second grid budget) met = inl refl
-none_held (Redraw input former sheet grid budget log) met = tt
+none_held (Redraw input former sheet grid budget log) met = inl refl
 none_held (Explain input grid budget) met = inl refl
 none_held (Trim input sheet log hints) met = refl
 none_held (Recheck input sheet hints) met = refl

@@ -31,12 +31,12 @@ use Rattle.run_input.specs.Answer.{InputFile, text_input, log_input, IsPrinted, 
 use Rattle.run_input.specs.Answer.{IsAnswerOn, IsAnswerToFile, HasReadStation}
 use Rattle.run_check.specs.Verdict.{IsVerified}
 use Rattle.run_input.specs.Written.{file_named}
-use Rattle.run_draw_front.specs.Drawn.{job, IsDrawAnswer, IsLeftByDraw}
-use Rattle.run_draw_front.specs.Signalled.{IsSignalFileJudged, HasReadSignals, IsLeftBySignals}
-use Rattle.run_draw_front.specs.Tried.{IsMade, IsTried}
+use Rattle.run_draw_front.specs.Drawn.{job, IsDrawAnswer, IsLeftByDraw, DrawMayTell}
+use Rattle.run_draw_front.specs.Signalled.{IsSignalFileJudged, HasReadSignals, IsLeftBySignals, SignalsMayTell}
+use Rattle.run_draw_front.specs.Tried.{IsMade, IsTried, TrialMayTell}
 use Rattle.run_draw_front.specs.Fronted.{front_job, IsFrontAnswer, FrontMayLeave}
 use Rattle.run_explain_redraw.specs.Redrawn.{redraw_job}
-use Rattle.run_explain_redraw.specs.Answer.{IsRedrawAnswer, HasReadFormer, IsLeftByRedraw}
+use Rattle.run_explain_redraw.specs.Answer.{IsRedrawAnswer, HasReadFormer, IsLeftByRedraw, RedrawMayTell}
 use Rattle.run_explain_redraw.specs.Explained.{explain_job, IsExplainAnswer, ExplainMayLeave}
 use Rattle.run_check.specs.CheckLine.{claim_of}
 use Rattle.run_check.specs.Checked.{IsCheckAnswer}
@@ -170,20 +170,22 @@ MayLeave (Explain input grid budget) met traced name bytes = ⊥
 MayLeave (Trim input sheet log hints) met traced name bytes = IsLeftByTrim input sheet log hints met name bytes
 MayLeave (Recheck input sheet hints) met traced name bytes = ⊥
 
--- with every status, what a trace that had no line may hold: of front and explain the first of the lines that are
--- expected of a search for the station that was read, or none; a command that tells it nothing leaves none. Of draw,
--- trial, signals and redraw nothing is said here
+-- with every status, what a trace that had no line may hold: none, or lines of the search that there was, and the
+-- clauses that these give are the first of those that are expected; a command that tells it nothing leaves none
 abbrev pub TraceMayHold : Command → Met → Lines → Type 0
-TraceMayHold (Draw input grid order budget svg log) met lines = ⊤
+TraceMayHold (Draw input grid order budget svg log) met lines =
+    DrawMayTell (job grid order budget svg log) input met lines
 TraceMayHold (PrintGraph input) met lines = lines ≡ []
 TraceMayHold (Verify input sheet) met lines = lines ≡ []
 TraceMayHold (Check input sheet log) met lines = lines ≡ []
 TraceMayHold (Make n) met lines = lines ≡ []
-TraceMayHold (Trial n) met lines = ⊤
-TraceMayHold (Signals input grid order budget log) met lines = ⊤
+TraceMayHold (Trial n) met lines = TrialMayTell n lines
+TraceMayHold (Signals input grid order budget log) met lines =
+    SignalsMayTell (job grid order budget None log) input met lines
 TraceMayHold (Front input first second grid budget) met lines =
     FrontMayLeave (front_job grid first second budget) input met lines
-TraceMayHold (Redraw input former sheet grid budget log) met lines = ⊤
+TraceMayHold (Redraw input former sheet grid budget log) met lines =
+    RedrawMayTell input former sheet (redraw_job grid budget log) met lines
 TraceMayHold (Explain input grid budget) met lines = ExplainMayLeave (explain_job grid budget) input met lines
 TraceMayHold (Trim input sheet log hints) met lines = lines ≡ []
 TraceMayHold (Recheck input sheet hints) met lines = lines ≡ []

@@ -281,22 +281,22 @@ returns-in-Trim-clause-begins g c = unchanged_holds c.args.command.now _ (g.T.Lo
 pub returns-in-Draw-clause-begins : goal.returns-in-Draw-clause-begins
 returns-in-Draw-clause-begins g c =
     held_as c.args.command.now _ (between (g.F.Files.at c.args.files.now) (g.F.Files.at c.draw.new.files)) (g.T.LogSink.tells c.args.trace.now)
-    (g.T.LogSink.tells c.draw.new.trace) c.in-Draw.is (λ none lines is. tt)
+    (g.T.LogSink.tells c.draw.new.trace) c.in-Draw.is c.draw.ensures.left
 
 pub returns-in-Trial-clause-begins : goal.returns-in-Trial-clause-begins
 returns-in-Trial-clause-begins g c =
     held_as c.args.command.now _ (between (g.F.Files.at c.args.files.now) (g.F.Files.at c.args.files.now)) (g.T.LogSink.tells c.args.trace.now)
-    (g.T.LogSink.tells c.trial.new.log) c.in-Trial.is (λ none lines is. tt)
+    (g.T.LogSink.tells c.trial.new.log) c.in-Trial.is c.trial.ensures.left
 
 pub returns-in-Signals-clause-begins : goal.returns-in-Signals-clause-begins
 returns-in-Signals-clause-begins g c =
     held_as c.args.command.now _ (between (g.F.Files.at c.args.files.now) (g.F.Files.at c.signals.new.files)) (g.T.LogSink.tells c.args.trace.now)
-    (g.T.LogSink.tells c.signals.new.trace) c.in-Signals.is (λ none lines is. tt)
+    (g.T.LogSink.tells c.signals.new.trace) c.in-Signals.is c.signals.ensures.left
 
 pub returns-in-Redraw-clause-begins : goal.returns-in-Redraw-clause-begins
 returns-in-Redraw-clause-begins g c =
     held_as c.args.command.now _ (between (g.F.Files.at c.args.files.now) (g.F.Files.at c.redraw.new.files)) (g.T.LogSink.tells c.args.trace.now)
-    (g.T.LogSink.tells c.redraw.new.trace) c.in-Redraw.is (λ none lines is. tt)
+    (g.T.LogSink.tells c.redraw.new.trace) c.in-Redraw.is c.redraw.ensures.left
 
 pub returns-in-Front-clause-begins : goal.returns-in-Front-clause-begins
 returns-in-Front-clause-begins g c =
