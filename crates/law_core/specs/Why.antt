@@ -47,8 +47,8 @@ abbrev pub FormulaPasses : Layout → (room : ℕ) → Type 0
 FormulaPasses y room = (VARS < size_of y) ⊎ (room < words_of (formula_of y))
 
 -- why it answered so: the whole formula was told, and without a drawing or an explanation as many clauses were learnt
--- as the budget allows, and the last question is open, or there is no room for one more clause, and no lawful drawing
--- was found; or there is no room for the formula, and then nothing was told
+-- as the budget allows, and the last question is open, or there is no room for one more clause, and no Model line
+-- answers a query of all laws; or there is no room for the formula, and then nothing was told
 abbrev pub IsWhyCause : Layout → (budget room : ℕ) → Why → Lines → Type 0
 IsWhyCause y budget room (Exists d) lines = clause_lines lines ≡ formula_lines y
 IsWhyCause y budget room (Laws names without) lines = clause_lines lines ≡ formula_lines y

@@ -93,7 +93,8 @@ fn front_station<L: LogSink>(
     }
 }
 
-/// What `front` answers. After an error a trace that had no line has the first of the lines that are expected, or none.
+/// What `front` answers. After an error the Formula and Bound lines of a trace that had no line are the first of those
+/// that are expected, or there are none.
 pub fn front<F: Files, T: LogSink>(
     alloc: Global,
     input: &Text,

@@ -105,8 +105,8 @@ fn explain_station<L: LogSink>(
     }
 }
 
-/// What `explain` answers. After an error a trace that had no line has the first of the lines that are expected, or
-/// none.
+/// What `explain` answers. After an error the Formula lines of a trace that had no line are the first of those that
+/// are expected, or there are none.
 pub fn explain<F: Files, T: LogSink>(
     alloc: Global,
     input: &Text,
