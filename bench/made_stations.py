@@ -271,7 +271,7 @@ LARGE = (
     + [(f"yard {k}", yard(k)) for k in (10, 11, 15)]
     + [(f"roads {k} by {r}", two_yards(k, r)) for k, r in ((6, 4), (7, 4))]
     + [(f"ladder {k}", ladder(k)) for k in (9, 10, 12, 14, 16)]
-    + [(f"scissors {k}", scissors(k)) for k in (12, 16, 22)]
+    + [(f"scissors {k}", scissors(k)) for k in (12, 16, 19)]
     + [(f"crossovers {k}", crossovers(k)) for k in (29, 31)]
 )
 
