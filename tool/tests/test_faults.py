@@ -109,6 +109,8 @@ FURTHER = (
     (edited((b'"W3"', b'"W2"')), "topology RepeatedId", "the id W2 is that of an earlier element too", "W2 is here first"),
     (signals(b'id="s" pos="5"', b'id="s" pos="6"'), "signal RepeatedId", "the id s is that of an earlier element too", "s is here first"),
     (edited((b'pos="310"', b'pos="1310"')), "topology OutsideTrack", "goes from 0 to 1250", "the track begins here"),
+    (edited((b'pos="310" absPos="12310"', b'pos="0" absPos="12000"')), "graph NotForward", "are both at 12000", "switch W1 is here"),
+    (edited((b"</trackBegin>", b"</trackEnd>")), "text EndTag", "before <trackBegin> is closed", "<trackBegin> is opened here"),
     ((TOP / "cases/stations/ring.xml").read_bytes(), "graph NotForward", "the track m is joined to itself", ""),
     (TWO, "graph SideMismatch", "two tracks are joined, and both lie on one side of it", "it is joined to the begin of track q"),
     (edited((b'"ki" ref="rd"', b'"ki" ref="sa"'), (b'"ko" ref="sa"', b'"ko" ref="rd"'), (b'"rd" ref="ki"', b'"rd" ref="ko"'),
