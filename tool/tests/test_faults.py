@@ -284,6 +284,9 @@ class Provoked(unittest.TestCase):
         found, notes = self.told(["verify", str(TOP / "examples/one.xml"), sheet])
         self.assertEqual(found, "broken 3")
         self.assertIn("law 3: the line of edge 0 (m, from mb to me)", notes[0].text)
+        one, other = sheet_faults.broken(str(TOP / "examples/one.sheet"), 5, [("node", "0"), ("node", "1")])
+        self.assertTrue(one.text.endswith("law 5: node 0 (mb) and node 1 (me) are at one point"), one.text)
+        self.assertEqual((one.place.line, other.text, other.place.line), (5, "node 1 (me) is here", 6))
 
     def test_unread_and_long(self):
         for given, piece in ((["draw", str(self.folder)], "is a folder"), (["draw", "-"], "/dev/stdin"),
