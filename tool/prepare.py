@@ -255,7 +255,7 @@ def unknown_mileage(begin: Element) -> str:
 # ---- the file
 
 
-def refuse_others(it: Prepared) -> None:
+def refuse_no_xml(it: Prepared) -> None:
     """an empty file, packed ones, and what else has no tag where XML begins"""
     if not it.data.strip():
         raise Unfit(f"{it.at(0)}: {text_faults.unfinished(it.name, it.data, 0, called())}")
@@ -294,7 +294,7 @@ def mended(name: str, data: bytes) -> Prepared:
     """the file as it is to be, with what was changed and what would have to be guessed"""
     it = Prepared(name, data)
     try:
-        refuse_others(it)
+        refuse_no_xml(it)
         mend_encoding(it)
         refuse_text(it)
         mend_prefix(it)
