@@ -109,6 +109,15 @@ class Shown(unittest.TestCase):
         for command, said in progress.DOING.items():
             self.assertEqual(self.watch([command]).text(3, 200), f"railplan: {said} · 3 s")
 
+    def test_an_interrupt_says_what_was_found_but_of_a_redrawing(self):
+        """the log of redraw asks for moved nodes, and not for criteria"""
+        for given, is_said in ((["draw", "s"], True), (["redraw", "s", "old", "sheet"], False)):
+            it = progress.Watch(words.read(given), "l")
+            it.log = log(BENDS)
+            with mock.patch("tool.notes.show") as said, mock.patch("tool.progress.say"):
+                progress.tell_stopped(it, 3, "")
+            self.assertEqual(said.called, is_said)
+
     def test_a_long_check_says_what_trim_saves(self):
         line = words.read(["check", "f.xml", "s", "l"])
         for seconds, is_said in ((progress.LONG - 0.1, False), (progress.LONG, True)):
