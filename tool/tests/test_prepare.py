@@ -195,6 +195,12 @@ class Written(InClone):
             self.assertEqual(self.prepare(out)[0], 0)
         self.assertIn(prepare.MARK, (self.top / "new.xml").read_text())
 
+    def test_what_is_doubted_is_said_and_the_file_is_written(self):
+        self.write("s.xml", TRACK.replace('id="be" pos="9"', 'id="be" pos="9" absPos="900"'))
+        status, out, err = self.prepare("new.xml")
+        self.assertEqual((status, (self.top / "new.xml").exists()), (0, True))
+        self.assertIn("but the track is 9 m long. One of the three may be wrong", err)
+
     def test_nothing_is_written_where_something_lacks(self):
         self.write("s.xml", TRACK.replace(' course="left"', ""))
         status, out, err = self.prepare("new.xml")

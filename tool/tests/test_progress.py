@@ -99,6 +99,7 @@ class Shown(unittest.TestCase):
                 with self.subTest(word):
                     self.assertNotIn("running", it.text(3, 200))
         self.assertIn("fewer moved nodes", progress.Watch(words.read(["redraw"]), "l").text(3, 200))
+        self.assertEqual([it for it, command in words.COMMANDS.items() if not command.takes_long], ["graph", "verify", "make"])
 
     def test_the_width_is_that_of_standard_error(self):
         for width, due in ((57, 57), (0, progress.UNKNOWN_COLUMNS)):
