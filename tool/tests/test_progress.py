@@ -10,7 +10,7 @@ from pathlib import Path
 from unittest import mock
 
 from tool import progress, running, words
-from tool.tests.clones import InClone
+from tool.tests.clones import PATIENCE, InClone
 from tool.tests.places import PROGRAM, TOP
 
 BEGUN = "railplan-log 1\nf 1 -2 0\nf 2 0\n"
@@ -160,7 +160,7 @@ echo done
 
     def end(self, job, reading):
         """what the run said on its terminal"""
-        job.communicate(timeout=60)
+        job.communicate(timeout=PATIENCE)
         said = b""
         with contextlib.suppress(OSError):
             while piece := os.read(reading, 4096):
