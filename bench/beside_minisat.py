@@ -23,10 +23,11 @@ def lines_of_crates() -> dict[str, str]:
 
 
 def build(name: str, crates: list[str], uses: list[str], place: Path) -> Path:
-    """the program of bench/programs/NAME over copies of these crates, lowest first; what is proved of them in the clone is kept"""
+    """the program of bench/programs/NAME over copies of these crates, lowest first"""
     bench, listed = f"{name}_bench", lines_of_crates()
     for crate in crates:
-        shutil.copytree(TOP / "crates" / crate, place / "crates" / crate, ignore=shutil.ignore_patterns("must-fail"))
+        for part in ("src", "specs", "proofs"):
+            shutil.copytree(TOP / "crates" / crate / part, place / "crates" / crate / part)
     for text in (PROGRAMS / name).rglob("*.txt"):
         to = place / "crates" / bench / ("src" if text.name.endswith(".rt.txt") else "") / text.relative_to(PROGRAMS / name).with_suffix("")
         to.parent.mkdir(parents=True, exist_ok=True)

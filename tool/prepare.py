@@ -16,7 +16,7 @@ from tool.places import of_byte
 from tool.railml import Element
 from tool.saying import called, end, say, why, write_error
 from tool.telling import too_long, unread
-from tool.topology_faults import lacks, leads_nowhere
+from tool.topology_faults import lacks, leads_nowhere, wrong_course, wrong_orientation
 
 MARK = "prepared by railplan; no part of what is proved"
 TAG = re.compile(rb"<[^\s/>]+(?:\s+[^\s=<>]+\s*=\s*(?:\"[^\"]*\"|'[^']*'))*\s*/?>")
@@ -247,11 +247,13 @@ def mend_mileages(it: Prepared) -> None:
 
 
 def note_lacking(it: Prepared) -> None:
-    """what elements must have and the file doesn't say, and what leads nowhere, in file order"""
+    """what elements must have and the file doesn't say, what leads nowhere, and hands and ways that aren't read, in file order"""
     document = railml.read(it.data)
     found = [(element.place, unknown_mileage(element) if name == "absPos" else lacks(element, name))
              for element, name in railml.lacking(document)]
     found += [(connection.place, leads_nowhere(document, connection)) for connection in railml.dangling(document)]
+    for is_wrong, said_of in ((railml.has_no_hand, wrong_course), (railml.has_no_way, wrong_orientation)):
+        found += [(other.place, said_of(other, other.id)) for other in railml.connections(document) if is_wrong(other)]
     it.guesses += [f"{it.at(place)}: {said}" for place, said in sorted(found)]
 
 
@@ -263,7 +265,7 @@ def unknown_mileage(begin: Element) -> str:
 # ---- the file
 
 
-def refuse_others(it: Prepared) -> None:
+def refuse_no_xml(it: Prepared) -> None:
     """an empty file, packed ones, and what else has no tag where XML begins"""
     if not it.data.strip():
         raise Unfit(f"{it.at(0)}: {text_faults.unfinished(it.name, it.data, 0, called())}")
@@ -304,7 +306,7 @@ def mended(name: str, data: bytes) -> Prepared:
     """the file as it is to be, with what was changed and what would have to be guessed"""
     it = Prepared(name, data)
     try:
-        refuse_others(it)
+        refuse_no_xml(it)
         mend_encoding(it)
         refuse_text(it)
         mend_prefix(it)

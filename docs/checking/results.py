@@ -38,12 +38,13 @@ def seconds_of_peers():
 def ratios():
     """The seconds of draw over those of each other program: in sum, on the everyday stations, and by station."""
     names, seconds = seconds_of_peers()
-    everyday = [names.index(row[0]) for row in rows_of("everyday")[1:]]
+    known = {row[0] for row in rows_of("everyday")}
+    everyday = [at for at, name in enumerate(names) if name in known]
     lines = ["| draw over | all stations | everyday ones | by station |", "|---|--:|--:|---|"]
     for who, theirs in list(seconds.items())[1:]:
         ours, by_station = seconds["draw"], [one / max(other, 0.01) for one, other in zip(seconds["draw"], theirs)][:-1]
-        some = sum(ours[at] for at in everyday) / sum(theirs[at] for at in everyday)
-        lines.append(f"| {who} | {ours[-1] / theirs[-1]:.2f} | {some:.2f} | {min(by_station):.2f} to {max(by_station):.1f} |")
+        some = sum(ours[at] for at in everyday) / max(sum(theirs[at] for at in everyday), 0.01)
+        lines.append(f"| {who} | {ours[-1] / max(theirs[-1], 0.01):.2f} | {some:.2f} | {min(by_station):.2f} to {max(by_station):.1f} |")
     return lines
 
 

@@ -10,7 +10,7 @@ from unittest import mock
 from tool import folder, folder_index, folder_station, running
 from tool.folder_station import Record, Setting
 from tool.saying import Ended
-from tool.tests.clones import InClone
+from tool.tests.clones import PATIENCE, InClone
 from tool.tests.places import TOP
 
 # a program that answers by the name of the file: it says in `asked` what it was asked for
@@ -332,13 +332,13 @@ class Folders(InClone):
     def test_an_interrupt_leaves_what_is_done(self):
         self.stations("a", "slow")
         job = self.start("folder", "in", "out", "-j", "2")
-        until = time.time() + 30
+        until = time.time() + PATIENCE
         while not (self.top / "out/records/a.json").exists() and time.time() < until:
             time.sleep(0.05)
         for _ in range(2):
             job.send_signal(signal.SIGINT)
             time.sleep(0.01)
-        err = job.communicate(timeout=20)[1]
+        err = job.communicate(timeout=PATIENCE)[1]
         self.assertEqual(job.returncode, 130)
         self.assertEqual(err, "railplan: stopped; of 2 stations 1 is done. The same line goes on from there, and writes "
                               "index.html at its end\n")

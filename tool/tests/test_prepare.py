@@ -68,6 +68,21 @@ class Mended(unittest.TestCase):
                 self.assertEqual((len(guesses), len(found)), (3, 1), guesses)
                 self.assertTrue(found[0].startswith("s.xml:1:"), found[0])
 
+    def test_hands_and_ways_that_are_not_read_are_listed(self):
+        for old, new, said in (('course="left"', 'course="straight"', "the branch c goes straight, so the track itself turns off"),
+                               ('course="left"', 'course="lefft"', "(did you mean left?)"),
+                               ('"outgoing"', '"Outgoing"', 'orientation="Outgoing" of c isn\'t read. Write'),
+                               ('<switch id="w" pos="20"><connection', '<crossing id="w" pos="20"><connection id="z" ref="z" '
+                                'orientation="incoming" course="none"/><connection', ""),
+                               ('<switch id="w" pos="20"><connection id="c" ref="d" course="left"', '<switch id="w" pos="20" '
+                                'trackContinueCourse="right"><connection id="c" ref="d" course="straight"', "")):
+            text = TRACK.replace(old, new)
+            if "<crossing" in new:
+                text = text.replace("</switch>", "</crossing>")
+            with self.subTest(new):
+                guesses = mended(text)[2]
+                self.assertEqual([bool(said) and said in it for it in guesses], [True] * bool(said), guesses)
+
     def test_what_leads_nowhere_is_listed(self):
         for edits, count in (((), 0), ((("d", "e"),), 1), ((("d", "e"), ("c", "")), 2)):
             text = TRACK
@@ -214,6 +229,12 @@ class Written(InClone):
         for out in ("new.xml", "new.xml", "empty.xml"):
             self.assertEqual(self.prepare(out)[0], 0)
         self.assertIn(prepare.MARK, (self.top / "new.xml").read_text())
+
+    def test_what_is_doubted_is_said_and_the_file_is_written(self):
+        self.write("s.xml", TRACK.replace('id="be" pos="9"', 'id="be" pos="9" absPos="900"'))
+        status, out, err = self.prepare("new.xml")
+        self.assertEqual((status, (self.top / "new.xml").exists()), (0, True))
+        self.assertIn("but the track is 9 m long. One of the three may be wrong", err)
 
     def test_nothing_is_written_where_something_lacks(self):
         self.write("s.xml", TRACK.replace(' course="left"', ""))

@@ -10,7 +10,7 @@ from pathlib import Path
 from unittest import mock
 
 from tool import progress, running, words
-from tool.tests.clones import InClone
+from tool.tests.clones import PATIENCE, InClone
 from tool.tests.places import PROGRAM, TOP
 
 BEGUN = "railplan-log 1\nf 1 -2 0\nf 2 0\n"
@@ -99,6 +99,7 @@ class Shown(unittest.TestCase):
                 with self.subTest(word):
                     self.assertNotIn("running", it.text(3, 200))
         self.assertIn("fewer moved nodes", progress.Watch(words.read(["redraw"]), "l").text(3, 200))
+        self.assertEqual([it for it, command in words.COMMANDS.items() if not command.takes_long], ["graph", "verify", "make"])
 
     def test_the_width_is_that_of_standard_error(self):
         for width, due in ((57, 57), (0, progress.UNKNOWN_COLUMNS)):
@@ -108,6 +109,15 @@ class Shown(unittest.TestCase):
     def test_other_commands_say_what_they_do(self):
         for command, said in progress.DOING.items():
             self.assertEqual(self.watch([command]).text(3, 200), f"railplan: {said} · 3 s")
+
+    def test_an_interrupt_says_what_was_found_but_of_a_redrawing(self):
+        """the log of redraw asks for moved nodes, and not for criteria"""
+        for given, is_said in ((["draw", "s"], True), (["redraw", "s", "old", "sheet"], False)):
+            it = progress.Watch(words.read(given), "l")
+            it.log = log(BENDS)
+            with mock.patch("tool.notes.show") as said, mock.patch("tool.progress.say"):
+                progress.tell_stopped(it, 3, "")
+            self.assertEqual(said.called, is_said)
 
     def test_a_long_check_says_what_trim_saves(self):
         line = words.read(["check", "f.xml", "s", "l"])
@@ -150,7 +160,7 @@ echo done
 
     def end(self, job, reading):
         """what the run said on its terminal"""
-        job.communicate(timeout=60)
+        job.communicate(timeout=PATIENCE)
         said = b""
         with contextlib.suppress(OSError):
             while piece := os.read(reading, 4096):
