@@ -106,7 +106,12 @@ impl<'a> Searching for BestSearch<'a> {
         }
     }
 
-    ghost left_none = { λ s. record { derives = derives_none; cap = λ _. 0; within = λ c. omega arith; begins = (_, refl) } };
+    ghost left_none = { λ s. record {
+      derives = derives_none;
+      cap = λ _. 0;
+      within = λ c. omega arith;
+      begins = (_, refl);
+    } };
 }
 
 /// The sheet of what was asked, with this drawing and this ending.
