@@ -17,7 +17,7 @@ from pages.places import LONGEST, SIZES, NoPlace
 from pages.signs import shown
 from pages.station import Station
 from pages.strip import StripPlan
-from pages.texts import Drawing, NoPage, Signal
+from pages.texts import Drawing, Signal
 from pages.widths import shortened, width_of
 
 TRIES = 6
@@ -60,11 +60,12 @@ class Scene:
 
 @dataclass
 class Picture:
-    """the strips of a drawing, each an element; what was shortened in them, and how well all of it stands"""
+    """the strips of a drawing, each an element; what was shortened in them or left out, and how well all of it stands"""
     strips: list[Element]
     boxes: list[tuple[float, float, float, float]]
     columns: Columns
     short: list[tuple[str, str]] = field(default_factory=list)
+    left_out: list[str] = field(default_factory=list)
     trouble: float = 0
 
     def width(self) -> float:
@@ -156,24 +157,25 @@ def spread(columns: Columns, room: float, outer: tuple[float, float]) -> list[fl
     return [x * max(1.0, grown) for x in columns.at]
 
 
-def drawn(scene: Scene, columns: Columns) -> tuple[Picture, list[float]]:
-    """the picture with these columns, and at which columns a name stood badly"""
+def drawn(scene: Scene, columns: Columns, is_crowded: bool = False) -> tuple[Picture, list[float]]:
+    """the picture with these columns, and at which columns a name stood badly; where it is crowded names may be left out"""
     named: set[str] = set()
     plans = []
     for strip in columns.strips:
-        plan = StripPlan(scene, columns, strip, named)
+        plan = StripPlan(scene, columns, strip, named, is_crowded)
         plan.lay()
         named |= set(plan.names)
         plans.append(plan)
     names = [(plan, name) for plan in plans for name in plan.names.values()]
     lacking = {f"track {edge.track}" for edge in scene.drawing.edges if edge.track is not None} - named
-    if lacking:
+    if lacking and not is_crowded:
         raise NoPlace(min(lacking))
+    left_out = {owner: whole for plan in plans for owner, whole in plan.left_out.items() if owner not in named}
     clashes = [float(column) for plan in plans for column in plan.clashes]
     trouble = sum(name.trouble() for _, name in names) + 12 * (len(plans) - 1) + 20 * len(clashes)
     worst = [plan.column_of(name) for plan, name in names if name.trouble()] + clashes
     short = sorted({(name.text, name.whole) for _, name in names if name.text != name.whole})
-    return Picture([plan.svg() for plan in plans], [plan.box for plan in plans], columns, short, trouble), worst
+    return Picture([plan.svg() for plan in plans], [plan.box for plan in plans], columns, short, sorted(left_out.values()), trouble), worst
 
 
 def draw(scene: Scene) -> Picture:
@@ -200,13 +202,13 @@ def draw(scene: Scene) -> Picture:
 
 
 def last_tries(scene: Scene, wider: dict[int, float]) -> Picture:
-    """much wider and taller layouts, for names that found no place"""
+    """much wider and taller layouts, for names that found no place; where that doesn't help either some names are left out"""
     for factor in (2, 4, 8):
         try:
             return drawn(scene, layout(scene, {at: factor * wide for at, wide in wider.items()}, factor))[0]
         except NoPlace:
             continue
-    raise NoPage("its names have no room")
+    return drawn(scene, layout(scene, {}, 1.0), True)[0]
 
 
 def small(scene: Scene) -> Picture:

@@ -102,6 +102,7 @@ class Page:
     scene: Optional[Scene] = None
     signs: list[str] = field(default_factory=list)
     short: list[tuple[str, str]] = field(default_factory=list)
+    left_out: list[str] = field(default_factory=list)
     sheet: str = ""
     is_left: bool = False
 
@@ -111,6 +112,7 @@ class Page:
         picture.widen(picture.width())
         self.figures.append(Figure(picture, picture.strips, list(caption), **more))
         self.short += [pair for pair in picture.short if pair not in self.short]
+        self.left_out += [name for name in picture.left_out if name not in self.left_out]
         self.signs += [kind for kind in signs_in(scene) if kind not in self.signs]
         self.is_left = scene.is_left
         if not self.objects:

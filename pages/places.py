@@ -301,7 +301,7 @@ def make_room(field_: Field, names: dict[str, Name], choices: dict[str, list[Nam
     other = in_the_way[0]
     field_.remove(other)
     field_.add(name)
-    for place_ in choices[other.owner]:
+    for place_ in choices.get(other.owner, []):
         if field_.is_free(place_):
             field_.add(place_)
             names[other.owner], names[name.owner] = place_, name
@@ -311,9 +311,10 @@ def make_room(field_: Field, names: dict[str, Name], choices: dict[str, list[Nam
     return False
 
 
-def place(field_: Field, wishes: list[Wish], step: float, may_lack: Callable[[Wish], bool] = lambda wish: False) -> dict[str,
-                                                                                                                         Name]:
-    """a place for each name, by what it names; those with the fewest free places choose first"""
+def place(field_: Field, wishes: list[Wish], step: float, may_lack: Callable[[Wish], bool] = lambda wish: False,
+          is_crowded: bool = False) -> dict[str, Name]:
+    """a place for each name, by what it names; those with the fewest free places choose first. Where it is crowded a name without a
+    place near by has none"""
     names: dict[str, Name] = {}
     waiting = []
     choices = {}
@@ -329,8 +330,8 @@ def place(field_: Field, wishes: list[Wish], step: float, may_lack: Callable[[Wi
         elif not any(make_room(field_, names, choices, name) for name in choices[wish.owner]):
             waiting.append(wish)
     for wish in waiting:
-        found = next(filter(field_.is_free, farther(wish, field_, step)), None)
-        if not found and may_lack(wish):
+        found = next(filter(field_.is_free, farther(wish, field_, step)), None) if not is_crowded else None
+        if not found and (is_crowded or may_lack(wish)):
             continue
         if not found:
             raise NoPlace(wish.whole)

@@ -63,10 +63,11 @@ def line_at(kind: str, start: Spot, end: Spot) -> Element:
 
 
 class StripPlan:
-    """a strip of a drawing with its columns; `named` are the tracks that an earlier strip names"""
+    """a strip of a drawing with its columns; `named` are the tracks that an earlier strip names, and where it is crowded a name that
+    finds no place is left out"""
 
-    def __init__(self, scene: Scene, columns: Columns, strip: Strip, named: set[str]) -> None:
-        self.scene, self.columns, self.strip, self.named = scene, columns, strip, named
+    def __init__(self, scene: Scene, columns: Columns, strip: Strip, named: set[str], is_crowded: bool = False) -> None:
+        self.scene, self.columns, self.strip, self.named, self.is_crowded = scene, columns, strip, named, is_crowded
         self.low, self.high = strip.bounds()
         self.field = Field(self.x(self.low) + 3 if strip.is_cut_west else -places.FAR,
                            self.x(self.high) - 3 if strip.is_cut_east else places.FAR)
@@ -75,6 +76,7 @@ class StripPlan:
         self.frame: list[Element] = []
         self.grid: list[Element] = []
         self.names: dict[str, Name] = {}
+        self.left_out: dict[str, str] = {}
         self.clashes: list[int] = []
         self.box: Box = (0, 0, 0, 0)
 
@@ -248,17 +250,26 @@ class StripPlan:
         wish.near = near
         return wish
 
+    def mark_of(self, wish: Wish) -> str:
+        """the mark of the node that a name is of"""
+        kind, _, number = wish.owner.partition(" ")
+        return self.scene.marks.nodes.get(int(number), "") if kind == "node" else ""
+
     def put_names(self, wishes: list[Wish]) -> None:
         def may_lack(wish: Wish) -> bool:
             return wish.kind == "track" and (wish.owner in self.named or self.strip.is_cut_east)
-        self.names = places.place(self.field, wishes, self.columns.row, may_lack)
+
+        first = [wish for wish in wishes if self.is_crowded and self.mark_of(wish) not in ("", "other")]
+        for part in (first, [wish for wish in wishes if wish not in first]):
+            self.names |= places.place(self.field, part, self.columns.row, may_lack, self.is_crowded)
+        self.left_out = {wish.owner: wish.whole for wish in wishes if wish.owner not in self.names}
         numbers = {edge.track: edge.number for edge in reversed(self.scene.drawing.edges) if edge.track is not None}
         for wish in wishes:
             name = self.names.get(wish.owner)
             if not name:
                 continue
             kind, _, rest = wish.owner.partition(" ")
-            mark = self.scene.marks.nodes.get(int(rest), "") if kind == "node" else ""
+            mark = self.mark_of(wish)
             key = self.scene.key("e", numbers[rest]) if kind == "track" else self.scene.key(kind[0], int(rest))
             self.things.append(self.name(name, joined("name", kind, mark), key))
 

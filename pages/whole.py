@@ -147,6 +147,14 @@ def shortened(page: Page) -> Optional[Element]:
     return element("section", element("h2", "Names that are shortened above"), element("ul", items), class_="short")
 
 
+def left_out(page: Page) -> Optional[Element]:
+    """the names that found no place in a picture"""
+    if not page.left_out:
+        return None
+    return element("section", element("h2", "Names that have no room above"),
+                   element("ul", [element("li", element("bdi", name)) for name in page.left_out]), class_="short")
+
+
 def head(page: Page, styles: list[str], script: str, title: str) -> Element:
     return element("head", element("meta", charset="utf-8"),
                    Element("meta", {"http-equiv": "Content-Security-Policy", "content": policy(styles, script)}, ()),
@@ -167,8 +175,7 @@ def body(page: Page, title: str) -> Iterable[Child]:
     said = element("div", sections, class_="facts") if sections else None
     sheet = element("details", element("summary", "The sheet, as a text"), element("pre", page.sheet)) if page.sheet else None
     left = element("div", figures(page), legend(page), said, facts.block(page.provenance, page.station.shown), shortened(page),
-                   sheet,
-                   class_="left")
+                   left_out(page), sheet, class_="left")
     yield element("main", left, object_list(page.objects, page.changes) if page.objects else None,
                   class_="work" if page.objects else None)
 

@@ -265,9 +265,10 @@ def summary(records: list[Record]) -> str:
 
 
 def left_over(out: Path, names: list[str]) -> list[str]:
-    """the stations of former runs of which there are files still, and no railML file any more"""
+    """the stations of former runs of which there are files still beside the small picture, and no railML file any more"""
     former = {it.stem: read_record(out, it.stem) for it in sorted((out / RECORDS).glob("*.json")) if it.stem not in names}
-    return [name for name, record in former.items() if record and any((out / it).exists() for it in record.files)]
+    return [name for name, record in former.items()
+            if record and any((out / it).exists() for it in record.files if it != file_name(name, "small"))]
 
 
 def make(clone: built.Clone, asked: argparse.Namespace, all_: dict[str, Path], drawn: Drawn) -> int:

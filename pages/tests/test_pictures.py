@@ -4,17 +4,19 @@ from __future__ import annotations
 import math
 import re
 import unittest
+from unittest import mock
 
 from pages import columns, drawing, signs, texts
 from pages.columns import MM, Strip
 from pages.drawing import Marks, Scene, draw
 from pages.kinds import Page, Settings, make
 from pages.markup import Element
+from pages.places import NoPlace
 from pages.station import Station
 from pages.strip import StripPlan
 from pages.tests import crowded, drawn, fixtures
 from pages.tests.fixtures import example, sample, station_of
-from pages.whole import styles_of
+from pages.whole import page_text, styles_of
 
 CAP = 0.688
 
@@ -270,6 +272,26 @@ class Names(unittest.TestCase):
         for short, whole in page.short:
             first, last = short.split("…")
             self.assertTrue(whole.startswith(first) and whole.endswith(last))
+
+    def test_names_without_room_are_left_out_and_said(self) -> None:
+        """a drawing of explain may have all its nodes on a few points; there is a page of it all the same"""
+        count, long = 60, "x" * 40
+        nodes = "".join(f"node {at} {long}{at} {at % 2 * 2} 0 0.000000\n" for at in range(count))
+        edges = "".join(f"edge {at} t{at} {2 * at} {2 * at + 1} 0 0 2 0\n" for at in range(count // 2))
+        sheet = f"railplan 2\ngrid 9 0 1\norder width\nnodes {count}\n{nodes}edges {count // 2}\n{edges}values 0 0 0 2\nend best\n"
+        real = drawing.drawn
+
+        def crowded_alone(scene: Scene, columns: object, is_crowded: bool = False) -> object:
+            if not is_crowded:
+                raise NoPlace("as if all had been tried")
+            return real(scene, columns, is_crowded)
+
+        with mock.patch.object(drawing, "drawn", crowded_alone):
+            page = make(fixtures.run_of(["draw", "no.xml"], sheet))
+        self.assertEqual(list(drawn.faults_of_page(page)), [])
+        owners = {text.owner for strip in page.figures[0].picture.strips for text in drawn.of_strip(strip).texts if text.owner}
+        self.assertEqual((len(owners) + len(page.left_out), bool(owners), bool(page.left_out)), (count + count // 2, True, True))
+        self.assertIn("Names that have no room above</h2><ul><li><bdi>", page_text(page))
 
     def test_label_of_a_name(self) -> None:
         named = station_of('<infrastructure><tracks><track id="t" name="1"><trackTopology><trackBegin id="a" name="North"/>'
