@@ -126,7 +126,7 @@ def row_of(command: str, family: str, measured: list[Measured], ordinary: float)
     """what the table says of a family that was measured at these sizes; `ordinary` is the ordinary rate at the last one"""
     last, first = measured[-1], next((one for one in measured if one.seconds >= FEW), None)
     end = "ended" if last.was_ended else power_of(first, last) or "-"
-    numbers = [f"{last.size / 1e6:.1f}", f"{last.seconds:.2f}", f"{last.rate():.3f}", f"{last.rate() / ordinary:.1f}"]
+    numbers = [f"{last.size / 1e6:.3g}", f"{last.seconds:.3g}", f"{last.rate():.3f}", f"{last.rate() / ordinary:.1f}"]
     return [command, family, *numbers, end]
 
 

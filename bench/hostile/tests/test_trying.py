@@ -230,7 +230,7 @@ class Slow(unittest.TestCase):
     def test_a_row_of_the_table(self) -> None:
         sizes = [slow.Measured(1_000_000, 0.001, 0, False), slow.Measured(2_000_000, 0.03, 0, False),
                  slow.Measured(4_000_000, 0.06, 0, False), slow.Measured(8_000_000, 0.48, 0, False)]
-        self.assertEqual(slow.row_of("check", "x", sizes, 0.03), ["check", "x", "8.0", "0.48", "0.060", "2.0", "2.00"])
+        self.assertEqual(slow.row_of("check", "x", sizes, 0.03), ["check", "x", "8", "0.48", "0.060", "2.0", "2.00"])
         self.assertEqual(slow.row_of("check", "x", sizes[:1], 0.001)[-1], "-")
         self.assertEqual(slow.row_of("check", "x", [slow.Measured(4_000_000, 9.0, -9, True)], 0.03)[-1], "ended")
 
