@@ -7,12 +7,13 @@ from __future__ import annotations
 
 import codecs
 import re
+from bisect import bisect_right
 from decimal import Decimal, InvalidOperation
 from shlex import quote
 from xml.parsers import expat
 
 from tool import files, railml, text_faults, words
-from tool.places import of_byte
+from tool.places import Place, of_byte
 from tool.railml import Element
 from tool.saying import called, end, say, why, write_error
 from tool.telling import too_long, unread
@@ -25,6 +26,10 @@ READ_AS = re.compile(r"\s*[+-]?(\d{1,9}(\.\d{0,6})?|\.\d{1,6})\s*")
 # how a file begins, the codec that this tells, and the encoding's name
 BEGINS = ((codecs.BOM_UTF8, "utf-8", "UTF-8"), (codecs.BOM_UTF16_LE, "utf-16", "UTF-16"), (codecs.BOM_UTF16_BE, "utf-16", "UTF-16"),
           (b"<\0", "utf-16-le", "UTF-16"), (b"\0<", "utf-16-be", "UTF-16"))
+# so many tracks are read, and a chain of them is no longer
+TRACKS = 128
+# so many ids are compared, to say what a ref that leads nowhere may mean
+COMPARED = 200_000
 MEASURED = (*railml.ENDS, *railml.POINTS, "signal")
 # the bytes that are read: in UTF-16 a file has twice as many, and other encodings of one sign have up to four
 MOST = files.MOST_BYTES["railml"] * 4
@@ -41,22 +46,43 @@ class Unfit(Exception):
 Edit = tuple[int, int, bytes]
 
 
+class Moved:
+    """Edits in their order, for each where it ends behind them, and by how much all before it made the text grow."""
+
+    def __init__(self, edits: list[Edit]):
+        self.edits, self.grown = edits, [0]
+        self.ends: list[int] = []
+        for begun, ended, text in edits:
+            self.ends.append(begun + self.grown[-1] + len(text))
+            self.grown.append(self.grown[-1] + len(text) - (ended - begun))
+
+    def before(self, place: int) -> int:
+        """where a byte was before these edits"""
+        at = bisect_right(self.ends, place)
+        was = place - self.grown[at]
+        return min(was, self.edits[at][0]) if at < len(self.edits) else was
+
+
 class Prepared:
     """A file's bytes while it is mended, as they were, the edits that lie between, and what was said of it: why it isn't one that
     can be mended, changes, what would have to be guessed, and what to look at."""
 
     def __init__(self, name: str, data: bytes):
         self.name, self.data, self.source, self.unfit = name, data, data, ""
-        self.edits: list[list[Edit]] = []
+        self.edits: list[Moved] = []
+        self.last = 0, 1, 0
         self.changes: list[str] = []
         self.guesses: list[str] = []
         self.doubts: list[str] = []
 
     def replace(self, edits: list[Edit]) -> None:
         """writes each text in place of the bytes from one to the other"""
-        for begun, ended, text in sorted(edits, reverse=True):
-            self.data = self.data[:begun] + text + self.data[ended:]
-        self.edits.append(sorted(edits))
+        parts, at = [], 0
+        for begun, ended, text in sorted(edits):
+            parts += [self.data[at:begun], text]
+            at = ended
+        self.data = b"".join([*parts, self.data[at:]])
+        self.edits.append(Moved(sorted(edits)))
 
     def tag(self, place: int) -> tuple[int, bytes]:
         found = TAG.match(self.data, place)
@@ -64,19 +90,20 @@ class Prepared:
 
     def at(self, place: int) -> str:
         """where the file that was read has what is at this byte now"""
-        for edits in reversed(self.edits):
-            place = before(edits, place)
-        return of_byte(self.name, self.source, place).head()
+        for moved in reversed(self.edits):
+            place = moved.before(place)
+        return self.head(place)
 
-
-def before(edits: list[Edit], place: int) -> int:
-    """where a byte was before these edits"""
-    grown = 0
-    for begun, ended, text in edits:
-        if place < begun + grown + len(text):
-            return min(place - grown, begun)
-        grown += len(text) - (ended - begun)
-    return place - grown
+    def head(self, place: int) -> str:
+        """the name, line and column of a byte that was read, counted on from the place that was asked for last: they are many"""
+        at, line, column = self.last if place >= self.last[0] else (0, 1, 0)
+        between = self.source[at:place]
+        if at == 0:
+            between = between.removeprefix(codecs.BOM_UTF8)
+        if b"\n" in between:
+            line, column, between = line + between.count(b"\n"), 0, between.rpartition(b"\n")[2]
+        self.last = place, line, column + len(between.decode("utf-8", "replace"))
+        return Place(self.name, line, self.last[2] + 1, "").head()
 
 
 # ---- the encoding
@@ -230,10 +257,11 @@ def doubt_end(it: Prepared, begin: Element, mileage: Decimal) -> None:
 
 def mend_mileages(it: Prepared) -> None:
     """writes what the file says, as long as that says more"""
-    while True:
+    for _ in range(TRACKS):
         document, edits = railml.read(it.data), []
+        connections = railml.by_id(document)
         for begin in (element for element, name in railml.lacking(document) if name == "absPos"):
-            known = railml.joined_mileage(document, begin)
+            known = railml.joined_mileage(connections, begin)
             mileage = as_read(str(known[1])) if known else ""
             if known and mileage:
                 doubt_end(it, begin, Decimal(mileage))
@@ -251,7 +279,9 @@ def note_lacking(it: Prepared) -> None:
     document = railml.read(it.data)
     found = [(element.place, unknown_mileage(element) if name == "absPos" else lacks(element, name))
              for element, name in railml.lacking(document)]
-    found += [(connection.place, leads_nowhere(document, connection)) for connection in railml.dangling(document)]
+    known = [*railml.by_id(document)]
+    found += [(connection.place, leads_nowhere(connection, known if number * len(known) < COMPARED else []))
+              for number, connection in enumerate(railml.dangling(document))]
     for is_wrong, said_of in ((railml.has_no_hand, wrong_course), (railml.has_no_way, wrong_orientation)):
         found += [(other.place, said_of(other, other.id)) for other in railml.connections(document) if is_wrong(other)]
     it.guesses += [f"{it.at(place)}: {said}" for place, said in sorted(found)]

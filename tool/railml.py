@@ -160,9 +160,8 @@ def by_id(document: Document) -> dict[str, Element]:
     return {it.id: it for it in connections(document)}
 
 
-def joined_mileage(document: Document, end: Element) -> tuple[Element, Decimal] | None:
-    """the element that a track's begin or end is joined to, with its mileage where the file says it"""
-    known = by_id(document)
+def joined_mileage(known: dict[str, Element], end: Element) -> tuple[Element, Decimal] | None:
+    """the element that a track's begin or end is joined to, with its mileage where the file says it; `known` has the connections"""
     for connection in end.named("connection"):
         other = known.get(connection.attributes.get("ref", ""))
         metres_ = mileage(other.parent) if other and other.parent else None

@@ -86,7 +86,7 @@ def lacks(it: Element, attribute: str) -> str:
 def missing(station: Station, it: Element | None, tells: list[str]) -> str:
     if it is None:
         return MISSING[tells[0]].format(what="this element")
-    known = railml.joined_mileage(station.document, it) if tells[0] == "absPos" else None
+    known = railml.joined_mileage(railml.by_id(station.document), it) if tells[0] == "absPos" else None
     said = lacks(it, tells[0])
     if known:
         other, metres = known
@@ -131,14 +131,15 @@ def unknown_ref(station: Station, it: Element | None, tells: list[str]) -> str:
         return f"the connection {tells[0]} refers to no connection that is read"
     more = len(railml.dangling(station.document)) - 1
     count = "does 1 connection" if more == 1 else f"do {more} connections"
-    return leads_nowhere(station.document, it, f"; so {count} more, which {station.prepared()} lists" if more > 0 else "")
+    known = [*railml.by_id(station.document)]
+    return leads_nowhere(it, known, f"; so {count} more, which {station.prepared()} lists" if more > 0 else "")
 
 
-def leads_nowhere(document: Document, it: Element, more: str = "") -> str:
-    """that a connection refers to none, how many more do, and what may be meant or what to write in its place"""
+def leads_nowhere(it: Element, known: list[str], more: str = "") -> str:
+    """that a connection refers to none, how many more do, and which of the known may be meant or what to write in its place"""
     given = it.attributes.get("ref", "")
     said = f"the connection {it.id} refers to {given or 'nothing'}, and no connection that is read has this id{more}"
-    return f"{said}. {other_than(given, it, [*railml.by_id(document)])}"
+    return f"{said}. {other_than(given, it, known)}"
 
 
 def other_than(given: str, it: Element, known: list[str]) -> str:

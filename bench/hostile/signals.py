@@ -97,14 +97,15 @@ def wait_until(is_so: Callable[[], bool], seconds: float) -> bool:
     return True
 
 
-def is_searching(started: Started) -> bool:
-    """whether the program has begun"""
+def is_searching(started: Started, program: str) -> bool:
+    """whether the program has begun: the one that is tried, or the launcher's copy of it"""
     for number in session_of(started.job.pid):
         try:
-            if os.readlink(f"/proc/{number}/exe").endswith("/railplan_main"):
-                return True
+            running = os.readlink(f"/proc/{number}/exe")
         except OSError:
             continue
+        if running == program or running.endswith("/railplan_main"):
+            return True
     return False
 
 
@@ -123,7 +124,7 @@ def attempt(case: Case) -> None:
     case.write("station", STATION.read_bytes())
     started = start(case, way)
     case.tally.runs += 1
-    if not wait_until(lambda: is_searching(started) or started.job.poll() is not None, BEGIN):
+    if not wait_until(lambda: is_searching(started, case.program) or started.job.poll() is not None, BEGIN):
         case.wrong(f"the search hasn't begun: {said}")
     time.sleep(case.chance.choice([0.05, 0.2, 0.5]))
     (os.killpg if to_group else os.kill)(started.job.pid, number)

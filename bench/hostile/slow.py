@@ -12,6 +12,7 @@ from the first size that takes 0.02 seconds to the last."""
 from __future__ import annotations
 
 import argparse
+import contextlib
 import csv
 import math
 import os
@@ -38,6 +39,8 @@ FAMILIES = {"recheck": HINTS, "check": LOGS, "trim": LOGS, "graph": FILES, "veri
 # the greatest size of what a command reads
 MOST = {"graph": MOST_FILE, "verify": MOST_FILE}
 STATUSES = (0, 1, 8)
+# a family that is known to be slow is looked for from so many bytes on
+LARGE = 3_000_000
 # of fewer seconds no power is told
 FEW = 0.02
 TABLE = TOP / "bench/results/slow.csv"
@@ -66,10 +69,11 @@ def timed(command: list[str], limit: float) -> tuple[float, int, bool]:
     ended = []
 
     def end(*_: object) -> None:
-        """ends a run that has used the limit; one that waits for a processor goes on"""
+        """ends a run that has used the limit; one that waits for a processor goes on, and one that has ended is gone"""
         if cpu_seconds(number) >= limit:
-            ended.append(True)
-            os.kill(number, signal.SIGKILL)
+            with contextlib.suppress(ProcessLookupError):
+                os.kill(number, signal.SIGKILL)
+                ended.append(True)
 
     signal.signal(signal.SIGALRM, end)
     signal.setitimer(signal.ITIMER_REAL, limit, limit / 4)
@@ -122,7 +126,7 @@ def row_of(command: str, family: str, measured: list[Measured], ordinary: float)
     """what the table says of a family that was measured at these sizes; `ordinary` is the ordinary rate at the last one"""
     last, first = measured[-1], next((one for one in measured if one.seconds >= FEW), None)
     end = "ended" if last.was_ended else power_of(first, last) or "-"
-    numbers = [f"{last.size / 1e6:.1f}", f"{last.seconds:.2f}", f"{last.rate():.3f}", f"{last.rate() / ordinary:.1f}"]
+    numbers = [f"{last.size / 1e6:.3g}", f"{last.seconds:.3g}", f"{last.rate():.3f}", f"{last.rate() / ordinary:.1f}"]
     return [command, family, *numbers, end]
 
 
@@ -134,6 +138,17 @@ def line_of(command: str, family: str, one: Measured, ordinary: float, power: st
 
 def is_slow(words: argparse.Namespace, one: Measured, ordinary: float) -> bool:
     return one.was_ended or one.seconds > words.floor and one.rate() > words.times * ordinary
+
+
+def judge(tally: Tally, command: str, family: str, last: Measured, slow: bool) -> None:
+    """counts a family, and whether it is slow at its greatest size. One that is known to be slow is so where it is large"""
+    key = f"slow: {command}, {family}"
+    tally.cases += 1
+    if key not in KNOWN:
+        tally.wrong += [f"{command} is slow on the family `{family}`"] * slow
+    elif slow or last.size >= LARGE:
+        tally.looked_for[key] += 1
+        tally.seen[key] += slow
 
 
 def try_family(words: argparse.Namespace, command: str, family: str, material: Material, rates: dict[int, float],
@@ -153,13 +168,7 @@ def try_family(words: argparse.Namespace, command: str, family: str, material: M
             tally.wrong.append(f"{command}, {family}: ends with {one.status}")
         if one.was_ended or size < words.least << doubling or time.time() > words.until:
             break
-    key = f"slow: {command}, {family}"
-    tally.cases += 1
-    if key in KNOWN:
-        tally.looked_for[key] += 1
-        tally.seen[key] += slow
-    elif slow:
-        tally.wrong.append(f"{command} is slow on the family `{family}`")
+    judge(tally, command, family, measured[-1], slow)
     return row_of(command, family, measured, rates[size])
 
 

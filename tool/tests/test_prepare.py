@@ -1,9 +1,11 @@
 """prepare: what is mended, what stays to the byte, and where nothing is written."""
 import os
+import time
 import unittest
 from unittest import mock
 
 from tool import prepare
+from tool.places import of_byte
 from tool.saying import Ended
 from tool.tests.clones import InClone
 
@@ -183,7 +185,26 @@ class Mended(unittest.TestCase):
         it = prepare.Prepared("f", text)
         it.replace(edits)
         self.assertEqual(it.data, b"0145xyz67Y9")
-        self.assertEqual([prepare.before(edits, at) for at in range(11)], [0, 1, 4, 5, 6, 6, 6, 6, 7, 8, 9])
+        self.assertEqual([it.edits[0].before(at) for at in range(11)], [0, 1, 4, 5, 6, 6, 6, 6, 7, 8, 9])
+
+    def test_the_places_of_a_file(self):
+        for front in (b"", b"\xef\xbb\xbf"):
+            text = front + "ab\u00e4c\n\nd\u00e4e\nf".encode()
+            it = prepare.Prepared("f", text)
+            places = [at for at in range(len(front), len(text)) if text[at] & 0xC0 != 0x80]
+            for order in (places, places[::-1], places[::2] + places[1::2]):
+                self.assertEqual([it.at(at) for at in order], [of_byte("f", text, at).head() for at in order])
+
+    def test_a_long_file_takes_no_long(self):
+        more = "".join(f'<switch id="s{n}" pos="5,5"><connection id="c{n}" ref="x{n}" course="left" orientation="outgoing"/></switch>'
+                       for n in range(8000))
+        for text in (TRACK.replace("<connections>", "<connections>" + more),
+                     TRACK.replace("<connections>", "<connections>" + more).replace("<", "<r:").replace("<r:/", "</r:").replace(
+                         'xmlns="x"', 'xmlns:r="x"')):
+            began = time.process_time()
+            it = prepare.mended("s.xml", text.encode())
+            self.assertEqual(len(it.guesses), 8000)
+            self.assertLess(time.process_time() - began, 15)
 
     def test_prefixes_that_are_not_clear(self):
         text = TRACK.replace("<track id", "<r:track id").replace("</track>", "</r:track>")

@@ -215,10 +215,22 @@ class Slow(unittest.TestCase):
         for seconds, ended, slow_one in ((0.2, False, False), (1.0, False, False), (3.0, False, True), (0.1, True, True)):
             self.assertEqual(slow.is_slow(words, slow.Measured(1_000_000, seconds, 0, ended), 0.1), slow_one)
 
+    def test_a_known_family_is_looked_for_where_it_is_large(self) -> None:
+        for size, seconds, looked_for, seen, wrong in ((1_000_000, 0.1, 0, 0, 0), (1_000_000, 3.0, 1, 1, 0),
+                                                       (4_000_000, 3.0, 1, 1, 0), (4_000_000, 0.1, 1, 0, 0)):
+            tally = Tally()
+            with mock.patch.dict(slow.KNOWN, {"slow: check, x": "It is slow."}):
+                slow.judge(tally, "check", "x", slow.Measured(size, seconds, 0, False), seconds > 1)
+            self.assertEqual((tally.looked_for["slow: check, x"], tally.seen["slow: check, x"], len(tally.wrong)),
+                             (looked_for, seen, wrong))
+        tally = Tally()
+        slow.judge(tally, "check", "y", slow.Measured(10, 9.0, 0, False), True)
+        self.assertEqual(tally.wrong, ["check is slow on the family `y`"])
+
     def test_a_row_of_the_table(self) -> None:
         sizes = [slow.Measured(1_000_000, 0.001, 0, False), slow.Measured(2_000_000, 0.03, 0, False),
                  slow.Measured(4_000_000, 0.06, 0, False), slow.Measured(8_000_000, 0.48, 0, False)]
-        self.assertEqual(slow.row_of("check", "x", sizes, 0.03), ["check", "x", "8.0", "0.48", "0.060", "2.0", "2.00"])
+        self.assertEqual(slow.row_of("check", "x", sizes, 0.03), ["check", "x", "8", "0.48", "0.060", "2.0", "2.00"])
         self.assertEqual(slow.row_of("check", "x", sizes[:1], 0.001)[-1], "-")
         self.assertEqual(slow.row_of("check", "x", [slow.Measured(4_000_000, 9.0, -9, True)], 0.03)[-1], "ended")
 
