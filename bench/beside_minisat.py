@@ -8,7 +8,8 @@ import sys
 import tempfile
 from pathlib import Path
 
-TOP = Path(__file__).resolve().parent.parent
+from measuring import TOP, with_write
+
 PROGRAMS = TOP / "bench" / "programs"
 HEADER = Path("/usr/include/minisat/core/Solver.h")
 FLAGS = ["-O3", "-w", "-fpermissive", "-D__STDC_LIMIT_MACROS", "-D__STDC_FORMAT_MACROS"]
@@ -50,14 +51,19 @@ def numbers(program: Path) -> list[int]:
     return [int(it) for it in subprocess.run([program], capture_output=True, text=True, check=True).stdout.split()]
 
 
-def quickest(about: str | None, name: str, crates: list[str], uses: list[str]) -> dict[str, list[int]]:
-    """of each of the two programs what it printed in the quickest of five runs in turn; its third number is the time"""
-    argparse.ArgumentParser(description=about, formatter_class=argparse.RawDescriptionHelpFormatter).parse_args()
+def read_words(about: str | None, name: str) -> argparse.Namespace:
+    """whether the table is written"""
+    words = with_write(argparse.ArgumentParser(description=about, formatter_class=argparse.RawDescriptionHelpFormatter)).parse_args()
     if not shutil.which("rt"):
         sys.exit(f"bench/{name}.py: the Rattle toolchain's command rt is needed")
+    return words
+
+
+def quickest(name: str, crates: list[str], uses: list[str], ours: str) -> dict[str, list[int]]:
+    """of our program and of minisat what it printed in the quickest of five runs in turn; its third number is the time"""
     with tempfile.TemporaryDirectory() as folder:
         place = Path(folder)
-        programs = {"ours": build(name, crates, uses, place), "minisat": minisat(name, place)}
+        programs = {ours: build(name, crates, uses, place), "minisat": minisat(name, place)}
         found: dict[str, list[list[int]]] = {}
         for _ in range(TURNS):
             for which, program in programs.items():

@@ -38,7 +38,7 @@ def row(program: Path, name: str, text: str, folder: Path) -> list[object]:
 
 def main() -> None:
     words = read_words(reader_of_words(__doc__, only="stations whose names hold one of these words"))
-    table = Table("everyday", HEAD)
+    table = Table("everyday", HEAD, words.program)
     with tempfile.TemporaryDirectory() as folder:
         for name, station in named(EVERYDAY, words.only):
             table.add(*row(words.program, name, station.text(), Path(folder)))

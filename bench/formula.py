@@ -48,7 +48,7 @@ def formula_of(log: Path) -> tuple[int, int, int]:
 
 def main() -> None:
     words = read_words(reader_of_words(__doc__))
-    table = Table("formula", HEAD)
+    table = Table("formula", HEAD, words.program)
     with tempfile.TemporaryDirectory() as folder:
         file, log = Path(folder, "station.xml"), Path(folder, "log")
         for name, text, width, height in (

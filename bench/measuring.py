@@ -3,6 +3,8 @@ from __future__ import annotations
 
 import argparse
 import csv
+import fcntl
+import hashlib
 import os
 import subprocess
 import sys
@@ -14,6 +16,9 @@ sys.dont_write_bytecode = True
 TOP = Path(__file__).resolve().parent.parent
 BUILT = TOP / "crates" / "railplan_main" / "out" / "railplan_main"
 RESULTS = TOP / "bench" / "results"
+# when each table was written, and of which program
+WHEN = RESULTS / "when.csv"
+WHEN_HEAD = ["table", "measured", "processors", "program"]
 
 
 @dataclass
@@ -64,10 +69,15 @@ def reader_of_program(about: str | None) -> argparse.ArgumentParser:
     return parser
 
 
+def with_write(parser: argparse.ArgumentParser) -> argparse.ArgumentParser:
+    """the same words, and whether the table is written"""
+    parser.add_argument("--write", action="store_true", help="write the table into bench/results, from which docs/measured.md is made")
+    return parser
+
+
 def reader_of_words(about: str | None, **more: str) -> argparse.ArgumentParser:
     """the words of a script with a table: a program, and whether the table is written"""
-    parser = reader_of_program(about)
-    parser.add_argument("--write", action="store_true", help="write the table into bench/results, from which docs/measured.md is made")
+    parser = with_write(reader_of_program(about))
     for name, said in more.items():
         parser.add_argument(f"--{name}", nargs="*", default=[], help=said)
     return parser
@@ -81,10 +91,11 @@ def read_words(parser: argparse.ArgumentParser) -> argparse.Namespace:
 
 
 class Table:
-    """A table that is printed row by row, and may be written as CSV."""
+    """A table that is printed row by row, and may be written as CSV; of a program that is measured a part of the SHA-256 is kept."""
 
-    def __init__(self, name: str, head: list[str]) -> None:
+    def __init__(self, name: str, head: list[str], program: Path | None = None) -> None:
         self.path, self.head = RESULTS / f"{name}.csv", head
+        self.program = hashlib.sha256(program.read_bytes()).hexdigest()[:12] if program else "-"
         self.rows: list[list[str]] = []
         print(f"{os.cpu_count()} processors, {time.strftime('%Y-%m-%d')}")
         print(f"| {' | '.join(head)} |\n|{'---|' * len(head)}", flush=True)
@@ -99,3 +110,14 @@ class Table:
             self.path.parent.mkdir(exist_ok=True)
             with self.path.open("w", encoding="utf-8", newline="") as text:
                 csv.writer(text, lineterminator="\n").writerows([self.head, *self.rows])
+            self.note_when()
+
+    def note_when(self) -> None:
+        """writes when this table was made, in the place of what was noted of it; other scripts may do so at the same time"""
+        with WHEN.open("a+", encoding="utf-8", newline="") as text:
+            fcntl.flock(text, fcntl.LOCK_EX)
+            text.seek(0)
+            known = {row[0]: row for row in list(csv.reader(text))[1:]}
+            known[self.path.stem] = [self.path.stem, time.strftime("%Y-%m-%d"), str(os.cpu_count()), self.program]
+            text.truncate(0)
+            csv.writer(text, lineterminator="\n").writerows([WHEN_HEAD, *(known[name] for name in sorted(known))])

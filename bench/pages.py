@@ -258,7 +258,7 @@ def measure(words: argparse.Namespace) -> list[tuple[str, list[str]]]:
                 faults = f"{it.faults[0]}, and {len(it.faults) - 1} more" if it.faults else "as it is to be"
                 print(f"{number} {it.what}: {faults}", flush=True)
             found += pages
-    table = Table("pages", HEAD)
+    table = Table("pages", HEAD, PROGRAM)
     for kind in KINDS:
         pages = [it for it in found if it.kind == kind]
         if pages:
@@ -296,7 +296,7 @@ def drive(words: argparse.Namespace) -> list[tuple[str, list[str]]]:
                 for what, is_good in checks:
                     print(f"{kind}: {what}: {'yes' if is_good else 'NO'}", flush=True)
                     found.append((f"{kind}: {what}", [] if is_good else ["no"]))
-    table = Table("pages_driven", ["page", "driven", "seen to work"])
+    table = Table("pages_driven", ["page", "driven", "seen to work"], PROGRAM)
     for kind in runs:
         faults = [it for what, it in found if what.startswith(kind + ": ")]
         table.add(kind, len(faults), sum(not it for it in faults))
@@ -317,7 +317,7 @@ def largest(words: argparse.Namespace) -> list[tuple[str, list[str]]]:
         rows, size = tab.run("rows.length"), page.stat().st_size
         found, seen = look(tab, page)
         names = sum(len(it["texts"]) for it in seen["pictures"])
-        table = Table("largest_page", ["objects", "texts", "strips", "KB", "to make, s", "to open, s"])
+        table = Table("largest_page", ["objects", "texts", "strips", "KB", "to make, s", "to open, s"], PROGRAM)
         table.add(rows, names, len(seen["pictures"]), f"{size / 1000:,.0f}", made, seconds)
         table.end(words.write)
     slow = ["it opens slowly"] if seconds >= 2 else []

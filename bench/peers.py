@@ -126,7 +126,8 @@ def cells(found: list[Found]) -> list[object]:
 def measure(program: Path, only: list[str], folder: Path) -> Table:
     """the table, with the sums as its last row"""
     peers = built(folder)
-    table = Table("peers", ["station", *(f"{who}, {what}" for who in ("draw", *peers) for what in ("questions", "conflicts", "s"))])
+    table = Table("peers", ["station", *(f"{who}, {what}" for who in ("draw", *peers) for what in ("questions", "conflicts", "s"))],
+                  program)
     sums = [Found(None, 0, 0, 0.0) for _ in range(len(peers) + 1)]
     for name, station in named(EVERYDAY + LARGER, only):
         found = found_of(program, peers, station.text(), folder)

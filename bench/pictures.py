@@ -9,7 +9,7 @@ import sys
 import tempfile
 from pathlib import Path
 
-from measuring import TOP, read_words, reader_of_words, run
+from measuring import TOP, read_words, reader_of_program, run
 
 EXAMPLES = TOP / "examples"
 
@@ -26,7 +26,7 @@ def faults_of(program: Path, name: str, made: Path, images: Path) -> list[str]:
 
 
 def main() -> None:
-    parser = reader_of_words(__doc__)
+    parser = reader_of_program(__doc__)
     parser.add_argument("--images", type=Path, help="a folder that keeps the images, each NAME.png")
     words = read_words(parser)
     if not shutil.which("rsvg-convert"):

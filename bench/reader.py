@@ -133,7 +133,7 @@ def shown(took: float | None) -> str:
 
 def main() -> None:
     words = read_words(reader_of_words(__doc__))
-    lint, table, ordinary = shutil.which("xmllint"), Table("reader", HEAD), None
+    lint, table, ordinary = shutil.which("xmllint"), Table("reader", HEAD, words.program), None
     with tempfile.TemporaryDirectory() as folder:
         for kind, make in KINDS:
             per_mb: list[float | None] = []

@@ -41,7 +41,7 @@ def row(program: Path, before: Station, after: Station, options: list[str], fold
 
 def main() -> None:
     words = read_words(reader_of_words(__doc__, only="stations whose names hold one of these words"))
-    table = Table("redraws", HEAD)
+    table = Table("redraws", HEAD, words.program)
     with tempfile.TemporaryDirectory() as folder:
         for name, change, before, after, options in changed():
             if not words.only or any(word in name for word in words.only):

@@ -1,10 +1,9 @@
 #!/usr/bin/env python3
-"""Writes crates/plan_core/proofs/Sampled.antt: drawings taken at random over a few track graphs, and
+"""Prints crates/plan_core/proofs/Sampled.antt: drawings taken at random over a few track graphs, and
 what this judge says of each. The judge is written from the laws in words, in docs/definitions.md, and not
-from the definitions in specs/, so the two can be compared: the check proves that they agree.
-
-usage: bench/sample_drawings.py > crates/plan_core/proofs/Sampled.antt, then rt fmt in crates/plan_core
-"""
+from the definitions in specs/, so the two can be compared: the check proves that they agree. `rt fmt` in
+crates/plan_core then puts the file into its form."""
+import argparse
 import random
 from collections import Counter
 from fractions import Fraction
@@ -308,6 +307,7 @@ def points(line):
 
 
 def main():
+    argparse.ArgumentParser(description=__doc__, formatter_class=argparse.RawDescriptionHelpFormatter).parse_args()
     random.seed(20260)
     graphs = ["one", "loop", "back", "cross", "two", "scissors", "station"]
     orders = ["none_above", "loop_above", "back_above", "cross_above", "scissors_above", "station_above"]

@@ -82,7 +82,7 @@ def main() -> None:
     words = read_words(reader_of_words(__doc__))
     if not shutil.which("minisat"):
         sys.exit("bench/search.py: minisat is needed")
-    table = Table("search", HEAD)
+    table = Table("search", HEAD, words.program)
     made = run([words.program, "make", "20"]).text
     with tempfile.TemporaryDirectory() as folder:
         for name, text, options in (

@@ -29,7 +29,7 @@ def row(program: Path, name: str, text: str, folder: Path) -> list[object]:
 
 def main() -> None:
     words = read_words(reader_of_words(__doc__, only="stations whose names hold one of these words"))
-    table = Table("stations", HEAD)
+    table = Table("stations", HEAD, words.program)
     with tempfile.TemporaryDirectory() as folder:
         for name, station in named(KINDS, words.only):
             table.add(*row(words.program, name, station.text(), Path(folder)))

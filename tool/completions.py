@@ -12,6 +12,7 @@ _railplan() {{
     case $before in
         {numbers}) return ;;
         --order) COMPREPLY=($(compgen -W "{criteria}" -- "$word")); return ;;
+{choices}
         {files}) COMPREPLY=($(compgen -f -- "$word")); return ;;
         help) COMPREPLY=($(compgen -W "{all}" -- "$word")); return ;;
     esac
@@ -70,7 +71,9 @@ def bash() -> str:
     lines = [f'        {word}) listed="{" ".join([*(it.word for it in options_of(word)), "--help"])}" ;;' for word in commands]
     return BASH.format(
         mark=MARK, commands="|".join(commands), criteria=" ".join(words.CRITERIA), all=" ".join(commands),
-        numbers="|".join(it.word for it in all_options() if it.takes in ("number", "shard", "word")),
+        numbers="|".join(it.word for it in all_options() if it.takes in ("number", "shard")),
+        choices="\n".join(f'        {it.word}) COMPREPLY=($(compgen -W "{" ".join(it.choices)}" -- "$word")); return ;;'
+                          for it in all_options() if it.choices),
         files="|".join(it.word for it in all_options() if it.is_file), pairs=" ".join(pairs()),
         first=" ".join([*commands, *words.PAGE_WORDS, "--unproved", "--help", "--version"]), options="\n".join(lines))
 
@@ -80,7 +83,7 @@ def quoted(text: str) -> str:
 
 
 def zsh_option(it: words.Option) -> str:
-    action = {"file": "_files", "order": f"({' '.join(words.CRITERIA)})"}.get(it.takes, "")
+    action = {"file": "_files", "order": f"({' '.join(words.CRITERIA)})", "word": f"({' '.join(it.choices)})"}.get(it.takes, "")
     value = f":{quoted(it.value)}:{action}" if it.value else ""
     return f"'{it.word}[{quoted(it.what)}]{value}'"
 

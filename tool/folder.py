@@ -26,8 +26,11 @@ class Words(argparse.ArgumentParser):
     def error(self, message: str) -> NoReturn:
         missing = message.partition("arguments are required: ")[2]
         extra = message.partition("unrecognized arguments: ")[2]
+        option, is_option, wrong = message.removeprefix("argument ").partition(": ")
         said = f"{missing.replace(', ', ' and ')} {'are' if ',' in missing else 'is'} missing" if missing else \
             f"folder has no word `{extra}`" if extra else message
+        if is_option and message.startswith("argument "):
+            said = f"behind {option} its value is missing" if wrong == "expected one argument" else f"{option}: {wrong}"
         end(2, f"{said}: {called()} {FORM}")
 
 
@@ -256,8 +259,8 @@ def words_behind(given: list[str]) -> list[str]:
 def summary(records: list[Record]) -> str:
     """how many stations ended how, and how many have a certificate"""
     certified = folder_index.certified(records)
-    return f"{folder_index.stations(len(records))}: {folder_index.counts(records)}" + \
-        (f", {certified} with a certificate" if certified else "")
+    ended = f": {folder_index.counts(records)}" if records else ""
+    return folder_index.stations(len(records)) + ended + (f", {certified} with a certificate" if certified else "")
 
 
 def left_over(out: Path, names: list[str]) -> list[str]:

@@ -12,11 +12,12 @@ from decimal import Decimal, InvalidOperation
 from shlex import quote
 from xml.parsers import expat
 
-from tool import files, railml, words
+from tool import files, railml, text_faults, words
 from tool.places import Place, of_byte
 from tool.railml import Element
 from tool.saying import called, end, say, why
-from tool.topology_faults import lacks, leads_nowhere
+from tool.telling import too_long, unread
+from tool.topology_faults import lacks, leads_nowhere, wrong_course, wrong_orientation
 
 MARK = "prepared by railplan; no part of what is proved"
 TAG = re.compile(rb"<[^\s/>]+(?:\s+[^\s=<>]+\s*=\s*(?:\"[^\"]*\"|'[^']*'))*\s*/?>")
@@ -30,10 +31,16 @@ TRACKS = 128
 # so many ids are compared, to say what a ref that leads nowhere may mean
 COMPARED = 200_000
 MEASURED = (*railml.ENDS, *railml.POINTS, "signal")
+# the bytes that are read: in UTF-16 a file has twice as many, and other encodings of one sign have up to four
+MOST = files.MOST_BYTES["railml"] * 4
 
 
 class Guess(Exception):
     """what the file doesn't say, and would have to be guessed"""
+
+
+class Unfit(Exception):
+    """why the file isn't one that can be mended"""
 
 
 Edit = tuple[int, int, bytes]
@@ -57,11 +64,11 @@ class Moved:
 
 
 class Prepared:
-    """A file's bytes while it is mended, as they were, the edits that lie between, and what was said of it: changes, what would
-    have to be guessed, and what to look at."""
+    """A file's bytes while it is mended, as they were, the edits that lie between, and what was said of it: why it isn't one that
+    can be mended, changes, what would have to be guessed, and what to look at."""
 
     def __init__(self, name: str, data: bytes):
-        self.name, self.data, self.source = name, data, data
+        self.name, self.data, self.source, self.unfit = name, data, data, ""
         self.edits: list[Moved] = []
         self.last = 0, 1, 0
         self.changes: list[str] = []
@@ -268,13 +275,15 @@ def mend_mileages(it: Prepared) -> None:
 
 
 def note_lacking(it: Prepared) -> None:
-    """what elements must have and the file doesn't say, and what leads nowhere, in file order"""
+    """what elements must have and the file doesn't say, what leads nowhere, and hands and ways that aren't read, in file order"""
     document = railml.read(it.data)
     found = [(element.place, unknown_mileage(element) if name == "absPos" else lacks(element, name))
              for element, name in railml.lacking(document)]
     known = [*railml.by_id(document)]
     found += [(connection.place, leads_nowhere(connection, known if number * len(known) < COMPARED else []))
               for number, connection in enumerate(railml.dangling(document))]
+    for is_wrong, said_of in ((railml.has_no_hand, wrong_course), (railml.has_no_way, wrong_orientation)):
+        found += [(other.place, said_of(other, other.id)) for other in railml.connections(document) if is_wrong(other)]
     it.guesses += [f"{it.at(place)}: {said}" for place, said in sorted(found)]
 
 
@@ -286,6 +295,15 @@ def unknown_mileage(begin: Element) -> str:
 # ---- the file
 
 
+def refuse_no_xml(it: Prepared) -> None:
+    """an empty file, packed ones, and what else has no tag where XML begins"""
+    if not it.data.strip():
+        raise Unfit(f"{it.at(0)}: {text_faults.unfinished(it.name, it.data, 0, called())}")
+    other = text_faults.no_xml(it.data)
+    if other:
+        raise Unfit(f"{it.at(0)}: this file is {other}")
+
+
 def refuse_text(it: Prepared) -> None:
     """what isn't XML is left to the program, which says what is wrong"""
     parser = expat.ParserCreate("UTF-8")
@@ -293,7 +311,14 @@ def refuse_text(it: Prepared) -> None:
         parser.Parse(it.data, True)
     except expat.ExpatError as error:
         place = of_byte(it.name, it.data, parser.ErrorByteIndex).head()
-        raise Guess(f"{place}: this isn't XML: {expat.ErrorString(error.code)}. {called()} graph {it.name} says more") from None
+        raise Unfit(f"{place}: this isn't XML: {expat.ErrorString(error.code)}. {called()} graph {quote(it.name)} says more") from None
+
+
+def refuse_root(it: Prepared) -> None:
+    """another kind of XML, as railML 3"""
+    first = railml.read(it.data).elements[0]
+    if first.name not in ("railml", "infrastructure"):
+        raise Unfit(f"{it.at(first.place)}: {text_faults.root(it.name, it.data, first.place, called())}")
 
 
 def with_mark(data: bytes) -> bytes:
@@ -311,14 +336,18 @@ def mended(name: str, data: bytes) -> Prepared:
     """the file as it is to be, with what was changed and what would have to be guessed"""
     it = Prepared(name, data)
     try:
+        refuse_no_xml(it)
         mend_encoding(it)
         refuse_text(it)
         mend_prefix(it)
+        refuse_root(it)
         mend_numbers(it)
         mend_mileages(it)
         note_lacking(it)
     except Guess as guess:
         it.guesses.append(str(guess))
+    except Unfit as unfit:
+        it.unfit = str(unfit)
     return it
 
 
@@ -339,24 +368,40 @@ def refuse_other(out: str, source: str) -> None:
     except OSError as error:
         end(6, f"{out} is there, and can't be read to see who wrote it: {why(error)}. Name another file")
     if there.st_size and MARK.encode() not in begun:
-        end(2, f"{out} is there, and prepare didn't write it. Name another file, or delete it")
+        end(2, f"{out} is there, and nothing in it says that prepare wrote it. Name another file, or delete it")
+
+
+def read_whole(source: str) -> bytes:
+    """the file's bytes; what can't be read, or is too long, ends the run"""
+    try:
+        with open(source, "rb") as file:
+            data = file.read(MOST + 1)
+    except OSError:
+        end(5, unread(source))
+    if len(data) > MOST:
+        end(1, too_long(source, "railml"))
+    return data
 
 
 def run(line: words.Line) -> int:
     if len(line.words) != 3:
         end(2, f"prepare takes a file and a name for what is mended: {called()} prepare IN OUT")
     source, out = line.words[1:]
-    try:
-        with open(source, "rb") as file:
-            data = file.read(files.MOST_BYTES["railml"] * 4)
-    except OSError as error:
-        end(5, f"{source}: {why(error)}")
+    data = read_whole(source)
     refuse_other(out, source)
     it = mended(source, data)
-    for said in it.changes + it.guesses + it.doubts:
+    for said in [it.unfit] * bool(it.unfit) + it.changes + it.guesses + it.doubts:
         say(said)
+    if it.unfit:
+        end(1, "nothing is written")
     if it.guesses:
         end(1, f"nothing is written: {len(it.guesses)} {'thing' if len(it.guesses) == 1 else 'things'} would have to be guessed")
+    write(it, out)
+    return 0
+
+
+def write(it: Prepared, out: str) -> None:
+    """writes what is mended, or a copy of what needn't be, and says which of the two it is"""
     try:
         files.write_whole(out, with_mark(it.data) if it.changes else it.data)
     except OSError as error:
@@ -365,6 +410,5 @@ def run(line: words.Line) -> int:
         count = f"{len(it.changes)} {'change' if len(it.changes) == 1 else 'changes'}"
         say(f"{out} is written: {count}. This is no part of what is proved. {called()} draw {quote(out)} says whether more is wrong")
     else:
-        say(f"{out} is a copy of {source}, as nothing in it is of a kind that prepare mends. {called()} draw {quote(source)} says whether "
-            "something is wrong")
-    return 0
+        say(f"{out} is a copy of {it.name}, as nothing in it is of a kind that prepare mends. {called()} draw {quote(it.name)} says "
+            "whether something is wrong")

@@ -191,6 +191,22 @@ def lacking(document: Document) -> list[tuple[Element, str]]:
     return [(it, name) for it in with_ids(document) for name in required(it) if name not in it.attributes]
 
 
+HANDS, WAYS = ("left", "right"), ("outgoing", "incoming")
+
+
+def has_no_hand(it: Element) -> bool:
+    """whether a connection of a switch or crossing has a course that isn't read"""
+    if "course" not in required(it) or "course" not in it.attributes or it.attributes["course"] in HANDS:
+        return False
+    is_switch = it.parent is not None and it.parent.name == "switch"
+    return not (is_switch and it.attributes["course"] == "straight" and it.parent.attributes.get("trackContinueCourse") in HANDS)
+
+
+def has_no_way(it: Element) -> bool:
+    """whether a connection of a switch or crossing has an orientation that isn't read"""
+    return "orientation" in required(it) and it.attributes.get("orientation", WAYS[0]) not in WAYS
+
+
 def dangling(document: Document) -> list[Element]:
     """the connections that refer to none that is read, in file order"""
     known = by_id(document)

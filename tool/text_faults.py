@@ -10,6 +10,9 @@ from tool.places import of_byte
 
 
 def not_utf8(name: str, data: bytes, place: int, called: str) -> str:
+    other = no_xml(data)
+    if other:
+        return f"this file is {other}"
     kind = "UTF-16" if data[:2] in (b"\xff\xfe", b"\xfe\xff") or b"\0" in data[:4] else ""
     found = f"the file is {kind}, and only UTF-8 is read" if kind else "from here on the file isn't UTF-8"
     return f"{found}. {called} prepare {quote(name)} NEW.xml writes it anew as UTF-8, from UTF-16 and Latin-1"
@@ -82,7 +85,7 @@ def repeated_attribute(name: str, data: bytes, place: int, called: str) -> str:
 def root(name: str, data: bytes, place: int, called: str) -> str:
     found = re.match(rb"<([^\s/>]*)", data[place:place + 200])
     named = found[1].decode("utf-8", "replace") if found else ""
-    if named == "railML":
+    if named.rpartition(":")[2] == "railML":
         return "this is railML 3, which isn't read. Export the infrastructure as railML 2"
     if ":" in named and named.rpartition(":")[2] in ("railml", "infrastructure"):
         return f"the elements have the prefix {named.partition(':')[0]}:, and names are read without one. " \

@@ -9,6 +9,10 @@ from tool.notes import Note
 from tool.places import Place, of_byte
 from tool.railml import Document, Element
 
+TYPE_CHECKING = False
+if TYPE_CHECKING:
+    from collections.abc import Callable
+
 MISSING = {
     "id": "{what} has no id. Give it one of its own",
     "pos": "{what} has no pos. Write its distance in metres from the zero of its track",
@@ -202,20 +206,40 @@ def kind_of_crossing(it: Element) -> str:
     return f"the crossing {it.id} has {len(ways)} connections, and it needs two, one incoming and one outgoing{slips}"
 
 
-def course(station: Station, it: Element | None, tells: list[str]) -> str:
-    given = it.attributes.get("course", "") if it else ""
-    is_path = bool(it and it.parent and it.parent.name == "crossing")
+def wrong_course(it: Element, name: str) -> str:
+    """that a course isn't read, and what to write"""
+    given = it.attributes.get("course", "")
+    is_path = bool(it.parent and it.parent.name == "crossing")
     if given == "straight" and not is_path:
-        return f"the branch {tells[0]} goes straight, so the track itself turns off, and nothing says to which hand. Write " \
+        return f"the branch {name} goes straight, so the track itself turns off, and nothing says to which hand. Write " \
                "trackContinueCourse=\"left\" or \"right\" at the switch"
     which = "this path leaves the crossing's own track" if is_path else "the branch turns off, seen from the points"
-    return f"course=\"{given}\" of {tells[0]} isn't left or right{near_hand(given)}. Write one of them: the hand to which {which}"
+    return f"course=\"{given}\" of {name} isn't left or right{near_hand(given)}. Write one of them: the hand to which {which}"
+
+
+def course(station: Station, it: Element | None, tells: list[str]) -> str:
+    if it is None:
+        return f"the course of {tells[0]} isn't left or right. Write one of them"
+    return wrong_course(it, tells[0]) + more_of(station, it, railml.has_no_hand, "a course")
+
+
+def wrong_orientation(it: Element, name: str) -> str:
+    """that an orientation isn't read, and what to write"""
+    return f"orientation=\"{it.attributes.get('orientation', '')}\" of {name} isn't read. Write outgoing where the branch leaves " \
+        "towards the track's end, and incoming where it comes from the track's begin"
 
 
 def orientation(station: Station, it: Element | None, tells: list[str]) -> str:
-    given = it.attributes.get("orientation", "") if it else ""
-    return f"orientation=\"{given}\" of {tells[0]} isn't read. Write outgoing where the branch leaves towards the track's end, " \
-        "and incoming where it comes from the track's begin"
+    if it is None:
+        return f"the orientation of {tells[0]} isn't read. Write outgoing or incoming"
+    return wrong_orientation(it, tells[0]) + more_of(station, it, railml.has_no_way, "an orientation")
+
+
+def more_of(station: Station, it: Element, is_wrong: Callable[[Element], bool], attribute: str) -> str:
+    """how many further connections have such an attribute that isn't read"""
+    more = sum(other is not it and is_wrong(other) for other in railml.connections(station.document))
+    having = "1 more connection has" if more == 1 else f"{more} more connections have"
+    return f". {having} {attribute} that isn't read: {station.prepared()} lists them" if more else ""
 
 
 def outside_track(station: Station, it: Element | None, tells: list[str]) -> str:

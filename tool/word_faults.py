@@ -63,7 +63,8 @@ def unknown_command(given: list[str], at: int, called: str) -> str:
         return f"{quoted(word)} is a folder, and a command is missing: {typed(called, ['folder', word])} OUT draws each " \
             f"station in it"
     if word and os.path.exists(word):
-        return f"{quoted(word)} is a file, and a command is missing before it: {typed(called, ['draw', *given])}"
+        meant_line = ["draw", *(given if words.fault(["draw", *given]) is None else given[:1])]
+        return f"{quoted(word)} is a file, and a command is missing before it: {typed(called, meant_line)}"
     meant = near_command(word)
     return f"{quoted(word)} is no command" + \
         (f". Did you mean {typed(called, [meant, *given[1:]])}" if meant else f": {called} help says all commands")
@@ -90,6 +91,8 @@ def extra_word(given: list[str], at: int, called: str) -> str:
         meant = near(option, list(known))
         return f"{quoted(word)} was taken for a name: an option begins with two hyphens" + \
             (f", as {meant}" if meant else f". {command} has {', '.join(known) or 'no options'}")
+    if word.strip(",") in words.CRITERIA and given[at - 2] == "--order":
+        return f"the criteria are one word with commas between them{did_you_mean(given, at - 1, called)}"
     if command in ("draw", "signals", "graph", "explain"):
         return f"{quoted(word)} is one name too many: one run takes one station. Many are drawn by {called} folder IN OUT"
     return f"{quoted(word)} is one name too many: {usage(command, called)}"
@@ -121,9 +124,18 @@ def meant_criteria(word: str) -> str:
     return ",".join(found) if all(found) and len(set(found)) == len(found) else ""
 
 
+def with_criteria(given: list[str], at: int) -> tuple[str, int]:
+    """the word with the criteria behind it that belong to it, as where there are blanks between them; and the place behind these"""
+    text, behind = given[at], at + 1
+    while behind < len(given) and (text.endswith(",") or given[behind].lstrip(",") in words.CRITERIA):
+        text, behind = f"{text.rstrip(',')},{given[behind].strip(',')}", behind + 1
+    return text, behind
+
+
 def did_you_mean(given: list[str], at: int, called: str) -> str:
-    meant = meant_criteria(given[at])
-    return f". Did you mean {typed(called, [*given[:at], meant, *given[at + 1:]])}" if meant and meant != given[at] else ""
+    text, behind = with_criteria(given, at)
+    meant = meant_criteria(text)
+    return f". Did you mean {typed(called, [*given[:at], meant, *given[behind:]])}" if meant and meant != given[at] else ""
 
 
 def bad_value(given: list[str], at: int, called: str) -> str:
@@ -143,8 +155,9 @@ def bad_value(given: list[str], at: int, called: str) -> str:
             if name.kind == "pair" and word in words.CRITERIA and given[at + 1:at + 2] and given[at + 1] in words.CRITERIA:
                 return joined_pair(given, at, called)
             if name.kind == "pair":
+                is_two = with_criteria(given, at)[0].count(",") == 1
                 return f"{quoted(word)} is no pair: write two of height, bends, diagonal and width with a comma between them, " \
-                       f"as height,width{did_you_mean(given, at, called) if word.count(',') == 1 else ''}"
+                       f"as height,width{did_you_mean(given, at, called) if is_two else ''}"
             return f"{quoted(word)} can't be {name.word}, which is {name.what}"
     return f"{files.one_twice(word, word)}: {files.OWN_NAME}"
 

@@ -9,7 +9,7 @@ from tool.words import OPTIONS, OWN_OPTIONS, PAGE_WORDS
 
 # those of other commands: rt, the launcher's own, scripts of bench/ and docs/, Slurm
 OTHERS = {"--anew", "--array", "--count", "--cpus-per-task", "--dependency", "--help", "--job-name", "--like", "--new", "--only",
-          "--read", "--seed", "--seconds", "--unproved", "--version", "--wrap", "--write"}
+          "--proving", "--read", "--seed", "--seconds", "--unproved", "--version", "--wrap", "--write"}
 
 
 def all_failures():

@@ -4,11 +4,11 @@ import re
 from functools import partial
 from html import escape
 
-from checking.crates import TOP, read
+from checking.crates import TOP, read, show
 
 RESULTS = TOP / "bench" / "results"
-PLOT = TOP / "docs" / "made" / "together.svg"
-COLOURS = ("#9ab", "#146")
+PLOT = TOP / "docs" / "made" / "peers.svg"
+COLOURS = ("#146", "#c72", "#9ab", "#686")
 
 
 def rows_of(name):
@@ -25,12 +25,33 @@ def table(name):
 
 
 def tables():
-    return {f"{path.stem}_results": partial(table, path.stem) for path in sorted(RESULTS.glob("*.csv"))}
+    return {f"{path.stem}_results": partial(table, path.stem) for path in sorted(RESULTS.glob("*.csv"))} | {"peers_ratios": ratios}
+
+
+def seconds_of_peers():
+    """The stations of the table of peers, and of each program its seconds of each station; the last row has the sums."""
+    head, *rows = rows_of("peers")
+    places = {name.removesuffix(", s"): at for at, name in enumerate(head) if name.endswith(", s")}
+    return [row[0] for row in rows], {who: [float(row[at]) for row in rows] for who, at in places.items()}
+
+
+def ratios():
+    """The seconds of draw over those of each other program: in sum, on the everyday stations, and by station."""
+    names, seconds = seconds_of_peers()
+    known = {row[0] for row in rows_of("everyday")}
+    everyday = [at for at, name in enumerate(names) if name in known]
+    lines = ["| draw over | all stations | everyday ones | by station |", "|---|--:|--:|---|"]
+    for who, theirs in list(seconds.items())[1:]:
+        ours, by_station = seconds["draw"], [one / max(other, 0.01) for one, other in zip(seconds["draw"], theirs)][:-1]
+        some = sum(ours[at] for at in everyday) / max(sum(theirs[at] for at in everyday), 0.01)
+        lines.append(f"| {who} | {ours[-1] / max(theirs[-1], 0.01):.2f} | {some:.2f} | {min(by_station):.2f} to {max(by_station):.1f} |")
+    return lines
 
 
 def bars(title, names, series):
-    """Bars beside each other for each name, one of each series, all on one scale."""
-    left, wide, high, step = 190, 560, 9, 26
+    """Bars below each other for each name, one of each series, all on one scale."""
+    left, wide, high = 190, 560, 7
+    step = len(series) * (high + 1) + 6
     most = max(max(values) for _, values in series)
     height = 60 + step * len(names)
     found = [f'<svg xmlns="http://www.w3.org/2000/svg" viewBox="0 0 {left + wide + 90} {height}" width="{left + wide + 90}" '
@@ -41,24 +62,33 @@ def bars(title, names, series):
                   f'<text x="{left + 18 + 150 * at}" y="42">{escape(label)}</text>']
     for row, name in enumerate(names):
         top = 56 + step * row
-        found.append(f'<text x="{left - 8}" y="{top + 13}" text-anchor="end">{escape(name)}</text>')
+        found.append(f'<text x="{left - 8}" y="{top + step / 2 + 1}" text-anchor="end">{escape(name)}</text>')
         for at, (_, values) in enumerate(series):
             long = wide * values[row] / most
             found += [f'<rect x="{left}" y="{top + at * (high + 1)}" width="{long:.1f}" height="{high}" fill="{COLOURS[at]}"/>',
-                      f'<text x="{left + long + 5:.1f}" y="{top + at * (high + 1) + 8}" font-size="9">{values[row]:.2f}</text>']
+                      f'<text x="{left + long + 5:.1f}" y="{top + at * (high + 1) + 7}" font-size="8">{values[row]:.2f}</text>']
     return "\n".join([*found, "</svg>"]) + "\n"
 
 
-def together_plot():
-    _, *rows = rows_of("together")
-    rows = [row for row in rows if not row[0].startswith("all")]
-    series = [("before", [float(row[5]) for row in rows]), ("drawn together", [float(row[6]) for row in rows])]
-    return bars("Seconds of draw on a grid of 64 by 12", [row[0] for row in rows], series)
+def peers_plot():
+    names, seconds = seconds_of_peers()
+    return bars("Seconds to find the least values on a grid of 64 by 12", names[:-1], [(who, it[:-1]) for who, it in seconds.items()])
 
 
-def all_failures():
+def unwritten():
+    """Tables that no script of bench/ writes, so that nobody can repeat them."""
+    scripts = "".join(read(path) for folder in ("bench", "bench/hostile") for path in sorted((TOP / folder).glob("*.py")))
+    written = {*re.findall(r"""(?:Table\("|bench/results/)(\w+)""", scripts), "when"}
+    return [f"{show(path)}: no script of bench/ writes it" for path in sorted(RESULTS.glob("*.csv")) if path.stem not in written]
+
+
+def unknown_headings():
     """Words of docs/measured.md that are set as a table's heading and that no table has."""
     heads = {word.lower() for path in RESULTS.glob("*.csv") for word in rows_of(path.stem)[0]}
     text = re.sub(r"<!-- made: .*?<!-- end -->|\*\*[^*]*\*\*", "", read(TOP / "docs" / "measured.md"), flags=re.S)
     return [f"docs/measured.md: no table has a heading {word}" for word in re.findall(r"(?<!\*)\*([^*\n]+)\*(?!\*)", text)
             if word.lower() not in heads]
+
+
+def all_failures():
+    return unwritten() + unknown_headings()

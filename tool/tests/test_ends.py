@@ -8,7 +8,7 @@ import unittest
 from unittest import mock
 
 from tool import launch, progress, running
-from tool.tests.clones import InClone
+from tool.tests.clones import PATIENCE, InClone
 
 SLOW = "#!/bin/sh\necho $$ > begun\nexec sleep 60\n"
 
@@ -31,7 +31,7 @@ class Stopped(InClone):
 
     def begun(self):
         """the number of the program, when it has begun"""
-        until = time.time() + 20
+        until = time.time() + PATIENCE
         while time.time() < until:
             text = (self.top / "begun").read_text() if (self.top / "begun").exists() else ""
             if text.strip():
@@ -52,7 +52,7 @@ class Stopped(InClone):
                 job = self.start("draw", "one.xml")
                 number = self.begun()
                 job.send_signal(sign)
-                out, err = job.communicate(timeout=20)
+                out, err = job.communicate(timeout=PATIENCE)
                 self.assertEqual((job.returncode, out), (130, ""))
                 self.assertIn("stopped after", err)
                 self.assertNotIn("Traceback", err)
@@ -65,7 +65,7 @@ class Stopped(InClone):
         job = self.start("--html", "p", "draw", "one.xml", TMPDIR=str(self.top / "tmp"))
         number = self.begun()
         job.send_signal(signal.SIGQUIT)
-        out, err = job.communicate(timeout=60)
+        out, err = job.communicate(timeout=PATIENCE)
         self.assertEqual((job.returncode, out), (130, ""))
         self.assertIn("p isn't written", err)
         self.assertFalse(self.is_there(number))
@@ -83,7 +83,7 @@ class Stopped(InClone):
         time.sleep(0.3)
         self.assertIsNone(job.poll())
         job.send_signal(signal.SIGTERM)
-        self.assertIn("stopped after", job.communicate(timeout=20)[1])
+        self.assertIn("stopped after", job.communicate(timeout=PATIENCE)[1])
 
     def test_a_second_signal_does_not_disturb_the_end(self):
         job = self.start("draw", "one.xml")
@@ -91,7 +91,7 @@ class Stopped(InClone):
         for _ in range(3):
             job.send_signal(signal.SIGINT)
             time.sleep(0.01)
-        out, err = job.communicate(timeout=20)
+        out, err = job.communicate(timeout=PATIENCE)
         self.assertEqual((job.returncode, out), (130, ""))
         self.assertRegex(err, r"^railplan: stopped after \d+\.\d s; nothing was printed\n$")
 
@@ -108,24 +108,24 @@ class Stopped(InClone):
 
     def test_an_interrupt_while_the_launcher_is_read(self):
         self.write("tool/launch.py", "import os, signal, time\nos.kill(os.getpid(), signal.SIGINT)\ntime.sleep(9)\n")
-        self.assertEqual(self.launch("draw", "one.xml"), (130, "", "railplan: stopped\n"))
+        self.assertEqual(self.launch_anew("draw", "one.xml"), (130, "", "railplan: stopped\n"))
 
     def test_an_interrupt_that_python_would_pass_over(self):
         """an error in what takes an object away is only reported, and the run would go on"""
         self.write("tool/launch.py", "import os, signal\nclass Gone:\n    def __del__(self):\n"
                                      "        os.kill(os.getpid(), signal.SIGINT)\n        for _ in range(9): pass\n"
                                      "Gone()\ndef main(given, top):\n    return 7\n")
-        self.assertEqual(self.launch("draw", "one.xml"), (130, "", "railplan: stopped\n"))
+        self.assertEqual(self.launch_anew("draw", "one.xml"), (130, "", "railplan: stopped\n"))
 
     def test_an_interrupt_at_the_end_comes_too_late(self):
         """with the interpreter's own end an interrupt would be reported as an error of the run"""
         late = "import atexit, os, signal\ndef NAME(*given):\n" \
             "    atexit.register(lambda: os.kill(os.getpid(), signal.SIGINT))\n    return 3\n"
         self.write("tool/launch.py", late.replace("NAME", "main"))
-        self.assertEqual(self.launch("draw", "one.xml"), (3, "", ""))
+        self.assertEqual(self.launch_anew("draw", "one.xml"), (3, "", ""))
         self.write("pages/command.py", late.replace("NAME", "start"))
         ran = subprocess.run([sys.executable, "-SB", self.top / "pages/run.py", "railplan", "p", "draw", "one.xml"], text=True,
-                             stdin=subprocess.DEVNULL, capture_output=True, timeout=60)
+                             stdin=subprocess.DEVNULL, capture_output=True, timeout=PATIENCE)
         self.assertEqual((ran.returncode, ran.stdout, ran.stderr), (3, "", ""))
 
     def test_an_interrupt_before_the_launcher_listens(self):
@@ -135,7 +135,7 @@ class Stopped(InClone):
             job.send_signal(signal.SIGINT)
         finally:
             signal.pthread_sigmask(signal.SIG_UNBLOCK, (signal.SIGINT,))
-        self.assertEqual((job.communicate(timeout=20), job.returncode), (("", "railplan: stopped\n"), 130))
+        self.assertEqual((job.communicate(timeout=PATIENCE), job.returncode), (("", "railplan: stopped\n"), 130))
 
     def test_what_was_found_is_said_from_the_log(self):
         self.script("crates/railplan_main/out/railplan_main",
@@ -144,7 +144,7 @@ class Stopped(InClone):
         job = self.start("draw", "one.xml", "--log", "l", "--conflicts", "70")
         self.begun()
         job.send_signal(signal.SIGINT)
-        err = job.communicate(timeout=20)[1]
+        err = job.communicate(timeout=PATIENCE)[1]
         self.assertIn("found so far: a drawing; height: at most 1 found, looking for 0.", err)
         self.assertIn("railplan draw one.xml --log l --conflicts 2\n", err)
         self.assertIn("l holds the beginning of a log, which certifies nothing", err)
@@ -152,7 +152,7 @@ class Stopped(InClone):
     def test_a_program_that_is_killed(self):
         job = self.start("draw", "one.xml")
         os.kill(self.begun(), signal.SIGKILL)
-        err = job.communicate(timeout=20)[1]
+        err = job.communicate(timeout=PATIENCE)[1]
         self.assertEqual(job.returncode, 137)
         self.assertIn("ended by signal 9", err)
 
@@ -173,7 +173,7 @@ class Stopped(InClone):
     def test_an_interrupt_while_another_run_builds(self):
         self.touch("crates/low/src/lib.rt", 9999)
         first = self.start("graph", "one.xml", SLOW="30")
-        until = time.time() + 20
+        until = time.time() + PATIENCE
         while "run" not in self.text("asked").split() and time.time() < until:
             time.sleep(0.05)
         second = self.start("graph", "one.xml")
@@ -181,7 +181,7 @@ class Stopped(InClone):
         self.assertIn("another run is building", said)
         for job in (second, first):
             job.send_signal(signal.SIGINT)
-            job.communicate(timeout=30)
+            job.communicate(timeout=PATIENCE)
             self.assertEqual(job.returncode, 130)
 
     def text(self, name):

@@ -1,4 +1,5 @@
 """Every fault, refusal and law has a sentence. Faults of files are provoked, where there is a program, and what is said is looked at."""
+import itertools
 import json
 import os
 import re
@@ -9,7 +10,7 @@ import unittest
 from pathlib import Path
 from unittest import mock
 
-from tool import graph_faults, log_faults, places, running, saying, sheet_faults, telling, text_faults, topology_faults, word_faults, words
+from tool import graph_faults, log_faults, places, railml, running, saying, sheet_faults, telling, text_faults, topology_faults, word_faults, words
 from tool.tests.places import PROGRAM, TOP
 
 sys.path.insert(0, str(TOP / "docs"))
@@ -107,6 +108,11 @@ FALLING = b"""<infrastructure><tracks>
 <trackEnd id="qe" pos="500" absPos="200"><openEnd/></trackEnd></trackTopology></track></tracks></infrastructure>"""
 # further ways in which a file can have such a fault: the file, the fault, a piece of what is said, and where else it points
 FURTHER = (
+    (edited((b'"W3"', b'"W2"')), "topology RepeatedId", "the id W2 is that of an earlier element too", "W2 is here first"),
+    (signals(b'id="s" pos="5"', b'id="s" pos="6"'), "signal RepeatedId", "the id s is that of an earlier element too", "s is here first"),
+    (edited((b'pos="310"', b'pos="1310"')), "topology OutsideTrack", "goes from 0 to 1250", "the track begins here"),
+    (edited((b'pos="310" absPos="12310"', b'pos="0" absPos="12000"')), "graph NotForward", "are both at 12000", "switch W1 is here"),
+    (edited((b"</trackBegin>", b"</trackEnd>")), "text EndTag", "before <trackBegin> is closed", "<trackBegin> is opened here"),
     ((TOP / "cases/stations/ring.xml").read_bytes(), "graph NotForward", "the track m is joined to itself", ""),
     (TWO, "graph SideMismatch", "two tracks are joined, and both lie on one side of it", "it is joined to the begin of track q"),
     (edited((b'"ki" ref="rd"', b'"ki" ref="sa"'), (b'"ko" ref="sa"', b'"ko" ref="rd"'), (b'"rd" ref="ki"', b'"rd" ref="ko"'),
@@ -117,6 +123,10 @@ FURTHER = (
      "Give switch W1 a short track there, whose other end has an <openEnd", ""),
     (edited((b' course="left"', b""), (b' course="right"', b""), (b' course="left"', b"")), "topology Missing",
      "seen from the points. 2 more connections have none: ./railplan prepare ", ""),
+    (edited((b'course="left"', b'course="straight"'), (b'course="right"', b'course="up"')), "topology Course",
+     "at the switch. 1 more connection has a course that isn't read: ./railplan prepare ", ""),
+    (edited((b'"outgoing"', b'"Outgoing"'), (b'"incoming"', b'"in"'), (b'"outgoing"', b'"out"')), "topology Orientation",
+     "from the track's begin. 2 more connections have an orientation that isn't read: ./railplan prepare ", ""),
     (edited((b' ref="W1.branch"', b""), (b' pos="310"', b"")), "topology Missing", "Write its distance in metres from the zero of its track", ""),
     (edited((b'ref="W1.branch"', b'ref="nowhere"'), (b'ref="W3.branch"', b'ref="none"')), "topology UnknownRef",
      "no connection that is read has this id; so does 1 connection more, which ./railplan prepare ", ""),
@@ -222,16 +232,36 @@ class Provoked(unittest.TestCase):
     def test_further_ways_to_have_a_fault(self):
         for data, fault, piece, other in FURTHER:
             with self.subTest(piece):
-                found, notes = self.told(["graph", self.file("s.xml", data)])
+                found, notes = self.told(["signals" if fault.startswith("signal") else "graph", self.file("s.xml", data)])
                 self.assertEqual(found, fault)
                 self.assertIn(piece, notes[0].text)
                 self.assertEqual(bool(other), any(other in it.text for it in notes[1:] if other))
 
+    def test_hands_and_ways_that_are_not_read_are_those_of_the_program(self):
+        for course, goes_on, way in itertools.product(("left", "right", "straight", "", "Left"), ("", ' trackContinueCourse="left"',
+                                                      ' trackContinueCourse="straight"'), ("outgoing", "incoming", "Incoming")):
+            new = f'<switch id="W1"{goes_on} pos="310" absPos="12310"><connection id="W1.branch" ref="track4.west" course="{course}" ' \
+                f'orientation="{way}"/>'
+            data = edited((b'<switch id="W1" pos="310" absPos="12310">' + W1, new.encode()))
+            listed = railml.connections(railml.read(data))
+            with self.subTest(new):
+                is_wrong = any(railml.has_no_hand(it) or railml.has_no_way(it) for it in listed)
+                found = subprocess.run([PROGRAM, "graph", self.file("s.xml", data)], capture_output=True, text=True).stdout
+                self.assertEqual(found.startswith(("topology 11 Course", "topology 12 Orientation")), is_wrong, found)
+
     def test_files_of_other_kinds_are_called_what_they_are(self):
         for data, piece in ((b"PK\3\4zip", "a packed archive"), (b"%PDF-1.7", "a PDF"), (b'{"a": 1}', "JSON"),
                             (b"name;km\n", "no XML"), (b"text <railml>", "nothing but comments")):
-            with self.subTest(piece):
-                self.assertIn(piece, text_faults.notes("f", data, "Markup", 0, "railplan")[0].text)
+            for fault in ("Markup", "NotUtf8"):
+                with self.subTest(piece, fault=fault):
+                    said = text_faults.notes("f", data, fault, 0, "railplan")[0].text
+                    self.assertEqual(piece in said, fault == "Markup" or b"<" not in data)
+
+    def test_other_kinds_of_xml(self):
+        for name, piece in (("railML", "this is railML 3"), ("rail3:railML", "this is railML 3"), ("rail:railml", "the prefix rail:"),
+                            ("timetable", "the first element is timetable")):
+            with self.subTest(name):
+                self.assertIn(piece, text_faults.notes("f", f"<{name}/>".encode(), "Root", 0, "railplan")[0].text)
 
     def test_a_file_of_another_name_is_not_meant(self):
         for missing, meant in (("station.xm", "station.xml"), ("statoin.xml", "station.xml"), ("depot.xml", ""), ("statio.sheet", "")):
@@ -272,6 +302,9 @@ class Provoked(unittest.TestCase):
         found, notes = self.told(["verify", str(TOP / "examples/one.xml"), sheet])
         self.assertEqual(found, "broken 3")
         self.assertIn("law 3: the line of edge 0 (m, from mb to me)", notes[0].text)
+        one, other = sheet_faults.broken(str(TOP / "examples/one.sheet"), 5, [("node", "0"), ("node", "1")])
+        self.assertTrue(one.text.endswith("law 5: node 0 (mb) and node 1 (me) are at one point"), one.text)
+        self.assertEqual((one.place.line, other.text, other.place.line), (5, "node 1 (me) is here", 6))
 
     def test_unread_and_long(self):
         for given, piece in ((["draw", str(self.folder)], "is a folder"), (["draw", "-"], "/dev/stdin"),

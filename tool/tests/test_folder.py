@@ -7,10 +7,10 @@ import unittest
 from pathlib import Path
 from unittest import mock
 
-from tool import folder, folder_index, folder_station
+from tool import folder, folder_index, folder_station, running
 from tool.folder_station import Record, Setting
 from tool.saying import Ended
-from tool.tests.clones import InClone
+from tool.tests.clones import PATIENCE, InClone
 
 # a program that answers by the name of the file: it says in `asked` what it was asked for
 PROGRAM = """#!/bin/sh
@@ -31,21 +31,25 @@ trim) echo 'railplan-hints 1' > "$5"; echo 'trimmed 2 1' ;;
 recheck) echo 'certified 2' ;;
 esac
 """
-# a program that says in `most` how many of it run at the same time
+# a program that says in `most` how many of it run at the same time: it waits until COUNT do, and then for one too many
 SIDE_BY_SIDE = """#!/bin/sh
 case $1 in draw) ;; *) exit 1 ;; esac
 touch "$HERE/running.$$"
-sleep 2
+for turn in $(seq 400); do
+    ls "$HERE" | grep -c '^running' >> "$HERE/most"
+    if grep -qx "$COUNT" "$HERE/most"; then break; fi
+    sleep 0.05
+done
+sleep 0.3
 ls "$HERE" | grep -c '^running' >> "$HERE/most"
-sleep 0.2
 rm "$HERE/running.$$"
 printf 'railplan 2\\ngrid 40 8 1\\norder height\\nend none\\n'
 """
-RUN = """import subprocess, sys
-ran = subprocess.run([sys.executable, "-S", sys.argv[1], *sys.argv[3:]], stdout=subprocess.PIPE)
-if ran.returncode != 1: open(sys.argv[2], "w").write("<!DOCTYPE html>")
-sys.stdout.buffer.write(ran.stdout)
-sys.exit(ran.returncode)
+# in the place of what makes a page: it has the program run, and writes a page unless there is a fault
+RUN = """import os, sys
+status = os.spawnv(os.P_WAIT, sys.executable, [sys.executable, "-S", sys.argv[1], *sys.argv[3:]])
+if status != 1: open(sys.argv[2], "w").write("<!DOCTYPE html>")
+sys.exit(status)
 """
 
 
@@ -163,6 +167,16 @@ class Folders(InClone):
         self.assertEqual([it[0][0] for it in said.call_args_list], ["refused0", "refused2"])
         self.assertEqual((shown.done, shown.faults), (3, 2))
 
+    def test_a_terminal_shows_how_far_the_run_is(self):
+        for is_terminal, due in ((True, ["\r[########--------] 2 of 4 stations · 1 refused · 7 s\033[K"]), (False, [])):
+            shown = folder.Shown(["a", "b", "c", "d"])
+            shown.began -= 7
+            with mock.patch("tool.folder.is_terminal", lambda: is_terminal), mock.patch("tool.folder.write_error") as said:
+                for record in (Record("d", "", 0), Record("c", "", 1, said="a fault\n")):
+                    shown.take(record)
+                shown.show()
+                self.assertEqual([it[0][0] for it in said.call_args_list], due)
+
     def test_a_station_that_is_taken_away_is_named(self):
         self.stations("a", "b", "c")
         self.assertNotIn("left in", self.folder()[2])
@@ -230,11 +244,12 @@ class Folders(InClone):
 
     def test_so_many_are_drawn_side_by_side(self):
         self.script("crates/railplan_main/out/railplan_main", SIDE_BY_SIDE)
-        self.stations("a", "b", "c", "d", "e")
+        self.stations("a", "b")
         for count in (1, 3):
             (self.top / "most").write_text("0\n")
-            self.folder("-j", str(count), "--least", str(count))
+            self.launch("folder", "in", "out", "-j", str(count), "--least", str(count), COUNT=str(count))
             self.assertEqual(max(map(int, (self.top / "most").read_text().split())), count)
+            self.stations("c", "d")
 
     def test_a_folder_that_cannot_be_made(self):
         self.stations("a")
@@ -280,6 +295,7 @@ class Folders(InClone):
             self.assertIn("folder --join in out", err)
             self.assertEqual([it.split()[1] for it in sorted(self.drawn())], [f"in/{name}.xml" for name in names])
             self.assertNotIn("index.html", self.made())
+        self.assertIn("railplan: 0 stations, in ", self.folder("--shard", "6/6", "--width", "20")[2])
         status, out, err = self.folder("--join")
         self.assertEqual(status, 0)
         self.assertNotIn("larger grid", err)
@@ -302,13 +318,13 @@ class Folders(InClone):
     def test_an_interrupt_leaves_what_is_done(self):
         self.stations("a", "slow")
         job = self.start("folder", "in", "out", "-j", "2")
-        until = time.time() + 30
+        until = time.time() + PATIENCE
         while not (self.top / "out/records/a.json").exists() and time.time() < until:
             time.sleep(0.05)
         for _ in range(2):
             job.send_signal(signal.SIGINT)
             time.sleep(0.01)
-        err = job.communicate(timeout=20)[1]
+        err = job.communicate(timeout=PATIENCE)[1]
         self.assertEqual(job.returncode, 130)
         self.assertEqual(err, "railplan: stopped; of 2 stations 1 is done. The same line goes on from there, and writes "
                               "index.html at its end\n")
@@ -323,6 +339,7 @@ class Folders(InClone):
         self.stations("a")
         for more, piece in ((["--shard", "3/2"], "`3/2` is no part"), (["-j", "0"], "no number of stations"),
                             (["--width", "65"], "`65` can't be behind --width"), (["x"], "folder has no word `x`"),
+                            (["-j"], "railplan: behind -j its value is missing: "), (["--shard", "2"], "railplan: --shard: `2` is no part"),
                             (["--svg", "s"], "folder has no word `--svg s`")):
             with self.subTest(more):
                 status, out, err = self.folder(*more)
@@ -345,6 +362,13 @@ class Folders(InClone):
     def test_the_status_is_the_worst(self):
         for statuses, worst in (([0, 0], 0), ([0, 3], 3), ([3, 4, 0], 4), ([4, 1, 3], 1), ([5, 1], 1), ([7, 6], 6), ([], 0)):
             self.assertEqual(folder_index.worst([Record("", "", it) for it in statuses]), worst)
+
+    def test_the_page_says_how_long_each_took(self):
+        page = folder_index.text("t", [Record("a", "", 0, seconds=12.34), Record("b", "", 0)])
+        self.assertEqual((page.count(">12.3 s<"), page.count(" s<")), (1, 1))
+
+    def test_as_many_side_by_side_as_there_are_processors(self):
+        self.assertEqual(folder.read_words(["in", "out"]).j, running.processors())
 
     def test_names_in_the_page_are_text(self):
         page = folder_index.text("<b>", [Record("<i>&", "", 1, said="<u>")])

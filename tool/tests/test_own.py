@@ -222,12 +222,16 @@ class Made(unittest.TestCase):
         self.assertEqual(self.complete("help", "expl"), ["explain"])
         self.assertIn("--certify", self.complete("folder", "a", "b", "--c"))
         self.assertEqual(self.complete("draw", "--width", ""), [])
+        self.assertEqual(self.complete("draw", "--paper", "A"), ["A4", "A3", "A2", "A1"])
+        self.assertEqual(self.complete("--side", "r"), ["right"])
 
     def test_completions_of_zsh_name_every_word(self):
         text = completions.zsh()
         for word in [*manual.all_commands(), *words.OPTIONS, *words.OWN_OPTIONS, *words.PAGE_WORDS]:
             self.assertIn(word, text)
         self.assertIn("(help) _describe", text)
+        for option in words.PAGE_WORDS.values():
+            self.assertIn(f":({' '.join(option.choices)})'" if option.choices else ":_files'", text)
 
     @unittest.skipUnless(shutil.which("zsh"), "there is no zsh")
     def test_completions_of_zsh_are_a_script(self):

@@ -24,6 +24,10 @@ def mended(text, encoding="utf-8"):
     return it.data.decode("utf-8", "replace"), it.changes, it.guesses
 
 
+def unfit(data):
+    return prepare.mended("s.xml", data).unfit
+
+
 class Mended(unittest.TestCase):
     def test_the_mileage_of_a_joined_begin(self):
         text, changes, guesses = mended(TRACK)
@@ -65,6 +69,21 @@ class Mended(unittest.TestCase):
                 found = [it for it in guesses if said in it]
                 self.assertEqual((len(guesses), len(found)), (3, 1), guesses)
                 self.assertTrue(found[0].startswith("s.xml:1:"), found[0])
+
+    def test_hands_and_ways_that_are_not_read_are_listed(self):
+        for old, new, said in (('course="left"', 'course="straight"', "the branch c goes straight, so the track itself turns off"),
+                               ('course="left"', 'course="lefft"', "(did you mean left?)"),
+                               ('"outgoing"', '"Outgoing"', 'orientation="Outgoing" of c isn\'t read. Write'),
+                               ('<switch id="w" pos="20"><connection', '<crossing id="w" pos="20"><connection id="z" ref="z" '
+                                'orientation="incoming" course="none"/><connection', ""),
+                               ('<switch id="w" pos="20"><connection id="c" ref="d" course="left"', '<switch id="w" pos="20" '
+                                'trackContinueCourse="right"><connection id="c" ref="d" course="straight"', "")):
+            text = TRACK.replace(old, new)
+            if "<crossing" in new:
+                text = text.replace("</switch>", "</crossing>")
+            with self.subTest(new):
+                guesses = mended(text)[2]
+                self.assertEqual([bool(said) and said in it for it in guesses], [True] * bool(said), guesses)
 
     def test_what_leads_nowhere_is_listed(self):
         for edits, count in (((), 0), ((("d", "e"),), 1), ((("d", "e"), ("c", "")), 2)):
@@ -192,8 +211,17 @@ class Mended(unittest.TestCase):
         text = text.replace('xmlns="x"', 'xmlns="x" xmlns:r="y"')
         self.assertIn("isn't clear", mended(text)[2][0])
 
-    def test_what_is_no_xml(self):
-        self.assertIn("this isn't XML", mended(TRACK[:-5])[2][0])
+    def test_what_is_no_railml_2(self):
+        for data, said in ((TRACK[:-5].encode(), "this isn't XML: "), (b" \n", "s.xml:1:1: the file is empty. "),
+                           (b"\x1f\x8b\x08\xff", "this file is a packed file. Unpack it first"),
+                           (b"PK\3\4\xff", "this file is a packed archive. Unpack it, and name the railML file in it"),
+                           (b"name;km\n", "this file is no XML"),
+                           (b'<?xml version="1.0"?>\n<railML version="3.1"/>', "s.xml:2:1: this is railML 3, which isn't read"),
+                           (b'<r:railML xmlns:r="x"><r:infrastructure/></r:railML>', "s.xml:1:1: this is railML 3, which isn't read"),
+                           (b"<timetable/>", "the first element is timetable, so the file isn't railML 2")):
+            with self.subTest(data):
+                self.assertIn(said, unfit(data))
+        self.assertEqual(unfit(TRACK.encode()), "")
 
     def test_what_is_whole_stays_to_the_byte(self):
         whole = '<?xml version="1.0"?>\r\n' + mended(TRACK)[0] + "\n\n<!-- pos=\"1,5\" -->"
@@ -223,6 +251,12 @@ class Written(InClone):
             self.assertEqual(self.prepare(out)[0], 0)
         self.assertIn(prepare.MARK, (self.top / "new.xml").read_text())
 
+    def test_what_is_doubted_is_said_and_the_file_is_written(self):
+        self.write("s.xml", TRACK.replace('id="be" pos="9"', 'id="be" pos="9" absPos="900"'))
+        status, out, err = self.prepare("new.xml")
+        self.assertEqual((status, (self.top / "new.xml").exists()), (0, True))
+        self.assertIn("but the track is 9 m long. One of the three may be wrong", err)
+
     def test_nothing_is_written_where_something_lacks(self):
         self.write("s.xml", TRACK.replace(' course="left"', ""))
         status, out, err = self.prepare("new.xml")
@@ -242,7 +276,7 @@ class Written(InClone):
                                ("none/s.xml", 6, "none isn't there. Make the folder"),
                                ("s.xml", 2, "s.xml is named twice. Name"), ("./s.xml", 2, "s.xml and ./s.xml are one file. Name"),
                                ("-", 2, "`-` is no name of a file that is written"),
-                               ("other.xml", 2, "is there, and prepare didn't write it")):
+                               ("other.xml", 2, "is there, and nothing in it says that prepare wrote it")):
             with self.subTest(out):
                 status, printed, err = self.prepare(out)
                 self.assertEqual((status, printed, err.count("\n")), (due, "", 1))
@@ -250,6 +284,22 @@ class Written(InClone):
         self.assertEqual((self.top / "other.xml").read_text(), "mine")
         self.assertTrue((self.top / "link.xml").is_symlink())
         self.assertFalse((self.top / "nosuch.xml").exists())
+
+    def test_what_cannot_be_mended_is_not_copied(self):
+        self.write("s.xml", '<railML version="3.1"/>')
+        status, out, err = self.prepare("new.xml")
+        self.assertEqual((status, out, (self.top / "new.xml").exists()), (1, "", False))
+        self.assertEqual(err, "railplan: s.xml:1:1: this is railML 3, which isn't read. Export the infrastructure as railML 2\n"
+                              "railplan: nothing is written\n")
+
+    def test_a_file_that_is_not_there_or_is_too_long(self):
+        for given, due, said in (("s.xm", 5, "s.xm isn't there. Did you mean s.xml?"), ("-", 5, "standard input is /dev/stdin"),
+                                 (".", 5, ". is a folder. Name one file in it"), ("long", 1, "long has more than 4 MiB")):
+            (self.top / "long").write_bytes(b" " * (prepare.MOST + 1))
+            status, out, err = self.launch("prepare", given, "new.xml")
+            with self.subTest(given):
+                self.assertEqual((status, out, err.count("\n")), (due, "", 1))
+                self.assertIn(said, err)
 
     def test_a_file_that_cannot_be_read(self):
         with mock.patch("builtins.open", side_effect=PermissionError(13, "Permission denied")), \

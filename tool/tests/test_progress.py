@@ -10,7 +10,7 @@ from pathlib import Path
 from unittest import mock
 
 from tool import progress, running, words
-from tool.tests.clones import InClone
+from tool.tests.clones import PATIENCE, InClone
 from tool.tests.places import PROGRAM, TOP
 
 BEGUN = "railplan-log 1\nf 1 -2 0\nf 2 0\n"
@@ -99,6 +99,7 @@ class Shown(unittest.TestCase):
                 with self.subTest(word):
                     self.assertNotIn("running", it.text(3, 200))
         self.assertIn("fewer moved nodes", progress.Watch(words.read(["redraw"]), "l").text(3, 200))
+        self.assertEqual([it for it, command in words.COMMANDS.items() if not command.takes_long], ["graph", "verify", "make"])
 
     def test_the_width_is_that_of_standard_error(self):
         for width, due in ((57, 57), (0, progress.UNKNOWN_COLUMNS)):
@@ -108,6 +109,15 @@ class Shown(unittest.TestCase):
     def test_other_commands_say_what_they_do(self):
         for command, said in progress.DOING.items():
             self.assertEqual(self.watch([command]).text(3, 200), f"railplan: {said} · 3 s")
+
+    def test_an_interrupt_says_what_was_found_but_of_a_redrawing(self):
+        """the log of redraw asks for moved nodes, and not for criteria"""
+        for given, is_said in ((["draw", "s"], True), (["redraw", "s", "old", "sheet"], False)):
+            it = progress.Watch(words.read(given), "l")
+            it.log = log(BENDS)
+            with mock.patch("tool.notes.show") as said, mock.patch("tool.progress.say"):
+                progress.tell_stopped(it, 3, "")
+            self.assertEqual(said.called, is_said)
 
     def test_a_long_check_says_what_trim_saves(self):
         line = words.read(["check", "f.xml", "s", "l"])
@@ -120,48 +130,54 @@ class Shown(unittest.TestCase):
 
 
 class Watched(InClone):
+    """Runs on terminals, all side by side, as each takes longer than a second."""
     PROGRAM = """#!/bin/sh
-echo "$@" >> "$HERE/words"
+echo "$@" >> "$HERE/words.$RUN"
 while test $# -gt 0; do case $1 in --log) printf 'railplan-log 1\\nq 0\\nl 1 0\\n' > "$2" ;; esac; shift; done
-sleep ${LASTS:-1.5}
+sleep 1.5
 echo done
 """
+    # of each run its words, what is shown of it, and what the program gets
+    RUNS = (
+        ("draw one.xml", "looking for a first drawing · [----------------] 1 of 50,000 · 1 s",
+         r"draw one.xml --log \S+/tmp0/railplan-\w+\.log"),
+        ("draw one.xml --log mine", "looking for a first drawing", "draw one.xml --log mine"),
+        ("explain one.xml", "looking for laws that can't be met together · 1 s", "explain one.xml"),
+        ("check one.xml s l", "checking the log · 1 s", "check one.xml s l"),
+        ("trim one.xml s l h", "trimming the log · 1 s", "trim one.xml s l h"),
+        ("recheck one.xml s h", "checking the hinted lines · 1 s", "recheck one.xml s h"),
+    )
 
-    def watch(self, *given, **more):
-        """what a run says on a terminal, with the words that the program got"""
-        self.script("crates/railplan_main/out/railplan_main", self.PROGRAM)
-        (self.top / "tmp").mkdir(exist_ok=True)
+    def begin(self, number, given):
+        """a run with a terminal and a folder for what doesn't last of its own; what reads the terminal"""
+        (self.top / f"tmp{number}").mkdir()
         reading, terminal = pty.openpty()
-        job = subprocess.Popen([sys.executable, "-SB", str(self.top / "railplan"), *given], cwd=self.top, stdin=subprocess.DEVNULL,
-                               stdout=subprocess.PIPE, stderr=terminal,
-                               env=self.environment(TMPDIR=str(self.top / "tmp"), **more))
+        job = subprocess.Popen([sys.executable, "-SB", str(self.top / "railplan"), *given.split()], cwd=self.top,
+                               stdin=subprocess.DEVNULL, stdout=subprocess.PIPE, stderr=terminal,
+                               env=self.environment(TMPDIR=str(self.top / f"tmp{number}"), RUN=str(number)))
         os.close(terminal)
-        job.communicate(timeout=60)
+        return job, reading
+
+    def end(self, job, reading):
+        """what the run said on its terminal"""
+        job.communicate(timeout=PATIENCE)
         said = b""
         with contextlib.suppress(OSError):
             while piece := os.read(reading, 4096):
                 said += piece
         os.close(reading)
-        return said.decode(), (self.top / "words").read_text().split("\n")[-2]
+        return said.decode()
 
-    def logs_left(self):
-        return [it.name for it in (self.top / "tmp").rglob("*.log")]
-
-    def test_what_the_log_says_so_far_is_shown_and_the_log_is_taken_away(self):
-        said, given = self.watch("draw", "one.xml")
-        self.assertIn("railplan: looking for a first drawing · [----------------] 1 of 50,000 · 1 s", said)
-        self.assertRegex(given, r"^draw one.xml --log \S+/tmp/railplan-\w+\.log$")
-        self.assertEqual(self.logs_left(), [])
-
-    def test_a_command_without_a_log(self):
-        said, given = self.watch("explain", "one.xml")
-        self.assertIn("railplan: looking for laws that can't be met together · 1 s", said)
-        self.assertEqual(given, "explain one.xml")
-
-    def test_a_log_that_is_asked_for_stays(self):
-        said, given = self.watch("draw", "one.xml", "--log", "l")
-        self.assertIn("looking for a first drawing", said)
-        self.assertEqual((given, self.logs_left(), (self.top / "l").exists()), ("draw one.xml --log l", [], True))
+    def test_what_is_shown_and_that_its_own_log_is_taken_away(self):
+        self.script("crates/railplan_main/out/railplan_main", self.PROGRAM)
+        begun = [self.begin(number, given) for number, (given, _, _) in enumerate(self.RUNS)]
+        said = [self.end(*it) for it in begun]
+        for number, (given, shown, asked) in enumerate(self.RUNS):
+            with self.subTest(given):
+                self.assertIn(f"railplan: {shown}", said[number])
+                self.assertRegex((self.top / f"words.{number}").read_text(), f"^{asked}\n$")
+                self.assertEqual([*(self.top / f"tmp{number}").rglob("*.log")], [])
+        self.assertTrue((self.top / "mine").exists())
 
     def test_no_log_is_kept_without_room(self):
         for free, has_log in ((progress.ROOM - 1, False), (progress.ROOM, True)):
@@ -170,15 +186,6 @@ echo done
                 self.assertEqual(bool(name), has_log)
                 if name:
                     os.unlink(name)
-
-    def test_certificates_are_watched_too(self):
-        for given, doing in ((["check", "one.xml", "s", "l"], "checking the log"),
-                             (["trim", "one.xml", "s", "l", "h"], "trimming the log"),
-                             (["recheck", "one.xml", "s", "h"], "checking the hinted lines")):
-            with self.subTest(given[0]):
-                said, asked = self.watch(*given)
-                self.assertIn(f"railplan: {doing} · 1 s", said)
-                self.assertEqual(asked, " ".join(given))
 
 
 if __name__ == "__main__":

@@ -57,11 +57,22 @@ class Meant(unittest.TestCase):
         for line, meant in ((["front", "a", "height,bend"], "railplan front a height,bends"),
                             (["draw", "a", "--order", "hight,widht"], "railplan draw a --order height,width"),
                             (["draw", "a", "--order", "height;width"], "railplan draw a --order height,width"),
+                            (["draw", "a", "--order", "height", "width"], "railplan draw a --order height,width"),
+                            (["draw", "a", "--order", "height,", "width", "--least", "2"], "railplan draw a --order height,width --least 2"),
+                            (["draw", "a", "--order", "height", ",bends", "width"], "railplan draw a --order height,bends,width"),
+                            (["draw", "--order", "height", "a", "b"], ""), (["front", "a", "height,", "width"], "railplan front a height,width"),
                             (["draw", "a", "--order", "height,xyz"], ""), (["front", "a", "height,height"], "")):
             fault = words.fault(line)
             said = word_faults.sentence(fault.name, fault.position, line, "railplan")
             with self.subTest(line=line):
                 self.assertEqual(said.partition("Did you mean ")[2], meant)
+
+
+    def test_a_line_that_is_said_has_no_fault(self):
+        for more, meant in (([], []), (["--width", "4"], ["--width", "4"]), (["out.svg"], [])):
+            said = word_faults.unknown_command([str(TOP / "README.md"), *more], 0, "railplan")
+            with self.subTest(more=more):
+                self.assertTrue(said.endswith(shlex.join(["railplan", "draw", str(TOP / "README.md"), *meant])), said)
 
 
 class Lines(unittest.TestCase):

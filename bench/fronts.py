@@ -1,0 +1,42 @@
+#!/usr/bin/env python3
+"""Asks for the fronts of made stations on a grid of 64 by 8. A row has nodes and edges, the processor seconds of draw with `--order
+height,width`, and of three pairs of criteria the seconds of front and how many pairs of values it finds."""
+from __future__ import annotations
+
+import tempfile
+from pathlib import Path
+
+from made_stations import Station, crossovers, fan, loops, named, scissors, yard
+from measuring import Table, counts_of, read_words, reader_of_words, run
+
+PAIRS = ("height,width", "height,bends", "bends,width")
+HEAD = ["station", "nodes", "edges", "draw, s", *(cell for pair in PAIRS for cell in (f"{pair}, s", "pairs"))]
+GRID = ["--width", "64", "--height", "8"]
+
+
+def stations() -> list[tuple[str, Station]]:
+    return [("loops above 9", loops(9, lambda i: True)), ("loops in turn 6", loops(6, lambda i: i % 2 == 0)),
+            ("crossovers 12", crossovers(12)), ("scissors 6", scissors(6)), ("yard 4", yard(4)), ("fan 9", fan(9))]
+
+
+def row(program: Path, text: str, folder: Path) -> list[object]:
+    file = folder / "station.xml"
+    file.write_text(text, encoding="utf-8")
+    cells: list[object] = [*counts_of(program, file), run([program, "draw", file, *GRID, "--order", "height,width"]).seconds]
+    for pair in PAIRS:
+        asked = run([program, "front", file, pair, *GRID])
+        cells += [asked.seconds, len(asked.lines("pair "))]
+    return cells
+
+
+def main() -> None:
+    words = read_words(reader_of_words(__doc__, only="stations whose names hold one of these words"))
+    table = Table("fronts", HEAD, words.program)
+    with tempfile.TemporaryDirectory() as folder:
+        for name, station in named(stations(), words.only):
+            table.add(name, *row(words.program, station.text(), Path(folder)))
+    table.end(words.write)
+
+
+if __name__ == "__main__":
+    main()
