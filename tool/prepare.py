@@ -15,7 +15,7 @@ from xml.parsers import expat
 from tool import files, railml, text_faults, words
 from tool.places import Place, of_byte
 from tool.railml import Element
-from tool.saying import called, end, say, why, write_error
+from tool.saying import called, end, say, why
 from tool.telling import too_long, unread
 from tool.topology_faults import lacks, leads_nowhere, wrong_course, wrong_orientation
 
@@ -390,7 +390,8 @@ def run(line: words.Line) -> int:
     data = read_whole(source)
     refuse_other(out, source)
     it = mended(source, data)
-    write_error("".join(f"railplan: {said}\n" for said in [it.unfit] * bool(it.unfit) + it.changes + it.guesses + it.doubts))
+    for said in [it.unfit] * bool(it.unfit) + it.changes + it.guesses + it.doubts:
+        say(said)
     if it.unfit:
         end(1, "nothing is written")
     if it.guesses:
