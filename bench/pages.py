@@ -266,11 +266,12 @@ def open_tab() -> Tab:
     return Tab(browser)
 
 
-def measured(number: int, folder: Path, kinds: int, namings: int) -> list[Looked]:
-    """the pages of a station"""
+def measured(number: int, folder: Path, kinds: int, namings: int, is_kept: bool) -> list[Looked]:
+    """the pages of a station; where that is asked those alone of which is kept what was seen"""
     (folder / "answers").mkdir(exist_ok=True)
     answers = Answers(str(PROGRAM), str(folder / "answers"))
-    return [looked(Files(number, naming, folder, answers), kind) for kind, naming in pages_of(number, kinds, namings)]
+    listed = [(Files(number, naming, folder, answers), kind) for kind, naming in pages_of(number, kinds, namings)]
+    return [looked(files, kind) for files, kind in listed if not is_kept or Path(f"{files.stem}.{kind}.seen").exists()]
 
 
 def measure(words: argparse.Namespace) -> list[tuple[str, list[str]]]:
@@ -279,7 +280,7 @@ def measure(words: argparse.Namespace) -> list[tuple[str, list[str]]]:
         folder = words.folder or Path(stack.enter_context(tempfile.TemporaryDirectory()))
         folder.mkdir(parents=True, exist_ok=True)
         pool = stack.enter_context(ProcessPoolExecutor(words.jobs))
-        ask = partial(measured, folder=folder, kinds=words.kinds, namings=words.namings)
+        ask = partial(measured, folder=folder, kinds=words.kinds, namings=words.namings, is_kept=words.kept)
         for number, pages in zip(range(words.first, words.stations), pool.map(ask, range(words.first, words.stations))):
             for it in pages:
                 faults = f"{it.faults[0]}, and {len(it.faults) - 1} more" if it.faults else "as it is to be"
@@ -385,6 +386,7 @@ def read_words() -> argparse.Namespace:
     parser.add_argument("--jobs", type=int, default=max(1, (os.cpu_count() or 2) // 2), help="measure: browsers side by side")
     parser.add_argument("--folder", type=Path, help="measure: a folder that keeps the pages, what was seen "
                         "of them and what the program answered; a run that was stopped goes on there")
+    parser.add_argument("--kept", action="store_true", help="measure: of a run into --folder that was stopped what is kept alone")
     parser.add_argument("--write", action="store_true", help="measure, drive, largest: write the table into bench/results")
     words = parser.parse_args()
     if not os.access(PROGRAM, os.X_OK):
