@@ -19,6 +19,7 @@ pub mod TriedRuns
 pub mod FrontRuns
 pub mod RedrawnRuns
 pub mod SoReadBack
+pub mod SoReason
 pub mod SoDrawn
 pub mod SoRefused
 pub mod ExplainedRuns
