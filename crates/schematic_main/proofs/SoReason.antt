@@ -38,8 +38,10 @@ onto_is_one (suc k) n behind h = by (n / 10 == 0)
   where
     more : List ℕ
     more = digit_glyph false (n % 10) ∷ behind
+
     one : IsOneField more
     one = (glyph_is_no_end n, h)
+
     by : (b : Bool) → IsOneField (cond b more (digits_onto k 10 false (n / 10) more))
     by true = one
     by false = onto_is_one k (n / 10) more one
@@ -117,8 +119,10 @@ all_are_one i = by i
   where
     node : IsOneField (codes "node")
     node = grind arith
+
     edge : IsOneField (codes "edge")
     edge = grind arith
+
     by : (i : Instance) → AllByRecursion IsOneField (fields_of i)
     by (NodeOnGrid n) = (number_is_one 1, (node, (number_is_one n, tt)))
     by (LineOnGrid e) = (number_is_one 1, (edge, (number_is_one e, tt)))
@@ -180,8 +184,10 @@ small_law bytes g above i has is = by i is
   where
     nodes : length g.nodes ≤ 128
     nodes = let few = has.built.station.few_nodes in omega (arith, few)
+
     edges : length g.edges ≤ 65535
     edges = let few = has.built.station.few_edges in omega (arith, few)
+
     by : (i : Instance) → IsInstance g above i → IsSmallLaw i
     by (NodeOnGrid n) is = record { first = omega (arith, is, nodes); second = omega arith }
     by (LineOnGrid e) is = record { first = omega (arith, is, edges); second = omega arith }

@@ -112,14 +112,15 @@ pub trait Oracle: LogTeller {
     ghost fits: { (s : Self) (lines : Lines) → Self.knows s lines → words_of (flat_map added lines) ≤ (task s).room };
 
     /// There are no more Learnt lines than the budget allows.
-    ghost within: { (s : Self) (lines : Lines) → Self.knows s lines → length (flat_map learnt_of lines) ≤ (task s).budget };
+    ghost within: { (s : Self) (lines : Lines) → Self.knows s lines → length (flat_map learnt_of lines)
+        ≤ (task s).budget };
 
     /// With them there are no more variables than there may be.
     ghost few: { (s : Self) (lines : Lines) → Self.knows s lines → vars s ≤ VARS };
 
     /// They have just these bounds.
-    ghost counted: { (s : Self) (lines : Lines) (c : Measure) → Self.knows s lines → caps_of (greatest_of (task s)) lines c
-        ≡ caps s c };
+    ghost counted: { (s : Self) (lines : Lines) (c : Measure) → Self.knows s lines
+        → caps_of (greatest_of (task s)) lines c ≡ caps s c };
 
     /// No two of these bounds have one variable.
     ghost apart: { (s : Self) (lines : Lines) → Self.knows s lines → AreApart lines };

@@ -64,5 +64,6 @@ pub trait CountOracle: LogTeller {
     ghost fits: { (s : Self) (lines : Lines) → Self.knows s lines → words_of (flat_map added lines) ≤ (task s).room };
 
     /// There are no more Learnt lines than the budget allows.
-    ghost spent: { (s : Self) (lines : Lines) → Self.knows s lines → length (flat_map learnt_of lines) ≤ (task s).budget };
+    ghost spent: { (s : Self) (lines : Lines) → Self.knows s lines → length (flat_map learnt_of lines)
+        ≤ (task s).budget };
 }

@@ -50,5 +50,6 @@ pub trait LawOracle: LogTeller {
         ensures cause { IsErrOf result WhyFault.Log → Rose (Self.faults self.old) (Self.faults self.new) };
 
     /// Their Formula lines are the task's clauses, and they have no Bound line.
-    ghost gives: { (s : Self) (lines : Lines) → Self.knows s lines → clause_lines lines ≡ map Formula (task s).clauses };
+    ghost gives: { (s : Self) (lines : Lines) → Self.knows s lines → clause_lines lines
+        ≡ map Formula (task s).clauses };
 }
