@@ -173,7 +173,8 @@ text_once g xs ys without shown h k e =
     (((title ++ many ys) ++ law_lines ys) ++ without_texts g 1 shown) (codes "end why\n") e in
     let counted = append_cancel_left title (many xs ++ behind xs without) (many ys ++ behind ys shown)
     (sym (regroup xs without) ∙ inner ∙ regroup ys shown) in
-    let same = fields_once (codes "laws") (decimal (length (map break_of xs)) ∷ []) (decimal (length (map break_of ys)) ∷ []) (behind xs without) (behind ys shown)
+    let same = fields_once (codes "laws") (decimal (length (map break_of xs)) ∷ []) (decimal (length (map break_of ys)) ∷ []) (behind xs without)
+    (behind ys shown)
     (number_is_one (length (map break_of xs)), tt) (number_is_one (length (map break_of ys)), tt) counted in
     laws_once xs ys (without_texts g 1 without) (without_texts g 1 shown) h k (behind_laws g without) (behind_laws g shown) same.behind
 
