@@ -11,7 +11,7 @@ use Rattle.refute_log.specs.declared.line.LogLine.TheVariants.{Learnt, Query, Re
 use Rattle.refute_log.specs.Told.{Lines}
 use Rattle.refute_log.specs.Log.{learnt, asked, facts_of, Open, clause_lines}
 use Rattle.refute_log.specs.Steps.{GoesOn, Leaves}
-use Rattle.refute_log.proofs.StepLemmas.{leaves_same, leaves_then, clause_lines_append}
+use Rattle.refute_log.proofs.StepLemmas.{leaves_same, leaves_then, clause_lines_append, unanswered}
 use Rattle.refute_log.specs.Full.{NextClausePasses}
 use Rattle.refute_log.specs.declared.stop.Stop.TheVariants.{BudgetSpent, RoomFull}
 use Rattle.drawing_cnf.specs.Layout.{Layout}
@@ -69,10 +69,20 @@ answered p old new Spent assume cs lines ending learnt_are spent is_room given b
     let belongs_so : Belongs (lines ++ search_lines assume cs []) new = subst (λ (ls : Lines). Belongs (lines ++ ls) new) same belongs in
     let count : length (flat_map learnt (lines ++ search_lines assume cs ending)) ≡ p.budget =
     count_of_search Spent assume cs lines ending ends ∙ (let e : length cs ≡ p.budget - old.learnt = has in let f : length (flat_map learnt lines) + length cs
-    ≡ p.budget = omega (arith, e, learnt_are, spent) in f) in
-    ((count, subst (λ (ls : Lines). Open (lines ++ ls)) (sym same) (is_open assume cs lines new belongs_so true_answer)), unmodelled assume cs ending ends)
+    ≡ p.budget = omega (arith, e, learnt_are, spent) in f) in (
+      (
+        unanswered lines assume cs ending ends,
+        count,
+        subst (λ (ls : Lines). Open (lines ++ ls)) (sym same) (is_open assume cs lines new belongs_so true_answer),
+      ),
+      unmodelled assume cs ending ends,
+    )
 answered p old new Room assume cs lines ending learnt_are spent is_room given belongs ends has true_answer = (
-  subst (NextClausePasses (lines ++ search_lines assume cs ending)) is_room (has_no_room (lines ++ search_lines assume cs ending) new belongs true_answer),
+  (
+    unanswered lines assume cs ending ends,
+    subst (NextClausePasses (lines ++ search_lines assume cs ending)) is_room
+        (has_no_room (lines ++ search_lines assume cs ending) new belongs true_answer),
+  ),
   unmodelled assume cs ending ends,
 )
 

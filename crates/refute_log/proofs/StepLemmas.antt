@@ -1,15 +1,17 @@
 -- Calls after each other.
-use Rattle.std.proofs.Common.{◌≡◌, ◌≤◌, ℕ, zero, suc, ◌+◌, [], ◌∷◌, ◌++◌, map, length, refl, sym, ◌∙◌, ap, subst, append-nil, append_assoc, arith}
+use Rattle.std.proofs.Common.{◌≡◌, ◌≤◌, ℕ, zero, suc, ◌+◌, List, [], ◌∷◌, ◌++◌, map, length, refl, sym, ◌∙◌, ap, subst, append-nil, append_assoc, arith}
 use Rattle.std.proofs.Common.{length-append, Ok, Err}
 use Rattle.std.specs.Prelude.{⊤, flat_map, Result, OnErr}
 use Rattle.std.proofs.lemmas.Grind.{flat_map-append}
 use Rattle.std.proofs.lemmas.List.Concat.{flat_map-cons}
 use Rattle.outside_io.specs.Counts.{next_count, rose_by}
+use Rattle.cnf_core.specs.Lit.{Literal}
 use Rattle.cnf_core.specs.Clause.{Clauses}
 use Rattle.refute_log.specs.declared.line.LogLine.{LogLine}
-use Rattle.refute_log.specs.declared.line.LogLine.TheVariants.{Learnt}
+use Rattle.refute_log.specs.declared.line.LogLine.TheVariants.{Learnt, Query}
 use Rattle.refute_log.specs.Told.{Lines}
 use Rattle.refute_log.specs.Log.{clause_line, clause_lines, learnt, Derives}
+use Rattle.refute_log.specs.Cause.{IsUnanswered}
 use Rattle.refute_log.specs.Steps.{ToldBehind, GoesOn, Continues, KnowsSome, Leaves}
 use Rattle.refute_log.proofs.LogLemmas.{flat_map_last}
 
@@ -131,6 +133,17 @@ pub leaves_here : {S : Type 0} (knows log : S → Lines → Type 0) (count : S �
     ((lines more : Lines) → R lines more → clause_lines more ≡ []) → ((lines : Lines) → knows b lines → Derives lines) →
     ((x y : Lines) → log b x → log b y → x ≡ y) → Leaves [] (knows a) (log a) (log b)
 leaves_here knows log count a b R run gives derives one = leaves_later knows log count a b b R [] [] run gives (leaves_same (knows b) (log b) derives one)
+
+-- ---- a question without an answer
+
+pub unanswered : (lines : Lines) (query : List Literal) (clauses : Clauses) (ending : Lines) → ending ≡ [] →
+    IsUnanswered (lines ++ Query query ∷ (map Learnt clauses ++ ending))
+unanswered lines query clauses ending none = record {
+  before = lines;
+  query = query;
+  clauses = clauses;
+  is = ap (λ (ls : Lines). lines ++ Query query ∷ ls) (ap (λ (ls : Lines). map Learnt clauses ++ ls) none ∙ append-nil (map Learnt clauses));
+}
 
 pub on_err_weaker : {T E : Type 0} (r : Result T E) (P Q : Type 0) → (P → Q) → OnErr r P → OnErr r Q
 on_err_weaker (Ok x) P Q f h = tt
