@@ -17,6 +17,7 @@ use Rattle.refute_log.specs.ToldTo.{IsToldTo}
 use Rattle.refute_log.specs.Log.{learnt, clause_lines}
 use Rattle.refute_log.specs.Steps.{ToldBehind, GoesOn, Leaves}
 use Rattle.refute_log.proofs.LogLemmas.{derives_none}
+use Rattle.refute_log.proofs.StepLemmas.{counted_within, few_left}
 use Rattle.refute_log.specs.declared.stop.Stop.TheVariants.{BudgetSpent, RoomFull}
 use Rattle.refute_log.specs.Cause.{IsCause}
 use Rattle.drawing_cnf.specs.Expected.{laws_first}
@@ -281,24 +282,31 @@ nothing_told y budget room n log passes = (
 -- ---- errors
 
 -- nothing was told
-pub left_none : (y : Layout) (log : Lines → Type 0) → ((a b : Lines) → log a → log b → a ≡ b) → log [] → (lines : Lines) → log lines → IsWhyLeft y lines
-left_none y log one none lines is = subst (IsWhyLeft y) (one [] lines none is) (record { derives = derives_none; begins = (formula_lines y, refl) })
+pub left_none : (y : Layout) (budget : ℕ) (log : Lines → Type 0) → ((a b : Lines) → log a → log b → a ≡ b) → log [] → (lines : Lines) → log lines →
+    IsWhyLeft y budget lines
+left_none y budget log one none lines is = subst (IsWhyLeft y budget) (one [] lines none is) (record {
+  derives = derives_none;
+  begins = (formula_lines y, refl);
+  few = counted_within budget [] (omega arith);
+})
 
 -- an error in the formula's clauses
-pub left_begun : (y : Layout) (room : ℕ) (laws : List Law) (f : Cnf) (old : Kept) (l0 l1 : Lines → Type 0) → HasFormula y room laws f → old ≡ blank room →
-    Leaves (map Formula f.clauses) (λ ls. Belongs ls old) l0 l1 → l0 [] → (lines : Lines) → l1 lines → IsWhyLeft y lines
-left_begun y room laws f old l0 l1 has blank_is h none lines told =
+pub left_begun : (y : Layout) (budget room : ℕ) (laws : List Law) (f : Cnf) (old : Kept) (l0 l1 : Lines → Type 0) →
+    HasFormula y room laws f → old ≡ blank room →
+    Leaves 0 (map Formula f.clauses) (λ ls. Belongs ls old) l0 l1 → l0 [] → (lines : Lines) → l1 lines → IsWhyLeft y budget lines
+left_begun y budget room laws f old l0 l1 has blank_is h none lines told =
     let left = h [] (new_belongs old room blank_is) none lines told in
     record {
       derives = left.derives;
       begins = (left.begins.0, ap (map Formula) (sym has.clauses) ∙ left.begins.1 ∙ ap (λ (ls : Lines). ls ++ left.begins.0) (sym left.gives));
+      few = few_left 0 budget [] lines (omega arith) (omega arith) left.few;
     }
 
 -- an error behind them
 pub left_later : (y : Layout) (budget room : ℕ) (laws : List Law) (f : Cnf) (old mid : Kept) (l0 l1 l2 : Lines → Type 0) (n0 n1 : ℕ) →
     HasFormula y room laws f → old ≡ blank room → HasTaken (with_more_vars old f.vars) mid f.clauses →
     GoesOn (λ ls. Belongs ls old) (λ ls. Belongs ls mid) l0 l1 n0 n1 (λ lines more. more ≡ map Formula f.clauses) →
-    Leaves [] (KnowsWhy (task_of y budget room) mid) l1 l2 → l0 [] → (lines : Lines) → l2 lines → IsWhyLeft y lines
+    Leaves budget [] (KnowsWhy (task_of y budget room) mid) l1 l2 → l0 [] → (lines : Lines) → l2 lines → IsWhyLeft y budget lines
 left_later y budget room laws f old mid l0 l1 l2 n0 n1 has blank_is t goes h none lines told =
     let start = formula_lines y in
     let run : ToldBehind (λ ls. Belongs ls mid) l0 l1 n0 n1 [] (λ more. more ≡ map Formula f.clauses) = goes [] (new_belongs old room blank_is) in
@@ -313,6 +321,7 @@ left_later y budget room laws f old mid l0 l1 l2 n0 n1 has blank_is t goes h non
         sym knows.told_are ∙ sym (append-nil (clause_lines start)) ∙ ap (λ (ls : Lines). clause_lines start ++ ls) (sym nothing) ∙ sym left.gives
             ∙ sym (append-nil (clause_lines lines)),
       );
+      few = few_left budget budget start lines (omega arith) (subst (λ n. n ≤ budget) knows.learnt_are knows.spent) left.few;
     }
   where
     nothing_begins : (front rest : Lines) → [] ≡ front ++ rest → front ≡ []

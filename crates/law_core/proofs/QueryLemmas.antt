@@ -1,6 +1,6 @@
 -- What a question leaves of the solver and of the log.
 use Rattle.std.proofs.Common.{◌≡◌, ◌≤◌, ◌<◌, ℕ, ◌+◌, ◌-◌, ◌^◌, List, [], ◌∷◌, ◌++◌, length, sym, ◌∙◌, ap, subst, arith, append-nil}
-use Rattle.std.specs.Prelude.{flat_map, map, All, Some, None, fold}
+use Rattle.std.specs.Prelude.{flat_map, map, All, Some, None}
 use Rattle.std.proofs.lemmas.List.Elements.{All-nil, All-cons}
 use Rattle.std.proofs.lemmas.Grind.{fold-append}
 use Rattle.outside_io.specs.Counts.{rose_by}
@@ -11,7 +11,7 @@ use Rattle.refute_log.specs.declared.line.LogLine.TheVariants.{Learnt, Query, Re
 use Rattle.refute_log.specs.Told.{Lines}
 use Rattle.refute_log.specs.Log.{learnt, asked, facts_of, Open, clause_lines}
 use Rattle.refute_log.specs.Steps.{GoesOn, Leaves}
-use Rattle.refute_log.proofs.StepLemmas.{leaves_same, leaves_then, clause_lines_append, unanswered}
+use Rattle.refute_log.proofs.StepLemmas.{leaves_same, leaves_then, few_within, clause_lines_append, unanswered}
 use Rattle.refute_log.specs.Full.{NextClausePasses}
 use Rattle.refute_log.specs.declared.stop.Stop.TheVariants.{BudgetSpent, RoomFull}
 use Rattle.drawing_cnf.specs.Layout.{Layout}
@@ -150,16 +150,17 @@ search_goes y selecting budget room old new a assume before now n m top ready se
 
 -- an error behind what is known that tells nothing
 pub known_left : (y : Layout) (budget room : ℕ) (k : Kept) (log : Lines → Type 0) → ((a b : Lines) → log a → log b → a ≡ b) →
-    Leaves [] (KnowsWhy (task_of y budget room) k) log log
+    Leaves budget [] (KnowsWhy (task_of y budget room) k) log log
 known_left y budget room k log one = leaves_same (KnowsWhy (task_of y budget room) k) log (λ lines h. h.belongs.derives) one
 
 -- an error behind calls that went on
 pub later_left : (y : Layout) (budget room : ℕ) (old new : Kept) (l0 l1 l2 : Lines → Type 0) (n0 n1 : ℕ) (R : Lines → Lines → Type 0) →
     GoesOn (KnowsWhy (task_of y budget room) old) (KnowsWhy (task_of y budget room) new) l0 l1 n0 n1 R →
-    Leaves [] (KnowsWhy (task_of y budget room) new) l1 l2 → Leaves [] (KnowsWhy (task_of y budget room) old) l0 l2
+    Leaves budget [] (KnowsWhy (task_of y budget room) new) l1 l2 → Leaves budget [] (KnowsWhy (task_of y budget room) old) l0 l2
 later_left y budget room old new l0 l1 l2 n0 n1 R goes h =
     leaves_then (KnowsWhy (task_of y budget room) old) (KnowsWhy (task_of y budget room) new) l0 l1 l2 n0 n1 R [] [] goes
-    (λ lines more ka kb r. kb.told_are ∙ sym ka.told_are ∙ sym (append-nil (clause_lines lines))) h
+    (λ lines more ka kb r. kb.told_are ∙ sym ka.told_are ∙ sym (append-nil (clause_lines lines)))
+    (λ lines more ka kb r. few_within budget lines (lines ++ more) (subst (λ n. n ≤ budget) kb.learnt_are kb.spent)) h
 
 -- ---- the reply
 

@@ -10,7 +10,7 @@ use Rattle.track_order.specs.Order.{is_above}
 use Rattle.refute_log.specs.declared.line.LogLine.TheVariants.{Formula, Model as ModelLine}
 use Rattle.refute_log.specs.Lines.{MayAllBeTold}
 use Rattle.refute_log.specs.Told.{Lines}
-use Rattle.refute_log.specs.Log.{added, learnt, Derives, Due, BeginsLines, clause_lines}
+use Rattle.refute_log.specs.Log.{added, learnt, learnt_count, Derives, Due, BeginsLines, clause_lines}
 use Rattle.refute_log.specs.declared.stop.Stop.TheVariants.{BudgetSpent, RoomFull}
 use Rattle.refute_log.specs.Cause.{IsCause}
 use Rattle.drawing_cnf.specs.Layout.{Layout}
@@ -74,10 +74,12 @@ pub record IsWhyLog (y : Layout) (budget room : ℕ) (w : Why) (lines : Lines) :
   pub asked : AreAboutLaws (task_of y budget room) lines
   pub cause : IsWhyCause y budget room w lines
 
--- the lines of a search that ended with an error
-pub record IsWhyLeft (y : Layout) (lines : Lines) : Type 0 where
+-- the lines of a search, also of one that ended with an error: they derive, their Formula and Bound lines begin those
+-- of the formula, and there are no more Learnt lines, as a log counts them, than the budget allows
+pub record IsWhyLeft (y : Layout) (budget : ℕ) (lines : Lines) : Type 0 where
   pub derives : Derives lines
   pub begins : BeginsLines (clause_lines lines) (formula_lines y)
+  pub few : learnt_count lines ≤ budget
 
 -- the places of an explanation are those of so many laws
 abbrev pub HasLawPlaces : (count : ℕ) → Outcome → Type 0

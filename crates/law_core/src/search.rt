@@ -13,8 +13,8 @@ pub(crate) struct WhySearch<'k, 's, 'l, 'a, L: LogSink> {
 }
 
 impl<'k, 's, 'l, 'a, L: LogSink> LawOracle for WhySearch<'k, 's, 'l, 'a, L> {
-    ghost use Rattle.std.specs.Prelude.{◌≡◌};
-    ghost use Rattle.std.proofs.Common.{refl, ◌∙◌};
+    ghost use Rattle.std.specs.Prelude.{◌≡◌, ◌≤◌};
+    ghost use Rattle.std.proofs.Common.{refl, ◌∙◌, subst};
     ghost use Rattle.law_core.specs.Search.{task_with, IsReadyWith, KnowsWith};
 
     ghost task = { λ s. task_with s.known.now };
@@ -45,6 +45,8 @@ impl<'k, 's, 'l, 'a, L: LogSink> LawOracle for WhySearch<'k, 's, 'l, 'a, L> {
     ghost due = { λ s lines k. k.belongs.due };
 
     ghost gives = { λ s lines k. k.told_are };
+
+    ghost within = { λ s lines k. subst (λ n. n ≤ s.known.now.budget) k.learnt_are k.spent };
 
     ghost one_reading = { λ s a b x y. L.one_reading s.log.now a b x y };
 

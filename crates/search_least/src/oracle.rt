@@ -92,7 +92,8 @@ pub trait Oracle {
         ensures right { IfOk result (IsRightReply (task self.old) bounds.now) }
         ensures lines { IfOk result (λ r. Continues knows log learnt self.old self.new (λ lines more.
             IsReply (task self.old) lines bounds.now r more)) }
-        ensures leaves { OnErr result (Leaves [] (knows self.old) (log self.old) (log self.new)) }
+        ensures leaves { OnErr result (Leaves (task self.old).budget [] (knows self.old) (log self.old)
+            (log self.new)) }
         ensures ready { OnOk result (ready self.new) }
         ensures task { task self.new ≡ task self.old }
         ensures caps { OnOk result (caps self.new ≡ caps self.old) }
@@ -112,7 +113,8 @@ pub trait Oracle {
             (caps self.new) (vars self.new)) }
         ensures lines { IfOk result (λ b. Continues knows log learnt self.old self.new (λ lines more.
             IsBuild (task self.old) (vars self.old) c cap b lines more)) }
-        ensures leaves { OnErr result (Leaves (sum_lines (task self.old).encoding (vars self.old) c cap)
+        ensures leaves { let p = task self.old in
+            OnErr result (Leaves p.budget (sum_lines p.encoding (vars self.old) c cap)
             (knows self.old) (log self.old) (log self.new)) }
         ensures task { task self.new ≡ task self.old }
         ensures later { is_later self.old self.new }

@@ -62,7 +62,8 @@ pub trait CountOracle {
         ensures right { IfOk result (IsRightAnswer (task self.old) limit) }
         ensures lines { IfOk result (λ r. Continues knows log learnt self.old self.new (λ lines more.
             IsAnswer (task self.old) lines limit r more)) }
-        ensures leaves { OnErr result (Leaves [] (knows self.old) (log self.old) (log self.new)) }
+        ensures leaves { OnErr result (Leaves (task self.old).budget [] (knows self.old) (log self.old)
+            (log self.new)) }
         ensures ready { OnOk result (ready self.new) }
         ensures task { task self.new ≡ task self.old }
         ensures later { is_later self.old self.new }

@@ -1,9 +1,9 @@
 // What is asked: the drawings' clauses, a solver and a log, as one thing.
-ghost use Rattle.std.specs.Prelude.{◌≡◌, ◌≤◌, [], ℕ, OnOk, OnErr, IfOk, IsErrOf, length, map};
+ghost use Rattle.std.specs.Prelude.{◌≡◌, ◌≤◌, [], ℕ, OnOk, OnErr, IfOk, IsErrOf, length, map, flat_map};
 ghost use Rattle.outside_io.specs.Counts.{Rose};
 ghost use Rattle.refute_log.specs.Told.{Lines};
 ghost use Rattle.refute_log.specs.declared.line.LogLine.TheVariants.{Formula};
-ghost use Rattle.refute_log.specs.Log.{Derives, Due, clause_lines};
+ghost use Rattle.refute_log.specs.Log.{learnt as learnt_of, Derives, Due, clause_lines};
 ghost use Rattle.search_why.specs.Task.{Task};
 ghost use Rattle.refute_log.specs.Steps.{Continues, Leaves};
 ghost use Rattle.search_why.specs.Asked.{AreLawPlaces, IsRightReply, TellsReply};
@@ -60,7 +60,8 @@ pub trait LawOracle {
         ensures right { IfOk result (IsRightReply (task self.old) wanted.now) }
         ensures lines { IfOk result (λ r. Continues knows log learnt self.old self.new (λ lines more.
             TellsReply (task self.old) r lines more)) }
-        ensures leaves { OnErr result (Leaves [] (knows self.old) (log self.old) (log self.new)) }
+        ensures leaves { OnErr result (Leaves (task self.old).budget [] (knows self.old) (log self.old)
+            (log self.new)) }
         ensures ready { OnOk result (ready self.new) }
         ensures task { task self.new ≡ task self.old }
         ensures later { is_later self.old self.new }
@@ -75,6 +76,9 @@ pub trait LawOracle {
 
     /// Their Formula lines are the task's clauses, and they have no Bound line.
     ghost gives: { (s : Self) (lines : Lines) → knows s lines → clause_lines lines ≡ map Formula (task s).clauses };
+
+    /// There are no more Learnt lines than the budget allows.
+    ghost within: { (s : Self) (lines : Lines) → knows s lines → length (flat_map learnt_of lines) ≤ (task s).budget };
 
     /// A log has one list of lines at most.
     ghost one_reading: { (s : Self) (a b : Lines) → log s a → log s b → a ≡ b };

@@ -122,7 +122,7 @@ returns-in_err-lowered-clause-leaves g c = let o = g.O.Oracle in
 pub returns-clause-leaves : goal.returns-clause-leaves
 returns-clause-leaves g c = let o = g.O.Oracle in
     on_err_weaker c.second_from.result _ _ (asked_later o.knows o.log o.learnt c.args.oracle.now c.lower.new.oracle c.second_from.new.oracle
-    (o.task c.args.oracle.now) c.args.b (lowered c.deref.result.now c.args.a c.args.first)
+    (o.task c.lower.new.oracle) (o.task c.args.oracle.now) c.args.b (lowered c.deref.result.now c.args.a c.args.first)
     (EndsLowered (o.task c.args.oracle.now) c.deref.result.now c.args.a c.args.b c.in_ok-lowered.lowered.least c.in_ok-lowered.lowered.stop)
-    (c.in_ok-lowered.ensures.lines c.args.b))
+    (c.in_ok-lowered.ensures.lines c.args.b) (g.met.O.Oracle.within c.lower.new.oracle) c.in_ok-lowered.ensures.task)
     c.second_from.ensures.leaves

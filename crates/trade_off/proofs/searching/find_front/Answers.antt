@@ -3,7 +3,8 @@ use Rattle.std.specs.Prelude.{IfOk}
 use Rattle.std.proofs.lemmas.Result.{IfOk-weaker}
 use Rattle.search_least.specs.Task.{Task, IsLawful, greatest_of}
 use Rattle.search_least.specs.Outcome.{first_lines}
-use Rattle.refute_log.specs.Steps.{ToldBehind, Continues}
+use Rattle.search_least.proofs.LeftLemmas.{IsSpentWithin}
+use Rattle.refute_log.specs.Steps.{ToldBehind, Continues, Leaves}
 use Rattle.trade_off.specs.Front.{IsFrontUpTo}
 use Rattle.trade_off.specs.Least.{AreAsked}
 use Rattle.trade_off.specs.Outcome.{IsRightFront, IsFrontLog, IsBuiltFront, EndsFront}
@@ -86,11 +87,15 @@ pub returns-in_err-build_both-clause-left : goal.returns-in_err-build_both-claus
 returns-in_err-build_both-clause-left g c = let o = g.O.Oracle in
     let s = c.args.oracle.now in
     on_err_anyway _ _ (build_left o.knows o.log s c.build_both.new.oracle (o.task s) c.args.a c.args.b (o.vars s) c.requires.fresh.vars_are c.requires.start
-    c.in_err-build_both.ensures.leaves)
+    (g.met.O.Oracle.within s) c.in_err-build_both.ensures.leaves)
 
 pub returns-in-Whole-clause-left : goal.returns-in-Whole-clause-left
 returns-in-Whole-clause-left g c = let o = g.O.Oracle in
     let s = c.args.oracle.now in
     let t = c.build_both.new.oracle in
-    on_err_weaker c.collect.result _ _ (collect_left o.knows o.log o.learnt s t c.collect.new.oracle (o.task s) c.args.a c.args.b c.in_ok-build_both.field-0
-    c.in-Whole.is c.requires.start c.in_ok-build_both.ensures.lines) c.collect.ensures.leaves
+    on_err_weaker c.collect.result _ _ (λ leaves. collect_left o.knows o.log o.learnt s t c.collect.new.oracle (o.task s) c.args.a c.args.b
+    c.in_ok-build_both.field-0
+    c.in-Whole.is c.requires.start c.in_ok-build_both.ensures.lines
+    (subst (λ (x : Task). IsSpentWithin x (o.knows t)) c.in_ok-build_both.ensures.task (g.met.O.Oracle.within t))
+    (subst (λ (x : Task). Leaves x.budget [] (o.knows t) (o.log t) (o.log c.collect.new.oracle)) c.in_ok-build_both.ensures.task leaves))
+    c.collect.ensures.leaves
