@@ -1,8 +1,7 @@
 -- The beginning of a search for an explanation, and the whole of its lines.
 use Rattle.std.proofs.Common.{◌≡◌, ◌≤◌, ◌<◌, ℕ, zero, suc, ◌+◌, ◌-◌, false, List, [], ◌∷◌, ◌++◌, length, map, refl, sym, ◌∙◌, ap, subst, inl, inr, arith}
 use Rattle.std.proofs.Common.{append-nil}
-use Rattle.std.specs.Prelude.{⊤, All, flat_map, take, slice_index_or}
-use Rattle.std.proofs.lemmas.Option.{slice_get_within, get_or_from_slice_get}
+use Rattle.std.specs.Prelude.{⊤, All, flat_map, slice_index_or}
 use Rattle.std.proofs.lemmas.List.{length-map}
 use Rattle.std.proofs.lemmas.List.Elements.{All-cons, All-contains, All-weaker}
 use Rattle.plan_core.proofs.ListFacts.{all_mapped}
@@ -12,13 +11,13 @@ use Rattle.cnf_core.specs.declared.limits.TheConstants.{VARS}
 use Rattle.cnf_core.specs.Clause.{Clauses, words_of}
 use Rattle.cnf_core.specs.Formula.{Cnf}
 use Rattle.lawful_check.specs.Breaks.{break_of}
-use Rattle.refute_log.specs.declared.line.LogLine.{LogLine}
 use Rattle.refute_log.specs.declared.line.LogLine.TheVariants.{Formula, Model}
 use Rattle.refute_log.specs.Told.{Lines}
 use Rattle.refute_log.specs.ToldTo.{IsToldTo}
 use Rattle.refute_log.specs.Log.{learnt, clause_lines}
 use Rattle.refute_log.specs.Steps.{ToldBehind, GoesOn, Leaves}
 use Rattle.refute_log.proofs.LogLemmas.{derives_none}
+use Rattle.refute_log.proofs.StepLemmas.{counted_within, few_left}
 use Rattle.refute_log.specs.declared.stop.Stop.TheVariants.{BudgetSpent, RoomFull}
 use Rattle.refute_log.specs.Cause.{IsCause}
 use Rattle.drawing_cnf.specs.Expected.{laws_first}
@@ -34,8 +33,9 @@ use Rattle.lex_minimise.proofs.StartLemmas.{told_whole}
 use Rattle.search_why.specs.declared.outcome.Outcome.{Outcome}
 use Rattle.search_why.specs.declared.outcome.Outcome.TheVariants.{Exists, Laws, Stopped}
 use Rattle.search_why.specs.Explained.{IsChoice, IsChoiceOf, AreWithout}
-use Rattle.search_why.specs.Task.{Task, law_at, MeetsAt, HasAllLaws}
-use Rattle.search_why.specs.Asked.{NoneMeetsAll, IsNoModel}
+use Rattle.search_why.specs.Task.{law_at, HasAllLaws}
+use Rattle.search_why.specs.Asked.{IsNoModel}
+use Rattle.search_why.proofs.OutcomeLemmas.{none_meets_none_lawful}
 use Rattle.track_order.specs.Order.{is_above, is_overlap, IsOrderOf}
 use Rattle.drawing_cnf.proofs.MainLemmas.{order_tables}
 use Rattle.search_why.specs.Outcome.{laws_at, IsRightOutcome, TellsOutcome}
@@ -46,9 +46,9 @@ use Rattle.law_core.specs.Law.{instance_of}
 use Rattle.law_core.specs.Choices.{choices_size, selectors}
 use Rattle.law_core.specs.Known.{laws_of, formula_of, task_of, HasFormula, AreSelecting, IsReady, KnowsWhy}
 use Rattle.law_core.proofs.FormulaLemmas.{all_laws}
-use Rattle.law_core.specs.Query.{IsLawPlaced, IsNoneFound, FindsNone}
+use Rattle.law_core.specs.Query.{IsLawPlaced}
 use Rattle.search_least.proofs.BehindLemmas.{behind_none, behind_mapped}
-use Rattle.law_core.specs.Why.{IsRightWhy, IsWhyCause, IsWhyLog, IsWhyLeft, FormulaPasses, formula_lines, HasLawPlaces, IsWhyOf}
+use Rattle.law_core.specs.Why.{IsRightWhy, KeepsNoneBack, IsWhyCause, IsWhyLog, IsWhyLeft, FormulaPasses, formula_lines, HasLawPlaces, IsWhyOf}
 
 -- ---- the selecting variables
 
@@ -186,39 +186,26 @@ has_places y budget room laws (Stopped stop) are right = tt
 
 -- ---- no lawful drawing is kept back
 
--- lines without a Model line tell of none
 formulas_unmodelled : (cs : Clauses) (more : Lines) → All IsNoModel more → All IsNoModel (map Formula cs ++ more)
 formulas_unmodelled [] more all = all
 formulas_unmodelled (c ∷ cs) more all = All-cons IsNoModel (Formula c) (map Formula cs ++ more) tt (formulas_unmodelled cs more all)
 
-no_model_none : (p : Task) (before : Lines) (line : LogLine) → IsNoModel line → IsNoneFound p before line
-no_model_none p before Model is = absurd is
-no_model_none p before line is = tt
-
-none_told : (p : Task) (lines : Lines) → All IsNoModel lines → FindsNone p lines
-none_told p lines all = λ i line e. no_model_none p (take i lines) line
-    (subst IsNoModel (get_or_from_slice_get lines i line line e) (all i line (slice_get_within lines i line e)))
-
--- nor do lines where none is lawful
-none_there : (p : Task) (before : Lines) (line : LogLine) → NoneMeetsAll p → IsNoneFound p before line
-none_there p before Model none = λ found every. none found.drawing found.loose
-    (λ n lt. All-contains (MeetsAt p found.drawing) found.wanted n found.meets (every n lt))
-none_there p before line none = tt
-
 -- what the lines of a search are that stopped
-abbrev StopsSo : Task → Outcome → Lines → Type 0
-StopsSo p (Exists d) lines = ⊤
-StopsSo p (Laws places without) lines = ⊤
-StopsSo p (Stopped stop) lines = IsCause p.budget p.room stop lines × FindsNone p lines
+abbrev StopsSo : Layout → (budget room : ℕ) → Outcome → Lines → Type 0
+StopsSo y budget room (Exists d) lines = ⊤
+StopsSo y budget room (Laws places without) lines = ⊤
+StopsSo y budget room (Stopped stop) lines = IsCause budget room stop lines × KeepsNoneBack y lines
 
-stops_so : (p : Task) (o : Outcome) (cs : Clauses) (more : Lines) → TellsOutcome p o (map Formula cs) more → StopsSo p o (map Formula cs ++ more)
-stops_so p (Exists d) cs more tells = tt
-stops_so p (Laws places without) cs more tells = tt
-stops_so p (Stopped stop) cs more (cause, inl unmodelled) = (cause, none_told p (map Formula cs ++ more) (formulas_unmodelled cs more unmodelled))
-stops_so p (Stopped stop) cs more (cause, inr none) = (cause, λ i line e. none_there p (take i (map Formula cs ++ more)) line none)
+stops_so : (y : Layout) (budget room : ℕ) (o : Outcome) (cs : Clauses) (more : Lines) → HasAllLaws (task_of y budget room) →
+    TellsOutcome (task_of y budget room) o (map Formula cs) more → StopsSo y budget room o (map Formula cs ++ more)
+stops_so y budget room (Exists d) cs more all tells = tt
+stops_so y budget room (Laws places without) cs more all tells = tt
+stops_so y budget room (Stopped stop) cs more all (cause, inl unmodelled) =
+    (cause, inl (λ there. All-contains IsNoModel (map Formula cs ++ more) Model (formulas_unmodelled cs more unmodelled) there))
+stops_so y budget room (Stopped stop) cs more all (cause, inr none) = (cause, inr (none_meets_none_lawful (task_of y budget room) all none))
 
 why_cause : (y : Layout) (budget room : ℕ) (o : Outcome) (w : Why) (lines : Lines) → clause_lines lines ≡ formula_lines y →
-    StopsSo (task_of y budget room) o lines → IsWhyOf (laws_of y) o w → IsWhyCause y budget room w lines
+    StopsSo y budget room o lines → IsWhyOf (laws_of y) o w → IsWhyCause y budget room w lines
 why_cause y budget room (Exists d) (why.Exists e) lines all tells is = all
 why_cause y budget room (Exists d) (why.Laws names without) lines all tells is = absurd is
 why_cause y budget room (Exists d) why.Spent lines all tells is = absurd is
@@ -237,7 +224,7 @@ why_cause y budget room (Stopped RoomFull) why.Spent lines all tells is = absurd
 why_cause y budget room (Stopped RoomFull) why.Room lines all tells is = inr (all, tells.0, tells.1)
 
 why_log : (y : Layout) (budget room : ℕ) (k : Kept) (o : Outcome) (w : Why) (lines : Lines) → KnowsWhy (task_of y budget room) k lines →
-    StopsSo (task_of y budget room) o lines → IsWhyOf (laws_of y) o w → IsWhyLog y budget room w lines
+    StopsSo y budget room o lines → IsWhyOf (laws_of y) o w → IsWhyLog y budget room w lines
 why_log y budget room k o w lines h tells is = record {
   formed = (h.belongs).formed;
   derives = (h.belongs).derives;
@@ -265,7 +252,8 @@ whole_log y budget room laws f o w old mid new l0 l1 l2 n0 n1 n2 has blank_is t 
       knows = record { belongs = (s.knows).belongs; learnt = (s.knows).learnt_are };
       told = s.told;
       counted = s.counted;
-      does = why_log y budget room new o w (start ++ s.more) s.knows (stops_so p o (formula_of y) s.more s.does) is;
+      does = why_log y budget room new o w (start ++ s.more) s.knows
+          (stops_so y budget room o (formula_of y) s.more (all_searched y budget room has.ordered) s.does) is;
     } in
     let whole = told_whole start (IsWhyLog y budget room w) room old mid new l0 l1 l2 n0 n1 n2 blank_is
     (goes_weaker (λ ls. Belongs ls old) (λ ls. Belongs ls mid) l0 l1 n0 n1 (λ lines more. more ≡ map Formula f.clauses) (λ lines more. more ≡ start) goes
@@ -294,24 +282,31 @@ nothing_told y budget room n log passes = (
 -- ---- errors
 
 -- nothing was told
-pub left_none : (y : Layout) (log : Lines → Type 0) → ((a b : Lines) → log a → log b → a ≡ b) → log [] → (lines : Lines) → log lines → IsWhyLeft y lines
-left_none y log one none lines is = subst (IsWhyLeft y) (one [] lines none is) (record { derives = derives_none; begins = (formula_lines y, refl) })
+pub left_none : (y : Layout) (budget : ℕ) (log : Lines → Type 0) → ((a b : Lines) → log a → log b → a ≡ b) → log [] → (lines : Lines) → log lines →
+    IsWhyLeft y budget lines
+left_none y budget log one none lines is = subst (IsWhyLeft y budget) (one [] lines none is) (record {
+  derives = derives_none;
+  begins = (formula_lines y, refl);
+  few = counted_within budget [] (omega arith);
+})
 
 -- an error in the formula's clauses
-pub left_begun : (y : Layout) (room : ℕ) (laws : List Law) (f : Cnf) (old : Kept) (l0 l1 : Lines → Type 0) → HasFormula y room laws f → old ≡ blank room →
-    Leaves (map Formula f.clauses) (λ ls. Belongs ls old) l0 l1 → l0 [] → (lines : Lines) → l1 lines → IsWhyLeft y lines
-left_begun y room laws f old l0 l1 has blank_is h none lines told =
+pub left_begun : (y : Layout) (budget room : ℕ) (laws : List Law) (f : Cnf) (old : Kept) (l0 l1 : Lines → Type 0) →
+    HasFormula y room laws f → old ≡ blank room →
+    Leaves 0 (map Formula f.clauses) (λ ls. Belongs ls old) l0 l1 → l0 [] → (lines : Lines) → l1 lines → IsWhyLeft y budget lines
+left_begun y budget room laws f old l0 l1 has blank_is h none lines told =
     let left = h [] (new_belongs old room blank_is) none lines told in
     record {
       derives = left.derives;
       begins = (left.begins.0, ap (map Formula) (sym has.clauses) ∙ left.begins.1 ∙ ap (λ (ls : Lines). ls ++ left.begins.0) (sym left.gives));
+      few = few_left 0 budget [] lines (omega arith) (omega arith) left.few;
     }
 
 -- an error behind them
 pub left_later : (y : Layout) (budget room : ℕ) (laws : List Law) (f : Cnf) (old mid : Kept) (l0 l1 l2 : Lines → Type 0) (n0 n1 : ℕ) →
     HasFormula y room laws f → old ≡ blank room → HasTaken (with_more_vars old f.vars) mid f.clauses →
     GoesOn (λ ls. Belongs ls old) (λ ls. Belongs ls mid) l0 l1 n0 n1 (λ lines more. more ≡ map Formula f.clauses) →
-    Leaves [] (KnowsWhy (task_of y budget room) mid) l1 l2 → l0 [] → (lines : Lines) → l2 lines → IsWhyLeft y lines
+    Leaves budget [] (KnowsWhy (task_of y budget room) mid) l1 l2 → l0 [] → (lines : Lines) → l2 lines → IsWhyLeft y budget lines
 left_later y budget room laws f old mid l0 l1 l2 n0 n1 has blank_is t goes h none lines told =
     let start = formula_lines y in
     let run : ToldBehind (λ ls. Belongs ls mid) l0 l1 n0 n1 [] (λ more. more ≡ map Formula f.clauses) = goes [] (new_belongs old room blank_is) in
@@ -326,6 +321,7 @@ left_later y budget room laws f old mid l0 l1 l2 n0 n1 has blank_is t goes h non
         sym knows.told_are ∙ sym (append-nil (clause_lines start)) ∙ ap (λ (ls : Lines). clause_lines start ++ ls) (sym nothing) ∙ sym left.gives
             ∙ sym (append-nil (clause_lines lines)),
       );
+      few = few_left budget budget start lines (omega arith) (subst (λ n. n ≤ budget) knows.learnt_are knows.spent) left.few;
     }
   where
     nothing_begins : (front rest : Lines) → [] ≡ front ++ rest → front ≡ []

@@ -1,6 +1,6 @@
 -- What a question leaves of the solver and of the log.
 use Rattle.std.proofs.Common.{◌≡◌, ◌≤◌, ◌<◌, ℕ, ◌+◌, ◌-◌, ◌^◌, List, [], ◌∷◌, ◌++◌, length, sym, ◌∙◌, ap, subst, arith, append-nil}
-use Rattle.std.specs.Prelude.{flat_map, map, All, Some, None, fold}
+use Rattle.std.specs.Prelude.{flat_map, map, All, Some, None}
 use Rattle.std.proofs.lemmas.List.Elements.{All-nil, All-cons}
 use Rattle.std.proofs.lemmas.Grind.{fold-append}
 use Rattle.outside_io.specs.Counts.{rose_by}
@@ -11,7 +11,7 @@ use Rattle.refute_log.specs.declared.line.LogLine.TheVariants.{Learnt, Query, Re
 use Rattle.refute_log.specs.Told.{Lines}
 use Rattle.refute_log.specs.Log.{learnt, asked, facts_of, Open, clause_lines}
 use Rattle.refute_log.specs.Steps.{GoesOn, Leaves}
-use Rattle.refute_log.proofs.StepLemmas.{leaves_same, leaves_then, clause_lines_append}
+use Rattle.refute_log.proofs.StepLemmas.{leaves_same, leaves_then, few_within, clause_lines_append, unanswered}
 use Rattle.refute_log.specs.Full.{NextClausePasses}
 use Rattle.refute_log.specs.declared.stop.Stop.TheVariants.{BudgetSpent, RoomFull}
 use Rattle.drawing_cnf.specs.Layout.{Layout}
@@ -69,10 +69,20 @@ answered p old new Spent assume cs lines ending learnt_are spent is_room given b
     let belongs_so : Belongs (lines ++ search_lines assume cs []) new = subst (λ (ls : Lines). Belongs (lines ++ ls) new) same belongs in
     let count : length (flat_map learnt (lines ++ search_lines assume cs ending)) ≡ p.budget =
     count_of_search Spent assume cs lines ending ends ∙ (let e : length cs ≡ p.budget - old.learnt = has in let f : length (flat_map learnt lines) + length cs
-    ≡ p.budget = omega (arith, e, learnt_are, spent) in f) in
-    ((count, subst (λ (ls : Lines). Open (lines ++ ls)) (sym same) (is_open assume cs lines new belongs_so true_answer)), unmodelled assume cs ending ends)
+    ≡ p.budget = omega (arith, e, learnt_are, spent) in f) in (
+      (
+        unanswered lines assume cs ending ends,
+        count,
+        subst (λ (ls : Lines). Open (lines ++ ls)) (sym same) (is_open assume cs lines new belongs_so true_answer),
+      ),
+      unmodelled assume cs ending ends,
+    )
 answered p old new Room assume cs lines ending learnt_are spent is_room given belongs ends has true_answer = (
-  subst (NextClausePasses (lines ++ search_lines assume cs ending)) is_room (has_no_room (lines ++ search_lines assume cs ending) new belongs true_answer),
+  (
+    unanswered lines assume cs ending ends,
+    subst (NextClausePasses (lines ++ search_lines assume cs ending)) is_room
+        (has_no_room (lines ++ search_lines assume cs ending) new belongs true_answer),
+  ),
   unmodelled assume cs ending ends,
 )
 
@@ -140,16 +150,17 @@ search_goes y selecting budget room old new a assume before now n m top ready se
 
 -- an error behind what is known that tells nothing
 pub known_left : (y : Layout) (budget room : ℕ) (k : Kept) (log : Lines → Type 0) → ((a b : Lines) → log a → log b → a ≡ b) →
-    Leaves [] (KnowsWhy (task_of y budget room) k) log log
+    Leaves budget [] (KnowsWhy (task_of y budget room) k) log log
 known_left y budget room k log one = leaves_same (KnowsWhy (task_of y budget room) k) log (λ lines h. h.belongs.derives) one
 
 -- an error behind calls that went on
 pub later_left : (y : Layout) (budget room : ℕ) (old new : Kept) (l0 l1 l2 : Lines → Type 0) (n0 n1 : ℕ) (R : Lines → Lines → Type 0) →
     GoesOn (KnowsWhy (task_of y budget room) old) (KnowsWhy (task_of y budget room) new) l0 l1 n0 n1 R →
-    Leaves [] (KnowsWhy (task_of y budget room) new) l1 l2 → Leaves [] (KnowsWhy (task_of y budget room) old) l0 l2
+    Leaves budget [] (KnowsWhy (task_of y budget room) new) l1 l2 → Leaves budget [] (KnowsWhy (task_of y budget room) old) l0 l2
 later_left y budget room old new l0 l1 l2 n0 n1 R goes h =
     leaves_then (KnowsWhy (task_of y budget room) old) (KnowsWhy (task_of y budget room) new) l0 l1 l2 n0 n1 R [] [] goes
-    (λ lines more ka kb r. kb.told_are ∙ sym ka.told_are ∙ sym (append-nil (clause_lines lines))) h
+    (λ lines more ka kb r. kb.told_are ∙ sym ka.told_are ∙ sym (append-nil (clause_lines lines)))
+    (λ lines more ka kb r. few_within budget lines (lines ++ more) (subst (λ n. n ≤ budget) kb.learnt_are kb.spent)) h
 
 -- ---- the reply
 

@@ -1,6 +1,6 @@
 -- A question as assumptions of the solver, which places a refutation needs, and which reply is of which answer.
-use Rattle.std.specs.Prelude.{◌≡◌, ◌<◌, ⊤, ℕ, Bool, false, ◌||◌, ◌==◌, List, [], ◌∷◌, All, Contains, Some, map, filter}
-use Rattle.std.specs.Prelude.{length, slice_index_or}
+use Rattle.std.specs.Prelude.{◌≡◌, ⊤, ℕ, Bool, false, ◌||◌, ◌==◌, List, [], ◌∷◌, All, Some, map, filter}
+use Rattle.std.specs.Prelude.{slice_index_or}
 use Rattle.plan_core.specs.Drawing.{Drawing}
 use Rattle.cnf_core.specs.Lit.{Literal, positive_of}
 use Rattle.refute_log.specs.declared.line.LogLine.{LogLine}
@@ -58,16 +58,6 @@ IsLawPlaced p before line = ⊤
 -- each line stands so behind those before it
 abbrev pub AreAboutLaws : Task → Lines → Type 0
 AreAboutLaws p lines = EachBehind (IsLawPlaced p) lines
-
--- where a Model line stands behind these, its query doesn't select all laws: it tells of no lawful drawing
-abbrev pub IsNoneFound : Task → Lines → LogLine → Type 0
-IsNoneFound p before ModelLine =
-    (found : HasLaws p before) → ((n : ℕ) → n < length p.laws → Contains found.wanted n) → ⊥
-IsNoneFound p before line = ⊤
-
--- the lines tell of no lawful drawing
-abbrev pub FindsNone : Task → Lines → Type 0
-FindsNone p lines = EachBehind (IsNoneFound p) lines
 
 -- the reply is one of this answer
 abbrev pub IsReplyOf : Answer → Reply → Type 0

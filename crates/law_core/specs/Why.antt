@@ -1,15 +1,16 @@
 -- What the search for an explanation answers, and what its lines are.
-use Rattle.std.specs.Prelude.{◌≡◌, ◌<◌, ◌≤◌, ◌⊎◌, ⊤, ℕ, List, [], All, length, map, flat_map}
+use Rattle.std.specs.Prelude.{◌≡◌, ◌<◌, ◌≤◌, ◌⊎◌, ⊤, ℕ, List, [], All, Contains, length, map, flat_map}
 use Rattle.plan_core.specs.Drawing.{Drawing}
 use Rattle.plan_core.specs.Lawful.{Instance, Lawful}
 use Rattle.cnf_core.specs.declared.limits.TheConstants.{VARS}
 use Rattle.cnf_core.specs.Clause.{words_of}
 use Rattle.lawful_check.specs.declared.law_break.LawBreak.{LawBreak}
 use Rattle.lawful_check.specs.Breaks.{break_of}
-use Rattle.refute_log.specs.declared.line.LogLine.TheVariants.{Formula}
+use Rattle.track_order.specs.Order.{is_above}
+use Rattle.refute_log.specs.declared.line.LogLine.TheVariants.{Formula, Model as ModelLine}
 use Rattle.refute_log.specs.Lines.{MayAllBeTold}
 use Rattle.refute_log.specs.Told.{Lines}
-use Rattle.refute_log.specs.Log.{added, learnt, Derives, Due, BeginsLines, clause_lines}
+use Rattle.refute_log.specs.Log.{added, learnt, learnt_count, Derives, Due, BeginsLines, clause_lines}
 use Rattle.refute_log.specs.declared.stop.Stop.TheVariants.{BudgetSpent, RoomFull}
 use Rattle.refute_log.specs.Cause.{IsCause}
 use Rattle.drawing_cnf.specs.Layout.{Layout}
@@ -21,7 +22,7 @@ use Rattle.law_core.specs.declared.ending.Why.{Why}
 use Rattle.law_core.specs.declared.ending.Why.TheVariants.{Exists, Laws, Spent, Room}
 use Rattle.law_core.specs.Chosen.{listed_law}
 use Rattle.law_core.specs.Known.{formula_of, size_of, task_of}
-use Rattle.law_core.specs.Query.{AreAboutLaws, FindsNone}
+use Rattle.law_core.specs.Query.{AreAboutLaws}
 
 -- these are the names of laws that no loose drawing meets together, and the drawings, one for each, show that none of
 -- them can be left out
@@ -46,17 +47,21 @@ formula_lines y = map Formula (formula_of y)
 abbrev pub FormulaPasses : Layout → (room : ℕ) → Type 0
 FormulaPasses y room = (VARS < size_of y) ⊎ (room < words_of (formula_of y))
 
+-- the lines keep no lawful drawing back: there is no Model line, or no drawing is lawful
+abbrev pub KeepsNoneBack : Layout → Lines → Type 0
+KeepsNoneBack y lines = (Contains lines ModelLine → ⊥)
+    ⊎ ((d : Drawing) → Lawful y.graph (is_above y.order) y.grid d → ⊥)
+
 -- why it answered so: the whole formula was told, and without a drawing or an explanation as many clauses were learnt
--- as the budget allows, and the last question is open, or there is no room for one more clause, and no Model line
--- answers a query of all laws; or there is no room for the formula, and then nothing was told
+-- as the budget allows, and the last question is open, or there is no room for one more clause; then the last question
+-- has no answer, and no lawful drawing is kept back; or there is no room for the formula, and nothing was told
 abbrev pub IsWhyCause : Layout → (budget room : ℕ) → Why → Lines → Type 0
 IsWhyCause y budget room (Exists d) lines = clause_lines lines ≡ formula_lines y
 IsWhyCause y budget room (Laws names without) lines = clause_lines lines ≡ formula_lines y
 IsWhyCause y budget room Spent lines = (clause_lines lines ≡ formula_lines y) × IsCause budget room BudgetSpent lines
-    × FindsNone (task_of y budget room) lines
+    × KeepsNoneBack y lines
 IsWhyCause y budget room Room lines = ((lines ≡ []) × FormulaPasses y room)
-    ⊎ ((clause_lines lines ≡ formula_lines y) × IsCause budget room RoomFull lines
-    × FindsNone (task_of y budget room) lines)
+    ⊎ ((clause_lines lines ≡ formula_lines y) × IsCause budget room RoomFull lines × KeepsNoneBack y lines)
 
 -- the lines of a search with this answer
 pub record IsWhyLog (y : Layout) (budget room : ℕ) (w : Why) (lines : Lines) : Type 0 where
@@ -69,10 +74,12 @@ pub record IsWhyLog (y : Layout) (budget room : ℕ) (w : Why) (lines : Lines) :
   pub asked : AreAboutLaws (task_of y budget room) lines
   pub cause : IsWhyCause y budget room w lines
 
--- the lines of a search that ended with an error
-pub record IsWhyLeft (y : Layout) (lines : Lines) : Type 0 where
+-- the lines of a search, also of one that ended with an error: they derive, their Formula and Bound lines begin those
+-- of the formula, and there are no more Learnt lines, as a log counts them, than the budget allows
+pub record IsWhyLeft (y : Layout) (budget : ℕ) (lines : Lines) : Type 0 where
   pub derives : Derives lines
   pub begins : BeginsLines (clause_lines lines) (formula_lines y)
+  pub few : learnt_count lines ≤ budget
 
 -- the places of an explanation are those of so many laws
 abbrev pub HasLawPlaces : (count : ℕ) → Outcome → Type 0

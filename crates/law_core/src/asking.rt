@@ -120,7 +120,8 @@ fn query<L: LogSink>(
     ensures lines { IfOk result
         (λ a. GoesOn (KnowsWith known.now solver.old) (KnowsWith known.now solver.new) (L.tells log.old) (L.tells
         log.new) (L.learnt log.old) (L.learnt log.new) (λ ls m. TellsAnswer (task_with known.now) a ls m)) }
-    ensures leaves { OnErr result (Leaves [] (KnowsWith known.now solver.old) (L.tells log.old) (L.tells log.new)) }
+    ensures leaves { OnErr result (Leaves known.now.budget [] (KnowsWith known.now solver.old) (L.tells log.old)
+        (L.tells log.new)) }
     ensures later { L.is_later log.old log.new }
     ensures faults { L.faults log.old ≤ L.faults log.new }
     ensures cause { IsErrOf result WhyFault.Log → Rose (L.faults log.old) (L.faults log.new) }
@@ -190,7 +191,8 @@ pub(crate) fn ask<L: LogSink>(
     ensures lines { IfOk result
         (λ r. GoesOn (KnowsWith known.now solver.old) (KnowsWith known.now solver.new) (L.tells log.old) (L.tells
         log.new) (L.learnt log.old) (L.learnt log.new) (λ ls m. TellsReply (task_with known.now) r ls m)) }
-    ensures leaves { OnErr result (Leaves [] (KnowsWith known.now solver.old) (L.tells log.old) (L.tells log.new)) }
+    ensures leaves { OnErr result (Leaves known.now.budget [] (KnowsWith known.now solver.old) (L.tells log.old)
+        (L.tells log.new)) }
     ensures later { L.is_later log.old log.new }
     ensures faults { L.faults log.old ≤ L.faults log.new }
     ensures cause { IsErrOf result WhyFault.Log → Rose (L.faults log.old) (L.faults log.new) }

@@ -44,7 +44,7 @@ fn begin<L: LogSink>(formula: &Formula, solver: &mut Solver, log: &mut L) -> Res
     ensures lines { OnOk result (GoesOn (λ ls. Belongs ls solver.old) (λ ls. Belongs ls solver.new)
         (L.tells log.old) (L.tells log.new) (L.learnt log.old) (L.learnt log.new)
         (λ lines more. more ≡ map FormulaLine formula.now.clauses)) }
-    ensures leaves { OnErr result (Leaves (map FormulaLine formula.now.clauses)
+    ensures leaves { OnErr result (Leaves 0 (map FormulaLine formula.now.clauses)
         (λ ls. Belongs ls solver.old) (L.tells log.old) (L.tells log.new)) }
     ensures later { L.is_later log.old log.new }
     ensures faults { L.faults log.old ≤ L.faults log.new }
@@ -69,7 +69,8 @@ fn search_from<L: LogSink>(
     ensures lines { IfOk result
         (λ o. GoesOn (KnowsWith known.now solver.old) (KnowsWith known.now solver.new) (L.tells log.old) (L.tells
         log.new) (L.learnt log.old) (L.learnt log.new) (λ ls m. TellsOutcome (task_with known.now) o ls m)) }
-    ensures leaves { OnErr result (Leaves [] (KnowsWith known.now solver.old) (L.tells log.old) (L.tells log.new)) }
+    ensures leaves { OnErr result (Leaves known.now.budget [] (KnowsWith known.now solver.old) (L.tells log.old)
+        (L.tells log.new)) }
     ensures later { L.is_later log.old log.new }
     ensures faults { L.faults log.old ≤ L.faults log.new }
     ensures cause { IsErrOf result WhyFault.Log → Rose (L.faults log.old) (L.faults log.new) }
@@ -97,7 +98,7 @@ fn explain_in<L: LogSink>(
     ensures lines { IfOk result (λ w. (lines : Lines) × told_to L.tells L.learnt log.old log.new lines
         × IsWhyLog (layout g.now t.now grid.now) limits.now.budget limits.now.room w lines) }
     ensures left { OnErr result (L.tells log.old [] → (lines : Lines) → L.tells log.new lines →
-        IsWhyLeft (layout g.now t.now grid.now) lines) }
+        IsWhyLeft (layout g.now t.now grid.now) limits.now.budget lines) }
     ensures later { L.is_later log.old log.new }
     ensures faults { L.faults log.old ≤ L.faults log.new }
     ensures cause { IsErrOf result WhyFault.Log → Rose (L.faults log.old) (L.faults log.new) }
@@ -136,7 +137,7 @@ fn explain_with<L: LogSink>(
     ensures lines { IfOk result (λ w. (lines : Lines) × told_to L.tells L.learnt log.old log.new lines
         × IsWhyLog (layout g.now t.now grid.now) limits.now.budget limits.now.room w lines) }
     ensures left { OnErr result (L.tells log.old [] → (lines : Lines) → L.tells log.new lines →
-        IsWhyLeft (layout g.now t.now grid.now) lines) }
+        IsWhyLeft (layout g.now t.now grid.now) limits.now.budget lines) }
     ensures later { L.is_later log.old log.new }
     ensures faults { L.faults log.old ≤ L.faults log.new }
     ensures cause { IsErrOf result WhyFault.Log → Rose (L.faults log.old) (L.faults log.new) }
@@ -155,8 +156,9 @@ fn explain_with<L: LogSink>(
 /// budget of learnt clauses and the room for the words of all clauses allow.
 ///
 /// The order `t` is that of the graph's edges. The log takes all lines: the formula's clauses, the questions, what is
-/// learnt, and the answers. After an error a log that had no line derives, and its Formula lines are the first of
-/// those.
+/// learnt, and the answers. With `Spent`, or `Room` behind a question, the latest one has no answer, and no lawful
+/// drawing is kept back. After an error a log that had no line derives, its Formula lines are the first of those, and
+/// it has no more Learnt lines than the budget allows.
 pub fn explain<L: LogSink>(
     alloc: Global,
     g: &PortGraph,
@@ -172,7 +174,7 @@ pub fn explain<L: LogSink>(
     ensures lines { IfOk result (λ w. (lines : Lines) × told_to L.tells L.learnt log.old log.new lines
         × IsWhyLog (layout g.now t.now grid.now) budget room w lines) }
     ensures left { OnErr result (L.tells log.old [] → (lines : Lines) → L.tells log.new lines →
-        IsWhyLeft (layout g.now t.now grid.now) lines) }
+        IsWhyLeft (layout g.now t.now grid.now) budget lines) }
     ensures later { L.is_later log.old log.new }
     ensures faults { L.faults log.old ≤ L.faults log.new }
     ensures cause { IsErrOf result WhyFault.Log → Rose (L.faults log.old) (L.faults log.new) }

@@ -42,6 +42,8 @@ impl<'k, 's, 'l, 'a, L: LogSink> LogTeller for WhySearch<'k, 's, 'l, 'a, L> {
 }
 
 impl<'k, 's, 'l, 'a, L: LogSink> LawOracle for WhySearch<'k, 's, 'l, 'a, L> {
+    ghost use Rattle.std.specs.Prelude.{◌≤◌};
+    ghost use Rattle.std.proofs.Common.{subst};
     ghost use Rattle.law_core.specs.Search.{task_with};
 
     ghost task = { λ s. task_with s.known.now };
@@ -55,4 +57,6 @@ impl<'k, 's, 'l, 'a, L: LogSink> LawOracle for WhySearch<'k, 's, 'l, 'a, L> {
     }
 
     ghost gives = { λ s lines k. k.told_are };
+
+    ghost within = { λ s lines k. subst (λ n. n ≤ s.known.now.budget) k.learnt_are k.spent };
 }

@@ -36,6 +36,7 @@ use Rattle.search_least.specs.declared.oracle.Below.{Below}
 use Rattle.search_least.specs.Task.{greatest_of}
 use Rattle.search_least.specs.Asked.{IsWithinCap, AreOnce, AreMet, AreNegated, AreAgainst}
 use Rattle.search_least.proofs.QuestionLemmas.{query_stays}
+use Rattle.refute_log.proofs.StepLemmas.{unanswered}
 use Rattle.drawing_cnf.specs.Layout.{Layout}
 use Rattle.lex_minimise.specs.Task.{task_of}
 use Rattle.lex_minimise.specs.Known.{told_lines, told_clauses, caps_of, AreTold, KnowsLines}
@@ -309,9 +310,17 @@ answered y budget room told old new bounds assume SpentAnswer cs lines ending k 
     count_of_search SpentAnswer assume cs lines ending ends ∙ (let c = k.learnt_are in let e : length cs ≡ budget - old.learnt = has in let f : length
     (flat_map learnt lines) + length cs ≡ budget = omega arith in f) in (
       record { query = assume; negated = are_negated y told lines bounds assume k.told_are h; clauses = cs; is = same },
-      (count, subst (λ (ls : Lines). Open (lines ++ ls)) (sym same) (is_open assume cs lines new belongs_so true_answer)),
+      (
+        unanswered lines assume cs ending ends,
+        count,
+        subst (λ (ls : Lines). Open (lines ++ ls)) (sym same) (is_open assume cs lines new belongs_so true_answer),
+      ),
     )
 answered y budget room told old new bounds assume RoomAnswer cs lines ending k spent is_room h belongs ends has given true_answer = (
   record { query = assume; negated = are_negated y told lines bounds assume k.told_are h; clauses = cs; is = ap (search_lines assume cs) ends },
-  subst (NextClausePasses (lines ++ search_lines assume cs ending)) is_room (has_no_room (lines ++ search_lines assume cs ending) new belongs true_answer),
+  (
+    unanswered lines assume cs ending ends,
+    subst (NextClausePasses (lines ++ search_lines assume cs ending)) is_room
+        (has_no_room (lines ++ search_lines assume cs ending) new belongs true_answer),
+  ),
 )

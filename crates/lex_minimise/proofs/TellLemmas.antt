@@ -3,7 +3,7 @@ use Rattle.std.proofs.Common.{◌≡◌, ◌≤◌, ◌<◌, ℕ, zero, suc, ◌
 use Rattle.std.proofs.Common.{append-nil, append_assoc, add-one, Result, Ok, Err, OnOk}
 use Rattle.std.specs.Prelude.{flat_map}
 use Rattle.std.proofs.Math.Seq.{take-suc}
-use Rattle.std.proofs.lemmas.List.{length-drop, get_or-drop, take_all, take-append-drop}
+use Rattle.std.proofs.lemmas.List.{length-drop, get_or-drop, take-append-drop}
 use Rattle.outside_io.specs.Counts.{rose_by}
 use Rattle.plan_core.specs.declared.criterion.Criterion.{Criterion}
 use Rattle.cnf_core.specs.declared.literal.Var.{Var}

@@ -91,7 +91,8 @@ fn query<L: LogSink>(
     ensures lines { IfOk result
         (λ a. GoesOn (KnowsWith known.now solver.old) (KnowsWith known.now solver.new) (L.tells log.old) (L.tells
         log.new) (L.learnt log.old) (L.learnt log.new) (λ ls m. TellsAnswer (task_with known.now) ls bounds.now a m)) }
-    ensures leaves { OnErr result (Leaves [] (KnowsWith known.now solver.old) (L.tells log.old) (L.tells log.new)) }
+    ensures leaves { OnErr result (Leaves known.now.budget [] (KnowsWith known.now solver.old) (L.tells log.old)
+        (L.tells log.new)) }
     ensures vars { OnOk result (solver.new.vars ≡ solver.old.vars) }
     ensures later { L.is_later log.old log.new }
     ensures faults { L.faults log.old ≤ L.faults log.new }
@@ -158,7 +159,8 @@ pub(crate) fn ask<L: LogSink>(
     ensures lines { IfOk result
         (λ r. GoesOn (KnowsWith known.now solver.old) (KnowsWith known.now solver.new) (L.tells log.old) (L.tells
         log.new) (L.learnt log.old) (L.learnt log.new) (λ ls m. IsReply (task_with known.now) ls bounds.now r m)) }
-    ensures leaves { OnErr result (Leaves [] (KnowsWith known.now solver.old) (L.tells log.old) (L.tells log.new)) }
+    ensures leaves { OnErr result (Leaves known.now.budget [] (KnowsWith known.now solver.old) (L.tells log.old)
+        (L.tells log.new)) }
     ensures vars { OnOk result (solver.new.vars ≡ solver.old.vars) }
     ensures later { L.is_later log.old log.new }
     ensures faults { L.faults log.old ≤ L.faults log.new }

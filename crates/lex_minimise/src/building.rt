@@ -48,7 +48,7 @@ pub fn add_clauses<L: LogSink>(
     ensures lines { OnOk result (GoesOn (λ ls. Belongs ls solver.old) (λ ls. Belongs ls solver.new)
         (L.tells log.old) (L.tells log.new) (L.learnt log.old) (L.learnt log.new)
         (λ lines more. more ≡ map FormulaLine (drop from formula.now.clauses))) }
-    ensures leaves { OnErr result (Leaves (map FormulaLine (drop from formula.now.clauses))
+    ensures leaves { OnErr result (Leaves 0 (map FormulaLine (drop from formula.now.clauses))
         (λ ls. Belongs ls solver.old) (L.tells log.old) (L.tells log.new)) }
     ensures later { L.is_later log.old log.new }
     ensures faults { L.faults log.old ≤ L.faults log.new }
@@ -110,7 +110,7 @@ fn tell_criterion<L: LogSink>(
         (KnowsWith known.old solver.old) (KnowsWith known.new solver.new)
         (L.tells log.old) (L.tells log.new) (L.learnt log.old) (L.learnt log.new)
         (λ lines more. more ≡ lines_behind known.old.encoded bounds)) }
-    ensures leaves { OnErr result (Leaves (lines_behind known.old.encoded bounds)
+    ensures leaves { OnErr result (Leaves 0 (lines_behind known.old.encoded bounds)
         (KnowsWith known.old solver.old) (L.tells log.old) (L.tells log.new)) }
     ensures later { L.is_later log.old log.new }
     ensures faults { L.faults log.old ≤ L.faults log.new }
@@ -145,7 +145,8 @@ pub(crate) fn build<L: LogSink>(
     ensures lines { IfOk result (λ b. GoesOn (KnowsWith known.old solver.old) (KnowsWith known.new solver.new)
         (L.tells log.old) (L.tells log.new) (L.learnt log.old) (L.learnt log.new)
         (IsBuild (task_with known.old) solver.old.vars c cap b)) }
-    ensures leaves { OnErr result (Leaves (sum_lines (task_with known.old).encoding solver.old.vars c cap)
+    ensures leaves { let p = task_with known.old in
+        OnErr result (Leaves p.budget (sum_lines p.encoding solver.old.vars c cap)
         (KnowsWith known.old solver.old) (L.tells log.old) (L.tells log.new)) }
     ensures later { L.is_later log.old log.new }
     ensures faults { L.faults log.old ≤ L.faults log.new }

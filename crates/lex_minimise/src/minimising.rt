@@ -104,8 +104,8 @@ pub fn minimise_with<L: LogSink>(
 /// The order `t` is that of the graph's edges. The log takes all lines: the drawings' clauses, each criterion's clauses
 /// with its bounds, whole or not at all, the questions, what is learnt, and the answers. `Spent` comes where as many
 /// clauses were learnt as the budget allows, `Room` where what comes next has no room: too many words or variables.
-/// After an error a log that had no line derives, and its Formula and Bound lines are the first of those that are
-/// expected.
+/// After an error a log that had no line derives, its Formula and Bound lines are the first of those that are expected,
+/// and it has no more Learnt lines than the budget allows.
 pub fn minimise<L: LogSink>(
     alloc: Global,
     g: &PortGraph,

@@ -34,7 +34,7 @@ fn tell_clause<L: LogSink>(
     ensures lines { OnOk result (GoesOn (λ ls. Belongs ls solver.old) (λ ls. Belongs ls solver.new)
         (L.tells log.old) (L.tells log.new) (L.learnt log.old) (L.learnt log.new)
         (λ lines more. more ≡ FormulaLine (clause_at formula.now no) ∷ [])) }
-    ensures leaves { OnErr result (Leaves (FormulaLine (clause_at formula.now no) ∷ [])
+    ensures leaves { OnErr result (Leaves 0 (FormulaLine (clause_at formula.now no) ∷ [])
         (λ ls. Belongs ls solver.old) (L.tells log.old) (L.tells log.new)) }
     ensures later { L.is_later log.old log.new }
     ensures faults { L.faults log.old ≤ L.faults log.new }
@@ -63,7 +63,7 @@ pub fn tell_clauses<L: LogSink>(
     ensures lines { OnOk result (GoesOn (λ ls. Belongs ls solver.old) (λ ls. Belongs ls solver.new)
         (L.tells log.old) (L.tells log.new) (L.learnt log.old) (L.learnt log.new)
         (λ lines more. more ≡ map FormulaLine (drop from formula.now.clauses))) }
-    ensures leaves { OnErr result (Leaves (map FormulaLine (drop from formula.now.clauses))
+    ensures leaves { OnErr result (Leaves 0 (map FormulaLine (drop from formula.now.clauses))
         (λ ls. Belongs ls solver.old) (L.tells log.old) (L.tells log.new)) }
     ensures later { L.is_later log.old log.new }
     ensures faults { L.faults log.old ≤ L.faults log.new }
@@ -90,7 +90,7 @@ pub(crate) fn tell_bounds<L: LogSink>(bounds: &Bounds, log: &mut L) -> Result<()
     requires small { bounds.now.cap ≤ MAX_NUMBER }
     ensures lines { OnOk result (AddsAll (L.tells log.old) (L.tells log.new)
         (bound_lines bounds.now.criterion 1 (variables_behind bounds.now.last bounds.now.cap))) }
-    ensures leaves { OnErr result (Leaves
+    ensures leaves { OnErr result (Leaves 0
         (bound_lines bounds.now.criterion 1 (variables_behind bounds.now.last bounds.now.cap))
         Derives (L.tells log.old) (L.tells log.new)) }
     ensures learnt { L.learnt log.new ≡ L.learnt log.old }

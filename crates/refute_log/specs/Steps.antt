@@ -1,8 +1,8 @@
 -- Lines that a call tells: one list for every log, also for one that keeps none.
-use Rattle.std.specs.Prelude.{◌≡◌, ℕ, ◌++◌, length, flat_map}
+use Rattle.std.specs.Prelude.{◌≡◌, ◌≤◌, ℕ, max, ◌++◌, length, flat_map}
 use Rattle.outside_io.specs.Counts.{rose_by}
 use Rattle.refute_log.specs.Told.{Lines, AddsAll}
-use Rattle.refute_log.specs.Log.{learnt, Derives, clause_lines, BeginsLines}
+use Rattle.refute_log.specs.Log.{learnt, learnt_count, Derives, clause_lines, BeginsLines}
 
 -- so many lines were told behind these: what was known is known with them, the log was told them and counted the
 -- Learnt ones, and R holds of them
@@ -40,15 +40,17 @@ abbrev pub GivesNoMore : (log_old log_new : Lines → Type 0) → Type 0
 GivesNoMore log_old log_new =
     (lines : Lines) → log_old lines → (told : Lines) → log_new told → clause_lines told ≡ clause_lines lines
 
--- a log with these lines had an error, and has those now: it derives, and its Formula and Bound lines are those of
--- before, the first of the expected ones behind them, and no others
-pub record IsLeft (expected before now : Lines) : Type 0 where
+-- a log with these lines had an error, and has those now: it derives; its Formula and Bound lines are those of before,
+-- the first of the expected ones behind them, and no others; its Learnt lines are no more than before, or at most so
+-- many, as a log counts them
+pub record IsLeft (most : ℕ) (expected before now : Lines) : Type 0 where
   pub derives : Derives now
   pub front : Lines
   pub begins : BeginsLines front expected
   pub gives : clause_lines now ≡ clause_lines before ++ front
+  pub few : learnt_count now ≤ max most (learnt_count before)
 
 -- whatever the log tells after an error is so, where what it told before was known
-abbrev pub Leaves : Lines → (known log_old log_new : Lines → Type 0) → Type 0
-Leaves expected known log_old log_new =
-    (lines : Lines) → known lines → log_old lines → (told : Lines) → log_new told → IsLeft expected lines told
+abbrev pub Leaves : (most : ℕ) → (expected : Lines) → (known log_old log_new : Lines → Type 0) → Type 0
+Leaves most expected known log_old log_new =
+    (lines : Lines) → known lines → log_old lines → (told : Lines) → log_new told → IsLeft most expected lines told

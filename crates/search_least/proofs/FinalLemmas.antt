@@ -126,12 +126,12 @@ full_from p order s None lines e = by e.cause
   where
     by : IsCause p.budget p.room RoomFull lines ⊎ ((RoomFull ≡ RoomFull) × CapsPass p.encoding order lines p.room (caps (greatest_of p) lines)) →
         IsFullLog p.encoding (greatest_of p) order lines None p.room
-    by (inl c) = inr (inr c)
+    by (inl c) = inr (inr c.1)
     by (inr c) = inl c.1
 full_from p order s (Some d) lines e = by e.cause
   where
     by : IsCauseWith p order s RoomFull d lines → IsFullLog p.encoding (greatest_of p) order lines (Some (values_of d)) p.room
-    by (inl c) = inr (inr c.0)
+    by (inl c) = inr (inr c.0.1)
     by (inr c) = inr (inl (values_of d, refl, c.1))
 
 spent_from : (p : Task) (order : List Criterion) (s : ℕ) (found : Option Drawing) (lines : Lines) → IsStoppedEnd p order s BudgetSpent found lines →
@@ -141,8 +141,8 @@ spent_from p order s (Some d) lines e = elim e.cause [ inl c ↦ c.0 | inr c ↦
 
 pub count_from : (p : Task) (order : List Criterion) (s : ℕ) (found : Option Drawing) (lines : Lines) → IsStoppedEnd p order s BudgetSpent found lines →
     length (flat_map learnt lines) ≡ p.budget
-count_from p order s found lines e = (spent_from p order s found lines e).0
+count_from p order s found lines e = (spent_from p order s found lines e).1
 
 pub open_from : (p : Task) (order : List Criterion) (s : ℕ) (found : Option Drawing) (lines : Lines) → IsStoppedEnd p order s BudgetSpent found lines →
     Open lines
-open_from p order s found lines e = (spent_from p order s found lines e).1
+open_from p order s found lines e = (spent_from p order s found lines e).2

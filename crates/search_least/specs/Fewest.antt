@@ -31,7 +31,7 @@ pub record RefutesFewer (p : CountTask) (lines : Lines) (n : ℕ) : Type 0 where
 
 -- where a search stopped: nothing was refuted; with a drawing its count is positive, the latest query asks for less,
 -- and the last Model line answers one before it, for any or below a greater number (limits fall, so that no Model line
--- stands for less); without one no model was found and the latest query asks for any
+-- answers a query for less); without one no model was found and the latest query asks for any
 abbrev pub IsStoppedSearch : CountTask → Stop → Option Drawing → Lines → Type 0
 IsStoppedSearch p stop best lines = IsCause p.budget p.room stop lines
     × ((clause : List Literal) → Contains lines (Refuted clause) → ⊥)

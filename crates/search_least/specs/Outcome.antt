@@ -11,7 +11,7 @@ use Rattle.cnf_core.specs.Clause.{words_of}
 use Rattle.refute_log.specs.declared.line.LogLine.TheVariants.{Formula, Model}
 use Rattle.refute_log.specs.Lines.{MayAllBeTold}
 use Rattle.refute_log.specs.Told.{Lines}
-use Rattle.refute_log.specs.Log.{added, learnt, Derives, Due, BeginsLines, clause_lines}
+use Rattle.refute_log.specs.Log.{added, learnt, learnt_count, Derives, Due, BeginsLines, clause_lines}
 use Rattle.refute_log.specs.Bounds.{CoversDrawings}
 use Rattle.refute_log.specs.Certified.{Certifies, CertifiesNone, IsSettled}
 use Rattle.refute_log.specs.Expected.{caps, expected_lines, expected_vars, IsExpected, IsAllExpected}
@@ -98,13 +98,15 @@ IsOutcome p order NoDrawing lines = IsNoneEnd p order lines
 IsOutcome p order (Spent best settled) lines = IsStoppedEnd p order settled BudgetSpent best lines
 IsOutcome p order (Room best settled) lines = IsStoppedEnd p order settled RoomFull best lines
 
--- the lines of a search for least values that ended with an error: they derive, and their Formula and Bound lines begin
--- those that are expected with some caps, each at most the criterion's greatest value
+-- the lines of a search for least values, also of one that ended with an error: they derive, their Formula and Bound
+-- lines begin those that are expected with some caps, each at most the criterion's greatest value, and there are no
+-- more Learnt lines, as a log counts them, than the budget allows
 pub record IsLeastLeft (p : Task) (order : List Criterion) (lines : Lines) : Type 0 where
   pub derives : Derives lines
   pub cap : Criterion → ℕ
   pub within : (c : Criterion) → cap c ≤ greatest_of p c
   pub begins : BeginsLines (clause_lines lines) (expected_lines p.encoding order cap)
+  pub few : learnt_count lines ≤ p.budget
 
 -- the outcome of a search that stopped
 abbrev pub stopped_with : Stop → Option Drawing → ℕ → Outcome

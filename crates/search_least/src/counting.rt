@@ -20,7 +20,8 @@ fn lower<Q: CountOracle>(questions: &mut Q, first: Drawing) -> Result<Fewest, Mi
     ensures lines { let p = Q.task questions.old in
         IfOk result (λ r. Continues Q.knows Q.log Q.learnt questions.old questions.new
         (IsRunToEnd p (p.count first) r)) }
-    ensures leaves { OnErr result (Leaves [] (Q.knows questions.old) (Q.log questions.old) (Q.log questions.new)) }
+    ensures leaves { OnErr result (Leaves (Q.task questions.old).budget [] (Q.knows questions.old)
+        (Q.log questions.old) (Q.log questions.new)) }
     ensures later { Q.is_later questions.old questions.new }
     ensures faults { Q.faults questions.old ≤ Q.faults questions.new }
     ensures cause { IsErrOf result MinFault.Log → Rose (Q.faults questions.old) (Q.faults questions.new) }
@@ -47,7 +48,7 @@ fn lower<Q: CountOracle>(questions: &mut Q, first: Drawing) -> Result<Fewest, Mi
 /// A drawing with the least count, or as far as the search comes: it asks for any drawing, and then for a smaller count
 /// until there is none. What the outcome says of drawings holds with every log. The search gives the log further lines
 /// behind the formula; together they are the lines of a search with this outcome. After an error a log whose lines were
-/// the known ones derives, and has no further Formula line.
+/// the known ones derives, has no further Formula line, and no more Learnt lines than the budget allows.
 pub fn least_count<Q: CountOracle>(questions: &mut Q) -> Result<Fewest, MinFault>
     requires ready { Q.ready questions.old }
     requires start { Q.knows questions.old (formula_lines (Q.task questions.old)) }
@@ -55,7 +56,8 @@ pub fn least_count<Q: CountOracle>(questions: &mut Q) -> Result<Fewest, MinFault
     ensures lines { IfOk result (λ r. let s = questions.old in let n = questions.new in let p = Q.task s in
         ToldBehind (Q.knows n) (Q.log s) (Q.log n) (Q.learnt s) (Q.learnt n) (formula_lines p)
         (λ more. IsFewestLog p r (formula_lines p ++ more))) }
-    ensures leaves { OnErr result (Leaves [] (Q.knows questions.old) (Q.log questions.old) (Q.log questions.new)) }
+    ensures leaves { OnErr result (Leaves (Q.task questions.old).budget [] (Q.knows questions.old)
+        (Q.log questions.old) (Q.log questions.new)) }
     ensures task { Q.task questions.new ≡ Q.task questions.old }
     ensures later { Q.is_later questions.old questions.new }
     ensures faults { Q.faults questions.old ≤ Q.faults questions.new }

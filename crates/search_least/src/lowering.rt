@@ -68,7 +68,8 @@ pub(crate) fn lower<O: Oracle>(
     ensures caps { OnOk result (O.caps oracle.new ≡ O.caps oracle.old) }
     ensures lines { IfOk result (λ r. Continues O.knows O.log O.learnt oracle.old oracle.new (λ lines more.
         RunTo (O.task oracle.old) order.now i held.now best r.stop r.best lines more)) }
-    ensures leaves { OnErr result (Leaves [] (O.knows oracle.old) (O.log oracle.old) (O.log oracle.new)) }
+    ensures leaves { OnErr result (Leaves (O.task oracle.old).budget [] (O.knows oracle.old) (O.log oracle.old)
+        (O.log oracle.new)) }
     ensures later { O.is_later oracle.old oracle.new }
     ensures faults { O.faults oracle.old ≤ O.faults oracle.new }
     ensures cause { IsErrOf result MinFault.Log → Rose (O.faults oracle.old) (O.faults oracle.new) }

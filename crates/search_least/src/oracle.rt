@@ -74,7 +74,8 @@ pub trait Oracle: LogTeller {
         ensures right { IfOk result (IsRightReply (task self.old) bounds.now) }
         ensures lines { IfOk result (λ r. Continues Self.knows Self.log Self.learnt self.old self.new (λ lines more.
             IsReply (task self.old) lines bounds.now r more)) }
-        ensures leaves { OnErr result (Leaves [] (Self.knows self.old) (Self.log self.old) (Self.log self.new)) }
+        ensures leaves { OnErr result (Leaves (task self.old).budget [] (Self.knows self.old) (Self.log self.old)
+            (Self.log self.new)) }
         ensures ready { OnOk result (Self.ready self.new) }
         ensures task { task self.new ≡ task self.old }
         ensures caps { OnOk result (caps self.new ≡ caps self.old) }
@@ -94,7 +95,8 @@ pub trait Oracle: LogTeller {
             (caps self.new) (vars self.new)) }
         ensures lines { IfOk result (λ b. Continues Self.knows Self.log Self.learnt self.old self.new (λ lines more.
             IsBuild (task self.old) (vars self.old) c cap b lines more)) }
-        ensures leaves { OnErr result (Leaves (sum_lines (task self.old).encoding (vars self.old) c cap)
+        ensures leaves { let p = task self.old in
+            OnErr result (Leaves p.budget (sum_lines p.encoding (vars self.old) c cap)
             (Self.knows self.old) (Self.log self.old) (Self.log self.new)) }
         ensures task { task self.new ≡ task self.old }
         ensures later { Self.is_later self.old self.new }

@@ -44,7 +44,8 @@ pub trait CountOracle: LogTeller {
         ensures right { IfOk result (IsRightAnswer (task self.old) limit) }
         ensures lines { IfOk result (λ r. Continues Self.knows Self.log Self.learnt self.old self.new (λ lines more.
             IsAnswer (task self.old) lines limit r more)) }
-        ensures leaves { OnErr result (Leaves [] (Self.knows self.old) (Self.log self.old) (Self.log self.new)) }
+        ensures leaves { OnErr result (Leaves (task self.old).budget [] (Self.knows self.old) (Self.log self.old)
+            (Self.log self.new)) }
         ensures ready { OnOk result (Self.ready self.new) }
         ensures task { task self.new ≡ task self.old }
         ensures later { Self.is_later self.old self.new }

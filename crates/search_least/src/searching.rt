@@ -82,8 +82,8 @@ fn search<O: Oracle>(alloc: Global, oracle: &mut O, wanted: &Order) -> Result<Ou
 /// A lawful drawing with the least values in the wanted order, or as far as the search comes. The oracle knows the
 /// drawings' clauses, and no bound yet. What the outcome says of drawings holds with every log. The search gives the
 /// log further lines behind the clauses; together they are the lines of a search with this outcome. After an error a
-/// log whose lines were known derives, and where they were the clauses, its Formula and Bound lines are the first of
-/// those that are expected.
+/// log whose lines were known derives. Where they were the clauses, its Formula and Bound lines are the first of those
+/// that are expected, and it has no more Learnt lines than the budget allows.
 pub fn least_values<O: Oracle>(
     alloc: Global,
     oracle: &mut O,

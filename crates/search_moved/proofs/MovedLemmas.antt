@@ -46,7 +46,7 @@ use Rattle.search_moved.specs.Known.{formula_of, moved_task, IsMovedFormula, IsR
 use Rattle.search_moved.specs.Query.{query_at, IsAnswerOf}
 use Rattle.lex_minimise.proofs.AskLemmas.{learnt_of_search, count_of_search, is_open, has_no_room, count_after}
 use Rattle.lex_minimise.proofs.GrowLemmas.{named_in}
-use Rattle.refute_log.proofs.StepLemmas.{learnt_no_clauses, clause_lines_append}
+use Rattle.refute_log.proofs.StepLemmas.{learnt_no_clauses, clause_lines_append, unanswered}
 use Rattle.cdcl_core.proofs.LeftLemmas.{clause_ending, within_spent}
 use Rattle.drawing_cnf.proofs.CoverLemmas.{both_true}
 use Rattle.drawing_cnf.proofs.ApartLemmas.{flipped}
@@ -154,12 +154,15 @@ answered y former budget room old new limit Spent cs lines ending k spent is_roo
     count_of_search Spent q cs lines ending ends ∙ (let c = k.learnt_are in let e : length cs ≡ budget - old.learnt = has in let f : length
     (flat_map learnt lines) + length cs ≡ budget = omega arith in f) in (
       record { clauses = cs; is = same },
-      (count, subst (λ (ls : Lines). Open (lines ++ ls)) (sym same) (is_open q cs lines new belongs_so true_answer)),
+      (unanswered lines q cs ending ends, count, subst (λ (ls : Lines). Open (lines ++ ls)) (sym same) (is_open q cs lines new belongs_so true_answer)),
     )
 answered y former budget room old new limit Room cs lines ending k spent is_room given belongs ends has true_answer =
     let q = query_of (moved_task y former budget room) limit in (
       record { clauses = cs; is = ap (search_lines q cs) ends },
-      subst (NextClausePasses (lines ++ search_lines q cs ending)) is_room (has_no_room (lines ++ search_lines q cs ending) new belongs true_answer),
+      (
+        unanswered lines q cs ending ends,
+        subst (NextClausePasses (lines ++ search_lines q cs ending)) is_room (has_no_room (lines ++ search_lines q cs ending) new belongs true_answer),
+      ),
     )
 
 pub search_goes : (e : Encoding) (former : Former) (budget room : ℕ) (old new : Kept) (limit : Option ℕ) (a : Verdict) (before now : Lines → Type 0) (n m : ℕ) →

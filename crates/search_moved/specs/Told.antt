@@ -6,7 +6,7 @@ use Rattle.cnf_core.specs.Formula.{Cnf}
 use Rattle.track_order.specs.Order.{is_above, is_overlap}
 use Rattle.refute_log.specs.declared.line.LogLine.TheVariants.{Formula}
 use Rattle.refute_log.specs.Told.{Lines}
-use Rattle.refute_log.specs.Log.{Derives, BeginsLines, clause_lines}
+use Rattle.refute_log.specs.Log.{learnt_count, Derives, BeginsLines, clause_lines}
 use Rattle.edge_shape.specs.declared.edge_vars.NodeVars.{NodeVars}
 use Rattle.drawing_cnf.specs.Encoding.{Encoding, encoded_vars}
 use Rattle.drawing_cnf.specs.Expected.{drawing_vars, formula_size}
@@ -33,10 +33,12 @@ IsMovedEnd y former budget room o lines =
     IsFewestLog (moved_task y former budget room) o lines
     ⊎ ((o ≡ Room None) × (lines ≡ []) × FormulaPasses y former room)
 
--- the lines of a search that ended with an error
-pub record IsMovedLeft (y : Layout) (former : Former) (lines : Lines) : Type 0 where
+-- the lines of a search, also of one that ended with an error: they derive, their Formula and Bound lines begin those
+-- of the formula, and there are no more Learnt lines, as a log counts them, than the budget allows
+pub record IsMovedLeft (y : Layout) (former : Former) (budget : ℕ) (lines : Lines) : Type 0 where
   pub derives : Derives lines
   pub begins : BeginsLines (clause_lines lines) (map Formula (formula_of y former))
+  pub few : learnt_count lines ≤ budget
 
 -- the list has each node's integers
 abbrev pub AreNodes : Encoding → List NodeVars → ℕ → Type 0

@@ -61,7 +61,8 @@ fn query<L: LogSink>(
     ensures lines { IfOk result
         (λ a. GoesOn (KnowsWith known.now solver.old) (KnowsWith known.now solver.new) (L.tells log.old) (L.tells
         log.new) (L.learnt log.old) (L.learnt log.new) (λ ls m. TellsAnswer (task_with known.now) ls limit a m)) }
-    ensures leaves { OnErr result (Leaves [] (KnowsWith known.now solver.old) (L.tells log.old) (L.tells log.new)) }
+    ensures leaves { OnErr result (Leaves known.now.budget [] (KnowsWith known.now solver.old) (L.tells log.old)
+        (L.tells log.new)) }
     ensures later { L.is_later log.old log.new }
     ensures faults { L.faults log.old ≤ L.faults log.new }
     ensures cause { IsErrOf result MinFault.Log → Rose (L.faults log.old) (L.faults log.new) }
@@ -120,7 +121,8 @@ pub(crate) fn ask<L: LogSink>(
     ensures lines { IfOk result
         (λ r. GoesOn (KnowsWith known.now solver.old) (KnowsWith known.now solver.new) (L.tells log.old)
         (L.tells log.new) (L.learnt log.old) (L.learnt log.new) (λ ls m. IsAnswer (task_with known.now) ls limit r m)) }
-    ensures leaves { OnErr result (Leaves [] (KnowsWith known.now solver.old) (L.tells log.old) (L.tells log.new)) }
+    ensures leaves { OnErr result (Leaves known.now.budget [] (KnowsWith known.now solver.old) (L.tells log.old)
+        (L.tells log.new)) }
     ensures later { L.is_later log.old log.new }
     ensures faults { L.faults log.old ≤ L.faults log.new }
     ensures cause { IsErrOf result MinFault.Log → Rose (L.faults log.old) (L.faults log.new) }

@@ -43,7 +43,8 @@ fn search_from<L: LogSink>(
     ensures lines { let p = task_with known.now in IfOk result (λ o. ToldBehind (IsLogOfSolver solver.new)
         (L.tells log.old) (L.tells log.new) (L.learnt log.old) (L.learnt log.new) (formula_lines p)
         (λ more. IsFewestLog p o (formula_lines p ++ more))) }
-    ensures leaves { OnErr result (Leaves [] (KnowsWith known.now solver.old) (L.tells log.old) (L.tells log.new)) }
+    ensures leaves { OnErr result (Leaves known.now.budget [] (KnowsWith known.now solver.old) (L.tells log.old)
+        (L.tells log.new)) }
     ensures later { L.is_later log.old log.new }
     ensures faults { L.faults log.old ≤ L.faults log.new }
     ensures cause { IsErrOf result MinFault.Log → Rose (L.faults log.old) (L.faults log.new) }
@@ -73,7 +74,7 @@ fn fewest_with<L: LogSink>(
     ensures lines { IfOk result (λ o. (lines : Lines) × told_to L.tells L.learnt log.old log.new lines
         × IsMovedEnd (layout g.now t.now grid.now) former.now limits.now.budget limits.now.room o lines) }
     ensures left { OnErr result (L.tells log.old [] → (lines : Lines) → L.tells log.new lines →
-        IsMovedLeft (layout g.now t.now grid.now) former.now lines) }
+        IsMovedLeft (layout g.now t.now grid.now) former.now limits.now.budget lines) }
     ensures later { L.is_later log.old log.new }
     ensures faults { L.faults log.old ≤ L.faults log.new }
     ensures cause { IsErrOf result MinFault.Log → Rose (L.faults log.old) (L.faults log.new) }
@@ -109,8 +110,8 @@ fn fewest_with<L: LogSink>(
 /// words or variables.
 ///
 /// The formula is what it is to be, both ways. Each assignment that satisfies it gives a lawful drawing and how many of
-/// its nodes moved, and each lawful drawing has such an assignment. After an error a log that had no line derives, and
-/// its Formula lines are the first of the formula's.
+/// its nodes moved, and each lawful drawing has such an assignment. After an error a log that had no line derives, its
+/// Formula lines are the first of the formula's, and it has no more Learnt lines than the budget allows.
 pub fn fewest_moved<L: LogSink>(
     alloc: Global,
     g: &PortGraph,
@@ -130,7 +131,7 @@ pub fn fewest_moved<L: LogSink>(
     ensures sound { SoundMoved g.now (is_above t.now) (is_overlap t.now) grid.now former.now }
     ensures covers { CoversMoved g.now (is_above t.now) (is_overlap t.now) grid.now former.now }
     ensures left { OnErr result (L.tells log.old [] → (lines : Lines) → L.tells log.new lines →
-        IsMovedLeft (layout g.now t.now grid.now) former.now lines) }
+        IsMovedLeft (layout g.now t.now grid.now) former.now limits.now.budget lines) }
     ensures later { L.is_later log.old log.new }
     ensures faults { L.faults log.old ≤ L.faults log.new }
     ensures cause { IsErrOf result MinFault.Log → Rose (L.faults log.old) (L.faults log.new) }

@@ -31,7 +31,7 @@ pub(crate) fn tell_both<L: LogSink>(
     ensures lines { OnOk result
         (GoesOn (λ ls. Belongs ls solver.old) (λ ls. Belongs ls solver.new) (L.tells log.old) (L.tells log.new)
         (L.learnt log.old) (L.learnt log.new) (λ ls m. m ≡ map FormulaLine (first.now.clauses ++ second.now.clauses))) }
-    ensures leaves { OnErr result (Leaves (map FormulaLine (first.now.clauses ++ second.now.clauses))
+    ensures leaves { OnErr result (Leaves 0 (map FormulaLine (first.now.clauses ++ second.now.clauses))
         (λ ls. Belongs ls solver.old) (L.tells log.old) (L.tells log.new)) }
     ensures later { L.is_later log.old log.new }
     ensures faults { L.faults log.old ≤ L.faults log.new }

@@ -113,16 +113,22 @@ narrowed_without p kept without n = record {
 }
 
 -- the laws of explanations
+-- a lawful drawing is loose
+lawful_is_loose : (g : Graph) (above : ℕ → ℕ → Bool) (grid : GridSize) (d : Drawing) → Lawful g above grid d → IsLoose g grid d
+lawful_is_loose g above grid d l = record {
+  fits = l.fits;
+  nodes_on_grid = λ n lt. l.laws (NodeOnGrid n) lt;
+  lines_on_grid = λ e lt. l.laws (LineOnGrid e) lt;
+  joined = λ e lt. l.laws (Joined e) lt;
+}
+
+-- where no loose drawing meets all laws none is lawful
+pub none_meets_none_lawful : (p : Task) → HasAllLaws p → NoneMeetsAll p → (d : Drawing) → Lawful p.graph p.above p.grid d → ⊥
+none_meets_none_lawful p all none d l = none d (lawful_is_loose p.graph p.above p.grid d l) (λ n lt. l.laws (law_at p n) (all.each n (NodeOnGrid 0) lt).is)
+
 pub none_lawful : (g : Graph) (above : ℕ → ℕ → Bool) (grid : GridSize) (laws : List Instance) → IsExplanation g above grid laws → (d : Drawing) →
     Lawful g above grid d → ⊥
-none_lawful g above grid laws h d l = h.explain d
-    (record {
-      fits = l.fits;
-      nodes_on_grid = λ n lt. l.laws (NodeOnGrid n) lt;
-      lines_on_grid = λ e lt. l.laws (LineOnGrid e) lt;
-      joined = λ e lt. l.laws (Joined e) lt;
-    })
-    (λ k e lt. l.laws (get_or laws k e) (h.each k e lt).is)
+none_lawful g above grid laws h d l = h.explain d (lawful_is_loose g above grid d l) (λ k e lt. l.laws (get_or laws k e) (h.each k e lt).is)
 
 pub irreducible : (g : Graph) (grid : GridSize) (laws : List Instance) (drawings : List Drawing) → AreWithout g grid laws drawings → IsIrreducible g grid laws
 irreducible g grid laws drawings h = λ k there.

@@ -12,15 +12,17 @@ use crate::{Outcome, WhyFault};
 use std::alloc::Global;
 
 /// A lawful drawing, or laws that explain why there is none and of which none can be left out, or as far as the search
-/// comes. What the outcome says of drawings holds with every log. After an error a log whose lines were the known ones
-/// derives, and has no further Formula line.
+/// comes. What the outcome says of drawings holds with every log. A search that stopped keeps no lawful drawing back.
+/// After an error a log whose lines were the known ones derives, has no further Formula line, and no more Learnt lines
+/// than the budget allows.
 pub fn find_laws<O: LawOracle>(alloc: Global, oracle: &mut O) -> Result<Outcome, WhyFault>
     requires ready { O.ready oracle.old }
     requires laws { HasAllLaws (O.task oracle.old) }
     ensures right { IfOk result (IsRightOutcome (O.task oracle.old)) }
     ensures lines { IfOk result (λ o. Continues O.knows O.log O.learnt oracle.old oracle.new (λ lines more.
         TellsOutcome (O.task oracle.old) o lines more)) }
-    ensures leaves { OnErr result (Leaves [] (O.knows oracle.old) (O.log oracle.old) (O.log oracle.new)) }
+    ensures leaves { OnErr result (Leaves (O.task oracle.old).budget [] (O.knows oracle.old) (O.log oracle.old)
+        (O.log oracle.new)) }
     ensures task { O.task oracle.new ≡ O.task oracle.old }
     ensures later { O.is_later oracle.old oracle.new }
     ensures faults { O.faults oracle.old ≤ O.faults oracle.new }

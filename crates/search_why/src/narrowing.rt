@@ -40,7 +40,8 @@ fn take_away<O: LawOracle>(
     ensures fewer { length progress.new.left.items ≤ length progress.old.left.items }
     ensures lines { IfOk result (λ s. Continues O.knows O.log O.learnt oracle.old oracle.new (λ lines more.
         TellsStop (O.task oracle.old) s (lines ++ more))) }
-    ensures leaves { OnErr result (Leaves [] (O.knows oracle.old) (O.log oracle.old) (O.log oracle.new)) }
+    ensures leaves { OnErr result (Leaves (O.task oracle.old).budget [] (O.knows oracle.old) (O.log oracle.old)
+        (O.log oracle.new)) }
     ensures task { O.task oracle.new ≡ O.task oracle.old }
     ensures later { O.is_later oracle.old oracle.new }
     ensures faults { O.faults oracle.old ≤ O.faults oracle.new }
@@ -98,7 +99,8 @@ pub(crate) fn narrow<O: LawOracle>(
     ensures right { IfOk result (IsRightOutcome (O.task oracle.old)) }
     ensures lines { IfOk result (λ o. Continues O.knows O.log O.learnt oracle.old oracle.new (λ lines more.
         TellsNarrowed (O.task oracle.old) o (lines ++ more))) }
-    ensures leaves { OnErr result (Leaves [] (O.knows oracle.old) (O.log oracle.old) (O.log oracle.new)) }
+    ensures leaves { OnErr result (Leaves (O.task oracle.old).budget [] (O.knows oracle.old) (O.log oracle.old)
+        (O.log oracle.new)) }
     ensures task { O.task oracle.new ≡ O.task oracle.old }
     ensures later { O.is_later oracle.old oracle.new }
     ensures faults { O.faults oracle.old ≤ O.faults oracle.new }

@@ -1,9 +1,9 @@
 // What is asked: the drawings' clauses, a solver and a log, as one thing.
-ghost use Rattle.std.specs.Prelude.{◌≡◌, ◌≤◌, [], ℕ, OnOk, OnErr, IfOk, IsErrOf, length, map};
+ghost use Rattle.std.specs.Prelude.{◌≡◌, ◌≤◌, [], ℕ, OnOk, OnErr, IfOk, IsErrOf, length, map, flat_map};
 ghost use Rattle.outside_io.specs.Counts.{Rose};
 ghost use Rattle.refute_log.specs.Told.{Lines};
 ghost use Rattle.refute_log.specs.declared.line.LogLine.TheVariants.{Formula};
-ghost use Rattle.refute_log.specs.Log.{clause_lines};
+ghost use Rattle.refute_log.specs.Log.{learnt as learnt_of, clause_lines};
 ghost use Rattle.search_why.specs.Task.{Task};
 ghost use Rattle.refute_log.specs.Steps.{Continues, Leaves};
 ghost use Rattle.search_why.specs.Asked.{AreLawPlaces, IsRightReply, TellsReply};
@@ -42,7 +42,8 @@ pub trait LawOracle: LogTeller {
         ensures right { IfOk result (IsRightReply (task self.old) wanted.now) }
         ensures lines { IfOk result (λ r. Continues Self.knows Self.log Self.learnt self.old self.new (λ lines more.
             TellsReply (task self.old) r lines more)) }
-        ensures leaves { OnErr result (Leaves [] (Self.knows self.old) (Self.log self.old) (Self.log self.new)) }
+        ensures leaves { OnErr result (Leaves (task self.old).budget [] (Self.knows self.old) (Self.log self.old)
+            (Self.log self.new)) }
         ensures ready { OnOk result (Self.ready self.new) }
         ensures task { task self.new ≡ task self.old }
         ensures later { Self.is_later self.old self.new }
@@ -52,4 +53,8 @@ pub trait LawOracle: LogTeller {
     /// Their Formula lines are the task's clauses, and they have no Bound line.
     ghost gives: { (s : Self) (lines : Lines) → Self.knows s lines → clause_lines lines
         ≡ map Formula (task s).clauses };
+
+    /// There are no more Learnt lines than the budget allows.
+    ghost within: { (s : Self) (lines : Lines) → Self.knows s lines → length (flat_map learnt_of lines)
+        ≤ (task s).budget };
 }

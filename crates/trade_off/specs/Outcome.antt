@@ -5,7 +5,7 @@ use Rattle.plan_core.specs.Drawing.{Drawing}
 use Rattle.cnf_core.specs.Clause.{words_of}
 use Rattle.refute_log.specs.Lines.{MayAllBeTold}
 use Rattle.refute_log.specs.Told.{Lines}
-use Rattle.refute_log.specs.Log.{added, learnt, Derives, Due, BeginsLines, clause_lines}
+use Rattle.refute_log.specs.Log.{added, learnt, learnt_count, Derives, Due, BeginsLines, clause_lines}
 use Rattle.refute_log.specs.Bounds.{CoversDrawings}
 use Rattle.refute_log.specs.Expected.{expected_lines}
 use Rattle.refute_log.specs.Cause.{IsCause}
@@ -65,10 +65,12 @@ pub record IsFrontLog (p : Task) (a b : Criterion) (pairs : Pairs) (ending : Fro
 abbrev pub IsFrontAfter : Task → Criterion → Criterion → Pairs → FrontEnd → Lines → Type 0
 IsFrontAfter p a b pairs ending more = IsFrontLog p a b pairs ending (first_lines p ++ more)
 
--- the lines of a search for the front that ended with an error
+-- the lines of a search for the front, also of one that ended with an error: they derive, their Formula and Bound lines
+-- begin those of the front, and there are no more Learnt lines, as a log counts them, than the budget allows
 pub record IsFrontLeft (p : Task) (a b : Criterion) (lines : Lines) : Type 0 where
   pub derives : Derives lines
   pub begins : BeginsLines (clause_lines lines) (front_lines p a b)
+  pub few : learnt_count lines ≤ p.budget
 
 -- the end of a search that stopped
 abbrev pub stopped_by : Stop → FrontEnd

@@ -87,7 +87,8 @@ fn second_from<O: Oracle>(
     ensures lines { let p = O.task oracle.old in
         IfOk result (λ r. Continues O.knows O.log O.learnt oracle.old oracle.new
         (AreAsked p b (under b (Some (value_of (values_of least) b))) (EndsNext p (AsksSecond a b least p) b r))) }
-    ensures leaves { OnErr result (Leaves [] (O.knows oracle.old) (O.log oracle.old) (O.log oracle.new)) }
+    ensures leaves { OnErr result (Leaves (O.task oracle.old).budget [] (O.knows oracle.old) (O.log oracle.old)
+        (O.log oracle.new)) }
     ensures later { O.is_later oracle.old oracle.new }
     ensures faults { O.faults oracle.old ≤ O.faults oracle.new }
     ensures cause { IsErrOf result MinFault.Log → Rose (O.faults oracle.old) (O.faults oracle.new) }
@@ -128,7 +129,8 @@ fn pair_from<O: Oracle>(
     ensures lines { let p = O.task oracle.old in
         IfOk result (λ r. Continues O.knows O.log O.learnt oracle.old oracle.new
         (AreAsked p b (under b limit) (EndsNext p (AsksNext a b limit p) b r))) }
-    ensures leaves { OnErr result (Leaves [] (O.knows oracle.old) (O.log oracle.old) (O.log oracle.new)) }
+    ensures leaves { OnErr result (Leaves (O.task oracle.old).budget [] (O.knows oracle.old) (O.log oracle.old)
+        (O.log oracle.new)) }
     ensures later { O.is_later oracle.old oracle.new }
     ensures faults { O.faults oracle.old ≤ O.faults oracle.new }
     ensures cause { IsErrOf result MinFault.Log → Rose (O.faults oracle.old) (O.faults oracle.new) }
@@ -164,7 +166,8 @@ fn next_pair<O: Oracle>(
     ensures lines { let p = O.task oracle.old in
         IfOk result (λ r. Continues O.knows O.log O.learnt oracle.old oracle.new
         (AreAsked p b (under b limit) (EndsNext p (AsksNext a b limit p) b r))) }
-    ensures leaves { OnErr result (Leaves [] (O.knows oracle.old) (O.log oracle.old) (O.log oracle.new)) }
+    ensures leaves { OnErr result (Leaves (O.task oracle.old).budget [] (O.knows oracle.old) (O.log oracle.old)
+        (O.log oracle.new)) }
     ensures later { O.is_later oracle.old oracle.new }
     ensures faults { O.faults oracle.old ≤ O.faults oracle.new }
     ensures cause { IsErrOf result MinFault.Log → Rose (O.faults oracle.old) (O.faults oracle.new) }
@@ -198,7 +201,8 @@ fn further_pairs<O: Oracle>(
     ensures lines { let p = O.task oracle.old in
         IfOk result (λ r. Continues O.knows O.log O.learnt oracle.old oracle.new
         (AreAsked p b (under b (Some second)) (EndsFront p a b r.pairs r.ending))) }
-    ensures leaves { OnErr result (Leaves [] (O.knows oracle.old) (O.log oracle.old) (O.log oracle.new)) }
+    ensures leaves { OnErr result (Leaves (O.task oracle.old).budget [] (O.knows oracle.old) (O.log oracle.old)
+        (O.log oracle.new)) }
     ensures later { O.is_later oracle.old oracle.new }
     ensures faults { O.faults oracle.old ≤ O.faults oracle.new }
     ensures cause { IsErrOf result MinFault.Log → Rose (O.faults oracle.old) (O.faults oracle.new) }
@@ -250,7 +254,8 @@ pub(crate) fn collect<O: Oracle>(
     ensures lines { let p = O.task oracle.old in
         IfOk result (λ r. Continues O.knows O.log O.learnt oracle.old oracle.new
         (AreAsked p b [] (EndsFront p a b r.pairs r.ending))) }
-    ensures leaves { OnErr result (Leaves [] (O.knows oracle.old) (O.log oracle.old) (O.log oracle.new)) }
+    ensures leaves { OnErr result (Leaves (O.task oracle.old).budget [] (O.knows oracle.old) (O.log oracle.old)
+        (O.log oracle.new)) }
     ensures later { O.is_later oracle.old oracle.new }
     ensures faults { O.faults oracle.old ≤ O.faults oracle.new }
     ensures cause { IsErrOf result MinFault.Log → Rose (O.faults oracle.old) (O.faults oracle.new) }

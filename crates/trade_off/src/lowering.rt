@@ -64,7 +64,8 @@ pub(crate) fn lower<O: Oracle>(
     ensures lines { let p = O.task oracle.old in
         IfOk result (λ r. (m : Measure) → Continues O.knows O.log O.learnt oracle.old oracle.new
         (AreAsked p m (lowered held.now c first) (EndsLowered p held.now c m r.least r.stop))) }
-    ensures leaves { OnErr result (Leaves [] (O.knows oracle.old) (O.log oracle.old) (O.log oracle.new)) }
+    ensures leaves { OnErr result (Leaves (O.task oracle.old).budget [] (O.knows oracle.old) (O.log oracle.old)
+        (O.log oracle.new)) }
     ensures later { O.is_later oracle.old oracle.new }
     ensures faults { O.faults oracle.old ≤ O.faults oracle.new }
     ensures cause { IsErrOf result MinFault.Log → Rose (O.faults oracle.old) (O.faults oracle.new) }

@@ -1,9 +1,8 @@
-use Rattle.std.proofs.Common.{◌-◌, [], List, ℕ, length, sym, ◌∙◌, ap, subst, arith}
+use Rattle.std.proofs.Common.{◌-◌, List, ℕ, length, sym, ◌∙◌, ap, subst, arith}
 use Rattle.std.specs.Prelude.{All}
 use Rattle.cnf_core.specs.Lit.{Literal}
 use Rattle.cnf_core.specs.Clause.{AreDistinct, IsNamed}
 use Rattle.cdcl_core.specs.Belongs.{HasSpent, HasSolved, Belongs}
-use Rattle.refute_log.proofs.StepLemmas.{leaves_known}
 use Rattle.lex_minimise.proofs.LeftLemmas.{search_left}
 use Rattle.law_core.specs.Known.{formula_of, task_of, KnowsWhy}
 use Rattle.law_core.specs.Query.{query_of}
@@ -65,16 +64,18 @@ pub returns-in-Err-Log-clause-leaves : goal.returns-in-Err-Log-clause-leaves
 returns-in-Err-Log-clause-leaves g c =
     let k = g.L.LogSink in
     let x = c.args.known.now in
-    leaves_known [] (KnowsWhy (task_of (layout_with x) x.budget x.room) c.args.solver.now) (λ ls. Belongs ls c.args.solver.now) (k.tells c.args.log.now)
-    (k.tells c.solve.new.log) (λ lines b. b.belongs)
-    (search_left (λ ls. Belongs ls c.args.solver.now) (k.tells c.args.log.now) (k.tells c.solve.new.log) c.in-Err-Log.ensures.derives
-    c.in-Err-Log.ensures.gives)
+    search_left x.budget c.args.solver.now.learnt (x.budget - c.learnt.result) (k.learnt c.args.log.now) (k.learnt c.solve.new.log)
+    (KnowsWhy (task_of (layout_with x) x.budget x.room) c.args.solver.now) (λ ls. Belongs ls c.args.solver.now) (k.tells c.args.log.now)
+    (k.tells c.solve.new.log) (ap (λ n. x.budget - n) c.learnt.ensures) (λ lines b. (b.belongs, b.learnt_are, b.spent))
+    c.in-Err-Log.ensures.derives c.in-Err-Log.ensures.gives c.in-Err-Log.ensures.few (g.met.L.LogSink.counted c.args.log.now)
+    (g.met.L.LogSink.counted c.solve.new.log)
 
 pub returns-in-Err-Memory-clause-leaves : goal.returns-in-Err-Memory-clause-leaves
 returns-in-Err-Memory-clause-leaves g c =
     let k = g.L.LogSink in
     let x = c.args.known.now in
-    leaves_known [] (KnowsWhy (task_of (layout_with x) x.budget x.room) c.args.solver.now) (λ ls. Belongs ls c.args.solver.now) (k.tells c.args.log.now)
-    (k.tells c.solve.new.log) (λ lines b. b.belongs)
-    (search_left (λ ls. Belongs ls c.args.solver.now) (k.tells c.args.log.now) (k.tells c.solve.new.log) c.in-Err-Memory.ensures.derives
-    c.in-Err-Memory.ensures.gives)
+    search_left x.budget c.args.solver.now.learnt (x.budget - c.learnt.result) (k.learnt c.args.log.now) (k.learnt c.solve.new.log)
+    (KnowsWhy (task_of (layout_with x) x.budget x.room) c.args.solver.now) (λ ls. Belongs ls c.args.solver.now) (k.tells c.args.log.now)
+    (k.tells c.solve.new.log) (ap (λ n. x.budget - n) c.learnt.ensures) (λ lines b. (b.belongs, b.learnt_are, b.spent))
+    c.in-Err-Memory.ensures.derives c.in-Err-Memory.ensures.gives c.in-Err-Memory.ensures.few (g.met.L.LogSink.counted c.args.log.now)
+    (g.met.L.LogSink.counted c.solve.new.log)

@@ -111,7 +111,7 @@ returns-in_err-selecting-clause-left g c =
     let w = c.args.whole.now in
     let budget = c.args.limits.now.budget in
     let room = c.args.limits.now.room in
-    on_err_anyway _ _ (left_none y (k.tells c.args.log.now) (g.met.L.LogSink.one_reading c.args.log.now))
+    on_err_anyway _ _ (left_none y budget (k.tells c.args.log.now) (g.met.L.LogSink.one_reading c.args.log.now))
 
 pub returns-in_err-begin-clause-left : goal.returns-in_err-begin-clause-left
 returns-in_err-begin-clause-left g c =
@@ -120,7 +120,7 @@ returns-in_err-begin-clause-left g c =
     let w = c.args.whole.now in
     let budget = c.args.limits.now.budget in
     let room = c.args.limits.now.room in
-    on_err_anyway _ _ (left_begun y room w.laws.items w.formula c.args.solver.now (k.tells c.args.log.now) (k.tells c.begin.new.log) c.requires.formula
+    on_err_anyway _ _ (left_begun y budget room w.laws.items w.formula c.args.solver.now (k.tells c.args.log.now) (k.tells c.begin.new.log) c.requires.formula
     c.requires.new c.in_err-begin.ensures.leaves)
 
 pub returns-in_err-outcome-clause-left : goal.returns-in_err-outcome-clause-left

@@ -30,4 +30,4 @@ returns-in-Err-Room-clause-lines g c =
 pub returns-in-Err-Memory-clause-left : goal.returns-in-Err-Memory-clause-left
 returns-in-Err-Memory-clause-left g c =
     let k = g.L.LogSink in
-    left_none (layout c.args.g.now c.args.t.now c.args.grid.now) (k.tells c.args.log.now) (g.met.L.LogSink.one_reading c.args.log.now)
+    left_none (layout c.args.g.now c.args.t.now c.args.grid.now) c.args.limits.now.budget (k.tells c.args.log.now) (g.met.L.LogSink.one_reading c.args.log.now)

@@ -47,7 +47,7 @@ pub returns-in_err-answer-clause-leaves : goal.returns-in_err-answer-clause-leav
 returns-in_err-answer-clause-leaves g c =
     let k = g.L.LogSink in
     let x = c.args.known.now in
-    on_err_anyway _ _ (subst (λ (s : Kept). Leaves [] (KnowsLines (layout_of x.encoded) x.told.items x.budget x.room s) (k.tells c.args.log.now)
+    on_err_anyway _ _ (subst (λ (s : Kept). Leaves x.budget [] (KnowsLines (layout_of x.encoded) x.told.items x.budget x.room s) (k.tells c.args.log.now)
     (k.tells c.query.new.log)) c.in_ok-begin_near.ensures c.in_err-answer.ensures.leaves)
 
 pub returns-in_err-reply-clause-leaves : goal.returns-in_err-reply-clause-leaves

@@ -1,10 +1,9 @@
-use Rattle.std.proofs.Common.{◌-◌, length, subst, arith, []}
+use Rattle.std.proofs.Common.{◌-◌, length, ap, subst, arith}
 use Rattle.cdcl_core.specs.Belongs.{HasSpent, HasSolved, Belongs}
 use Rattle.drawing_cnf.specs.Layout.{layout_of}
 use Rattle.lex_minimise.proofs.AskLemmas.{are_distinct}
 use Rattle.lex_minimise.proofs.QueryLemmas.{all_named, ready_after, search_goes}
 use Rattle.lex_minimise.proofs.LeftLemmas.{search_left}
-use Rattle.refute_log.proofs.StepLemmas.{leaves_known}
 use Rattle.lex_minimise.specs.Known.{KnowsLines}
 use Rattle.lex_minimise.proofs.asking.query.Goals as goal
 
@@ -50,16 +49,18 @@ pub returns-in-Err-Log-clause-leaves : goal.returns-in-Err-Log-clause-leaves
 returns-in-Err-Log-clause-leaves g c =
     let k = g.L.LogSink in
     let x = c.args.known.now in
-    leaves_known [] (KnowsLines (layout_of x.encoded) x.told.items x.budget x.room c.args.solver.now) (λ ls. Belongs ls c.args.solver.now)
-    (k.tells c.args.log.now) (k.tells c.solve.new.log) (λ lines b. b.belongs)
-    (search_left (λ ls. Belongs ls c.args.solver.now) (k.tells c.args.log.now) (k.tells c.solve.new.log) c.in-Err-Log.ensures.derives
-    c.in-Err-Log.ensures.gives)
+    search_left x.budget c.args.solver.now.learnt (x.budget - c.learnt.result) (k.learnt c.args.log.now) (k.learnt c.solve.new.log)
+    (KnowsLines (layout_of x.encoded) x.told.items x.budget x.room c.args.solver.now) (λ ls. Belongs ls c.args.solver.now)
+    (k.tells c.args.log.now) (k.tells c.solve.new.log) (ap (λ n. x.budget - n) c.learnt.ensures) (λ lines b. (b.belongs, b.learnt_are, b.spent))
+    c.in-Err-Log.ensures.derives c.in-Err-Log.ensures.gives c.in-Err-Log.ensures.few (g.met.L.LogSink.counted c.args.log.now)
+    (g.met.L.LogSink.counted c.solve.new.log)
 
 pub returns-in-Err-Memory-clause-leaves : goal.returns-in-Err-Memory-clause-leaves
 returns-in-Err-Memory-clause-leaves g c =
     let k = g.L.LogSink in
     let x = c.args.known.now in
-    leaves_known [] (KnowsLines (layout_of x.encoded) x.told.items x.budget x.room c.args.solver.now) (λ ls. Belongs ls c.args.solver.now)
-    (k.tells c.args.log.now) (k.tells c.solve.new.log) (λ lines b. b.belongs)
-    (search_left (λ ls. Belongs ls c.args.solver.now) (k.tells c.args.log.now) (k.tells c.solve.new.log) c.in-Err-Memory.ensures.derives
-    c.in-Err-Memory.ensures.gives)
+    search_left x.budget c.args.solver.now.learnt (x.budget - c.learnt.result) (k.learnt c.args.log.now) (k.learnt c.solve.new.log)
+    (KnowsLines (layout_of x.encoded) x.told.items x.budget x.room c.args.solver.now) (λ ls. Belongs ls c.args.solver.now)
+    (k.tells c.args.log.now) (k.tells c.solve.new.log) (ap (λ n. x.budget - n) c.learnt.ensures) (λ lines b. (b.belongs, b.learnt_are, b.spent))
+    c.in-Err-Memory.ensures.derives c.in-Err-Memory.ensures.gives c.in-Err-Memory.ensures.few (g.met.L.LogSink.counted c.args.log.now)
+    (g.met.L.LogSink.counted c.solve.new.log)

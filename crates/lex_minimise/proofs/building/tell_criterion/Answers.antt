@@ -67,7 +67,7 @@ returns-in_err-add_clauses-clause-leaves g c =
     let old = c.args.solver.now in
     on_err_anyway _ _ (criterion_begun x.encoded x.told.items x.budget x.room c.args.bounds c.args.from old (k.tells c.args.log.now)
     (k.tells c.add_clauses.new.log) c.requires.grown
-    (subst (λ (f : Cnf). Leaves (map Formula (drop c.args.from f.clauses)) (λ ls. Belongs ls old) (k.tells c.args.log.now) (k.tells c.add_clauses.new.log))
+    (subst (λ (f : Cnf). Leaves 0 (map Formula (drop c.args.from f.clauses)) (λ ls. Belongs ls old) (k.tells c.args.log.now) (k.tells c.add_clauses.new.log))
     c.formula.ensures c.in_err-add_clauses.ensures.leaves))
 
 pub returns-in_err-tell_bounds-clause-leaves : goal.returns-in_err-tell_bounds-clause-leaves

@@ -15,11 +15,15 @@ returns-in-Ok-clause-taken g c =
 pub returns-in-Err-Log-clause-leaves : goal.returns-in-Err-Log-clause-leaves
 returns-in-Err-Log-clause-leaves g c =
     let k = g.L.LogSink in
-    clause_left (λ ls. Belongs ls c.args.solver.now) (k.tells c.args.log.now) (k.tells c.add_clause.new.log) (clause_at c.args.formula.now c.args.no)
-    c.lits_of.result.now c.lits_of.ensures.value c.in-Err-Log.ensures.derives c.in-Err-Log.ensures.gives
+    clause_left (λ ls. Belongs ls c.args.solver.now) (k.tells c.args.log.now) (k.tells c.add_clause.new.log) (k.learnt c.args.log.now)
+    (k.learnt c.add_clause.new.log) (clause_at c.args.formula.now c.args.no) c.lits_of.result.now c.lits_of.ensures.value
+    c.in-Err-Log.ensures.derives c.in-Err-Log.ensures.gives (g.met.L.LogSink.counted c.args.log.now) (g.met.L.LogSink.counted c.add_clause.new.log)
+    c.in-Err-Log.ensures.learnt
 
 pub returns-in-Err-Memory-clause-leaves : goal.returns-in-Err-Memory-clause-leaves
 returns-in-Err-Memory-clause-leaves g c =
     let k = g.L.LogSink in
-    clause_left (λ ls. Belongs ls c.args.solver.now) (k.tells c.args.log.now) (k.tells c.add_clause.new.log) (clause_at c.args.formula.now c.args.no)
-    c.lits_of.result.now c.lits_of.ensures.value c.in-Err-Memory.ensures.derives c.in-Err-Memory.ensures.gives
+    clause_left (λ ls. Belongs ls c.args.solver.now) (k.tells c.args.log.now) (k.tells c.add_clause.new.log) (k.learnt c.args.log.now)
+    (k.learnt c.add_clause.new.log) (clause_at c.args.formula.now c.args.no) c.lits_of.result.now c.lits_of.ensures.value
+    c.in-Err-Memory.ensures.derives c.in-Err-Memory.ensures.gives (g.met.L.LogSink.counted c.args.log.now) (g.met.L.LogSink.counted c.add_clause.new.log)
+    c.in-Err-Memory.ensures.learnt

@@ -13,7 +13,7 @@ use Rattle.search_least.proofs.BeforeLemmas.{before_next, before_later}
 use Rattle.search_least.proofs.AdvanceLemmas.{go_zeros, go_only_zero, go_bounded, all_held}
 use Rattle.outside_io.proofs.Results.{on_err_anyway}
 use Rattle.search_least.specs.Task.{Task}
-use Rattle.search_least.proofs.LeftLemmas.{HasCaps, bounded_left}
+use Rattle.search_least.proofs.LeftLemmas.{HasCaps, IsSpentWithin, bounded_left}
 use Rattle.search_least.proofs.advancing.advance.Goals as goal
 
 pub returns-then-most-eq0-clause-lines : goal.returns-then-most-eq0-clause-lines
@@ -87,6 +87,7 @@ returns-in_err-hold-in-Some-clause-left g c = let o = g.O.Oracle in let t = g.O.
     on_err_anyway _ _ (bounded_left t.knows t.log t.learnt a b p c.args.order.now c.args.i c.args.held.now.items r.stop r.settled c.args.best r.best (o.caps a)
     (o.caps b) (g.O.LogTeller.derives b) (g.O.LogTeller.one_reading b)
     (subst (λ (x : Task). HasCaps x (o.caps b) (t.knows b)) c.in_ok-advanced-in-Some.ensures.task (g.met.O.Oracle.counted b))
+    (subst (λ (x : Task). IsSpentWithin x (t.knows b)) c.in_ok-advanced-in-Some.ensures.task (g.met.O.Oracle.within b))
     (subst (λ (bs : List Below). Continues t.knows t.log t.learnt a b (λ lines more. SearchState p c.args.order.now c.args.i bs c.args.best (o.caps a) lines →
     BoundedTo p c.args.order.now c.args.i bs r.stop r.settled r.best (o.caps b) (lines ++ more)))
     c.deref.ensures.value c.in_ok-advanced-in-Some.ensures.lines))

@@ -101,12 +101,14 @@ returns-in_err-build-clause-left g c = let o = g.O.Oracle in let t = g.O.LogTell
     let a = c.args.oracle.now in
     on_err_anyway _ _ (built_left (o.task a) c.args.order.now c.args.i c.get-c.result c.args.cap c.args.held.now c.args.best (o.caps a) (o.vars a) (t.knows a)
     (t.log a) (t.log c.build.new.self) c.requires.order c.get-c.ensures (c.requires.cap c.get-c.result c.get-c.ensures) (g.met.O.Oracle.counted a)
-    c.requires.counted c.in_err-build.ensures.leaves)
+    (g.met.O.Oracle.within a) c.requires.counted c.in_err-build.ensures.leaves)
 
 pub returns-in_err-lowered-in-Whole-clause-left : goal.returns-in_err-lowered-in-Whole-clause-left
 returns-in_err-lowered-in-Whole-clause-left g c = let o = g.O.Oracle in let t = g.O.LogTeller in
     let a = c.args.oracle.now in
-    on_err_anyway _ _ (asked_left t.knows t.log t.learnt a c.build.new.self c.lower.new.oracle (o.task a) c.args.order.now c.args.i c.get-c.result c.args.cap
+    on_err_anyway _ _ (asked_left t.knows t.log t.learnt a c.build.new.self c.lower.new.oracle (o.task c.build.new.self) (o.task a) c.args.order.now
+    c.args.i c.get-c.result c.args.cap
     c.args.held.now c.args.best (o.caps a) (o.vars a) c.in_ok-build.field-0
-    c.requires.order c.get-c.ensures (c.requires.cap c.get-c.result c.get-c.ensures) (g.met.O.Oracle.counted a) c.requires.counted c.in-Whole.is
-    c.in_ok-build.ensures.lines c.in_err-lowered-in-Whole.ensures.leaves)
+    c.requires.order c.get-c.ensures (c.requires.cap c.get-c.result c.get-c.ensures) (g.met.O.Oracle.counted a) (g.met.O.Oracle.within a) c.requires.counted
+    c.in-Whole.is
+    c.in_ok-build.ensures.lines (g.met.O.Oracle.within c.build.new.self) c.in_ok-build.ensures.task c.in_err-lowered-in-Whole.ensures.leaves)

@@ -1,4 +1,4 @@
-use Rattle.std.proofs.Common.{[], ◌++◌, refl, sym, ◌∙◌, subst, map}
+use Rattle.std.proofs.Common.{[], ◌++◌, refl, sym, ◌∙◌, ap, subst, map}
 use Rattle.std.specs.Prelude.{None, IfOk}
 use Rattle.std.proofs.lemmas.Result.{IfOk-weaker}
 use Rattle.refute_log.specs.declared.line.LogLine.TheVariants.{Formula}
@@ -108,4 +108,5 @@ returns-in-Found-clause-leaves g c = let q = g.Q.CountOracle in let t = g.Q.LogT
     let r = c.in_ok-first.field-0 in
     on_err_weaker c.lower.result _ _
     (leaves_later t.knows t.log t.learnt a c.ask.new.self c.lower.new.questions (λ lines more. IsAnswer p lines None r more) [] [] c.in_ok-first.ensures.lines
-    (λ lines more h. answer_clauses p None lines r more h)) c.lower.ensures.leaves
+    (λ lines more h. answer_clauses p None lines r more h) (g.met.Q.CountOracle.spent c.ask.new.self)
+    (ap (λ (x : CountTask). x.budget) c.in_ok-first.ensures.task)) c.lower.ensures.leaves

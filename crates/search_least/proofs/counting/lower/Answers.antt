@@ -129,4 +129,4 @@ returns-in_err-d-clause-leaves g c = let q = g.Q.CountOracle in let t = g.Q.LogT
     let a = c.args.questions.now in
     on_err_anyway _ _ (leaves_later t.knows t.log t.learnt a c.loop-count.questions c.ask.new.self
     (IsRunOfDrawings (q.task a) ((q.task a).count c.args.first) c.loop-count.count) [] [] c.loop-count.invariant.lines (λ lines more h. h.none)
-    c.in_err-d.ensures.leaves)
+    (g.met.Q.CountOracle.spent c.loop-count.questions) (ap (λ (x : CountTask). x.budget) c.loop-count.invariant.task) c.in_err-d.ensures.leaves)

@@ -5,6 +5,7 @@ use Rattle.search_least.proofs.RunLemmas.{less_there}
 use Rattle.search_least.proofs.BeforeLemmas.{once_asked}
 use Rattle.outside_io.proofs.Results.{on_err_anyway}
 use Rattle.refute_log.proofs.StepLemmas.{leaves_later, leaves_here}
+use Rattle.search_least.specs.Task.{Task}
 use Rattle.search_least.specs.Reached.{Run}
 use Rattle.search_least.proofs.lowering.lower.Goals as goal
 
@@ -115,11 +116,13 @@ returns-in_err-bounds-clause-leaves g c = let o = g.O.Oracle in let t = g.O.LogT
     let a = c.args.oracle.now in
     let b = c.loop-value.oracle in
     on_err_anyway _ _ (leaves_here t.knows t.log t.learnt a b (Run (o.task a) c.args.order.now c.args.i c.args.held.now c.args.best c.loop-value.best)
-    c.loop-value.invariant.lines (λ lines more h. h.0) (g.O.LogTeller.derives b) (g.O.LogTeller.one_reading b))
+    c.loop-value.invariant.lines (λ lines more h. h.0) (g.met.O.Oracle.within b) (ap (λ (x : Task). x.budget) c.loop-value.invariant.task)
+    (g.O.LogTeller.derives b) (g.O.LogTeller.one_reading b))
 
 pub returns-in_err-d-clause-leaves : goal.returns-in_err-d-clause-leaves
 returns-in_err-d-clause-leaves g c = let o = g.O.Oracle in let t = g.O.LogTeller in
     let a = c.args.oracle.now in
     on_err_anyway _ _ (leaves_later t.knows t.log t.learnt a c.loop-value.oracle c.ask.new.self
     (Run (o.task a) c.args.order.now c.args.i c.args.held.now c.args.best c.loop-value.best) [] []
-    c.loop-value.invariant.lines (λ lines more h. h.0) c.in_err-d.ensures.leaves)
+    c.loop-value.invariant.lines (λ lines more h. h.0) (g.met.O.Oracle.within c.loop-value.oracle) (ap (λ (x : Task). x.budget) c.loop-value.invariant.task)
+    c.in_err-d.ensures.leaves)

@@ -67,7 +67,7 @@ pub returns-in_err-first-clause-left : goal.returns-in_err-first-clause-left
 returns-in_err-first-clause-left g c = let o = g.O.Oracle in let t = g.O.LogTeller in
     let a = c.args.oracle.now in
     on_err_anyway _ _ (first_left (o.task a) c.args.wanted.now (o.caps a) (t.knows a) (t.log a) (t.log c.ask.new.self) c.requires.fresh.none
-    c.in_err-first.ensures.leaves)
+    (g.met.O.Oracle.within a) c.in_err-first.ensures.leaves)
 
 pub returns-in-Found-clause-left : goal.returns-in-Found-clause-left
 returns-in-Found-clause-left g c = let o = g.O.Oracle in let t = g.O.LogTeller in

@@ -1,10 +1,9 @@
-use Rattle.std.proofs.Common.{◌-◌, [], List, length, sym, subst, arith}
+use Rattle.std.proofs.Common.{◌-◌, List, length, ap, sym, subst, arith}
 use Rattle.std.specs.Prelude.{All}
 use Rattle.cnf_core.specs.Lit.{Literal}
 use Rattle.cnf_core.specs.Clause.{AreDistinct, IsNamed}
 use Rattle.cdcl_core.specs.Kept.{IsTrueAnswer}
 use Rattle.cdcl_core.specs.Belongs.{HasSpent, HasSolved, Belongs}
-use Rattle.refute_log.proofs.StepLemmas.{leaves_known}
 use Rattle.lex_minimise.proofs.LeftLemmas.{search_left}
 use Rattle.drawing_cnf.specs.Layout.{layout_of}
 use Rattle.search_moved.specs.Known.{formula_of, moved_task, KnowsMoved}
@@ -61,15 +60,17 @@ returns-in-Err-Log-clause-leaves g c =
     let l = g.L.LogSink in
     let k = c.args.known.now in
     let old = c.args.solver.now in
-    leaves_known [] (KnowsMoved (layout_of k.encoded) k.former.now k.budget k.room old) (λ ls. Belongs ls old) (l.tells c.args.log.now)
-    (l.tells c.solve.new.log) (λ lines b. b.belongs)
-    (search_left (λ ls. Belongs ls old) (l.tells c.args.log.now) (l.tells c.solve.new.log) c.in-Err-Log.ensures.derives c.in-Err-Log.ensures.gives)
+    search_left k.budget old.learnt (k.budget - c.learnt.result) (l.learnt c.args.log.now) (l.learnt c.solve.new.log)
+    (KnowsMoved (layout_of k.encoded) k.former.now k.budget k.room old) (λ ls. Belongs ls old) (l.tells c.args.log.now) (l.tells c.solve.new.log)
+    (ap (λ n. k.budget - n) c.learnt.ensures) (λ lines b. (b.belongs, b.learnt_are, b.spent)) c.in-Err-Log.ensures.derives c.in-Err-Log.ensures.gives
+    c.in-Err-Log.ensures.few (g.met.L.LogSink.counted c.args.log.now) (g.met.L.LogSink.counted c.solve.new.log)
 
 pub returns-in-Err-Memory-clause-leaves : goal.returns-in-Err-Memory-clause-leaves
 returns-in-Err-Memory-clause-leaves g c =
     let l = g.L.LogSink in
     let k = c.args.known.now in
     let old = c.args.solver.now in
-    leaves_known [] (KnowsMoved (layout_of k.encoded) k.former.now k.budget k.room old) (λ ls. Belongs ls old) (l.tells c.args.log.now)
-    (l.tells c.solve.new.log) (λ lines b. b.belongs)
-    (search_left (λ ls. Belongs ls old) (l.tells c.args.log.now) (l.tells c.solve.new.log) c.in-Err-Memory.ensures.derives c.in-Err-Memory.ensures.gives)
+    search_left k.budget old.learnt (k.budget - c.learnt.result) (l.learnt c.args.log.now) (l.learnt c.solve.new.log)
+    (KnowsMoved (layout_of k.encoded) k.former.now k.budget k.room old) (λ ls. Belongs ls old) (l.tells c.args.log.now) (l.tells c.solve.new.log)
+    (ap (λ n. k.budget - n) c.learnt.ensures) (λ lines b. (b.belongs, b.learnt_are, b.spent)) c.in-Err-Memory.ensures.derives c.in-Err-Memory.ensures.gives
+    c.in-Err-Memory.ensures.few (g.met.L.LogSink.counted c.args.log.now) (g.met.L.LogSink.counted c.solve.new.log)

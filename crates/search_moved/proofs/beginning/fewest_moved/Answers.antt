@@ -33,5 +33,6 @@ returns-clause-covers g c = let station = c.nodes.ensures.station in
 pub returns-in_err-solver-clause-left : goal.returns-in_err-solver-clause-left
 returns-in_err-solver-clause-left g c =
     let k = g.L.LogSink in
-    on_err_anyway _ _ (left_none (layout c.args.g.now c.args.t.now c.args.grid.now) c.args.former.now (k.tells c.args.log.now)
+    on_err_anyway _ _ (left_none (layout c.args.g.now c.args.t.now c.args.grid.now) c.args.former.now c.args.limits.now.budget
+    (k.tells c.args.log.now)
     (g.met.L.LogSink.one_reading c.args.log.now))

@@ -121,12 +121,13 @@ returns-clause-lines g c =
 pub returns-in-Err-Memory-clause-left : goal.returns-in-Err-Memory-clause-left
 returns-in-Err-Memory-clause-left g c =
     let k = g.L.LogSink in
-    left_none (layout c.args.g.now c.args.t.now c.args.grid.now) c.args.former.now (k.tells c.args.log.now) (g.met.L.LogSink.one_reading c.args.log.now)
+    left_none (layout c.args.g.now c.args.t.now c.args.grid.now) c.args.former.now c.args.limits.now.budget (k.tells c.args.log.now)
+    (g.met.L.LogSink.one_reading c.args.log.now)
 
 pub returns-in_err-counted-clause-left : goal.returns-in_err-counted-clause-left
 returns-in_err-counted-clause-left g c =
     let k = g.L.LogSink in
-    on_err_anyway _ _ (left_none (layout c.args.g.now c.args.t.now c.args.grid.now) c.args.former.now (k.tells c.args.log.now)
+    on_err_anyway _ _ (left_none (layout c.args.g.now c.args.t.now c.args.grid.now) c.args.former.now c.args.limits.now.budget (k.tells c.args.log.now)
     (g.met.L.LogSink.one_reading c.args.log.now))
 
 pub returns-in_err-tell_both-clause-left : goal.returns-in_err-tell_both-clause-left
@@ -141,9 +142,10 @@ returns-in_err-tell_both-clause-left g c =
     let some : IsCounting (layout_of n) former room c.in-Some.counted = subst (λ (o : Option Cnf). MatchOption o (FormulaPasses (layout_of n) former room)
     (IsCounting (layout_of n) former room)) c.in-Some.is c.in_ok-counted.ensures.formula in
     let left : k.tells c.args.log.now [] → (lines : Lines) → k.tells c.tell_both.new.log lines →
-    IsMovedLeft (layout c.args.g.now c.args.t.now c.args.grid.now) former lines =
-    λ nil lines told. subst (λ (z : Layout). IsMovedLeft z former lines) y_is
-    (left_begun n former room c.formula.result.now c.in-Some.counted c.args.solver.now (k.tells c.args.log.now) (k.tells c.tell_both.new.log) e.whole e.bounds
+    IsMovedLeft (layout c.args.g.now c.args.t.now c.args.grid.now) former budget lines =
+    λ nil lines told. subst (λ (z : Layout). IsMovedLeft z former budget lines) y_is
+    (left_begun n former budget room c.formula.result.now c.in-Some.counted c.args.solver.now (k.tells c.args.log.now) (k.tells c.tell_both.new.log)
+    e.whole e.bounds
     c.formula.ensures some c.requires.new c.in_err-tell_both.ensures.leaves nil lines told) in
     on_err_anyway _ _ left
 
@@ -165,7 +167,7 @@ returns-clause-left g c =
     (k.tells c.tell_both.new.log) (k.learnt c.args.log.now) (k.learnt c.tell_both.new.log)
     station size e.whole e.bounds same c.formula.ensures some c.requires.new c.in_ok-tell_both.ensures.taken c.in_ok-tell_both.ensures.lines in
     on_err_weaker c.search_from.result _ _
-    (λ h nil lines told. subst (λ (z : Layout). IsMovedLeft z former lines) y_is
+    (λ h nil lines told. subst (λ (z : Layout). IsMovedLeft z former budget lines) y_is
     (left_later n former budget room c.formula.result.now c.in-Some.counted c.args.solver.now c.tell_both.new.solver (k.tells c.args.log.now)
     (k.tells c.tell_both.new.log) (k.tells c.search_from.new.log) (k.learnt c.args.log.now) (k.learnt c.tell_both.new.log)
     e.whole e.bounds c.formula.ensures some c.requires.new c.in_ok-tell_both.ensures.lines knows h nil lines told))

@@ -8,6 +8,7 @@ use Rattle.refute_log.proofs.StepLemmas.{clause_lines_append, leaves_more, leave
 use Rattle.cdcl_core.specs.Belongs.{Belongs}
 use Rattle.outside_io.proofs.Results.{on_err_anyway}
 use Rattle.search_least.proofs.BuildLemmas.{formulas_are_clauses}
+use Rattle.lex_minimise.proofs.LeftLemmas.{few_formulas}
 use Rattle.lex_minimise.proofs.TellLemmas.{ok_from, goes_then}
 use Rattle.search_moved.proofs.TellLemmas.{taken_both}
 use Rattle.search_moved.proofs.telling.tell_both.Goals as goal
@@ -41,7 +42,7 @@ returns-in_err-add_clauses-clause-leaves g c =
     let ds = c.args.second.now.clauses in
     let l0 = k.tells c.args.log.now in
     let l1 = k.tells c.add_clauses.new.log in
-    on_err_anyway _ _ (subst (λ (ls : Lines). Leaves ls (λ xs. Belongs xs c.args.solver.now) l0 l1) (sym (map-append Formula cs ds))
+    on_err_anyway _ _ (subst (λ (ls : Lines). Leaves 0 ls (λ xs. Belongs xs c.args.solver.now) l0 l1) (sym (map-append Formula cs ds))
     (leaves_more (map Formula cs) (map Formula ds) (λ xs. Belongs xs c.args.solver.now) l0 l1 c.in_err-add_clauses.ensures.leaves))
 
 pub returns-clause-leaves : goal.returns-clause-leaves
@@ -53,8 +54,9 @@ returns-clause-leaves g c =
     let l2 = k.tells c.add_clauses-2.new.log in
     let xs = map Formula cs in
     on_err_weaker c.add_clauses-2.result _ _
-    (λ h. subst (λ (ls : Lines). Leaves ls (λ zs. Belongs zs c.args.solver.now) l0 l2) (sym (map-append Formula cs ds))
+    (λ h. subst (λ (ls : Lines). Leaves 0 ls (λ zs. Belongs zs c.args.solver.now) l0 l2) (sym (map-append Formula cs ds))
     (leaves_then (λ zs. Belongs zs c.args.solver.now) (λ zs. Belongs zs c.add_clauses.new.solver) l0 (k.tells c.add_clauses.new.log) l2
     (k.learnt c.args.log.now) (k.learnt c.add_clauses.new.log) (λ lines more. more ≡ xs) xs (map Formula ds) c.in_ok-add_clauses.ensures.lines
-    (λ lines more ka kb r. clause_lines_append lines more ∙ ap (λ (ls : Lines). clause_lines lines ++ ls) (ap clause_lines r ∙ formulas_are_clauses cs)) h))
+    (λ lines more ka kb r. clause_lines_append lines more ∙ ap (λ (ls : Lines). clause_lines lines ++ ls) (ap clause_lines r ∙ formulas_are_clauses cs))
+    (λ lines more ka kb r. few_formulas 0 cs lines more r) h))
     c.add_clauses-2.ensures.leaves

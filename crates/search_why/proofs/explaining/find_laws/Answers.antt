@@ -99,9 +99,10 @@ returns-in-Refuted-clause-leaves g c = let o = g.O.LawOracle in let t = g.O.LogT
     let a = c.args.oracle.now in
     let b = c.ask.new.self in
     let e = c.narrow.new.oracle in
-    on_err_weaker c.narrow.result (Leaves [] (t.knows b) (t.log b) (t.log e)) (Leaves [] (t.knows a) (t.log a) (t.log e))
+    on_err_weaker c.narrow.result (Leaves (o.task b).budget [] (t.knows b) (t.log b) (t.log e))
+    (Leaves (o.task a).budget [] (t.knows a) (t.log a) (t.log e))
     (left_later t.knows t.log t.learnt o.task a b e (λ lines more. TellsReply (o.task a) c.in_ok-d.field-0 lines more) c.in_ok-d.ensures.lines
-    g.met.O.LawOracle.gives c.in_ok-d.ensures.task) c.narrow.ensures.leaves
+    g.met.O.LawOracle.gives g.met.O.LawOracle.within c.in_ok-d.ensures.task) c.narrow.ensures.leaves
 
 pub returns-in-Stopped-clause-lines : goal.returns-in-Stopped-clause-lines
 returns-in-Stopped-clause-lines g c = let o = g.O.LawOracle in let teller = g.O.LogTeller in

@@ -66,7 +66,7 @@ loop-law-preserved g c = let o = g.O.LawOracle in let t = g.O.LogTeller in
 pub returns-in_err-stop-clause-leaves : goal.returns-in_err-stop-clause-leaves
 returns-in_err-stop-clause-leaves g c = let o = g.O.LawOracle in let t = g.O.LogTeller in
     on_err_anyway _ _ (left_later t.knows t.log t.learnt o.task c.args.oracle.now c.loop-law.oracle c.take_away.new.oracle AnyLines c.loop-law.invariant.lines
-    g.met.O.LawOracle.gives c.loop-law.invariant.task c.in_err-stop.ensures.leaves)
+    g.met.O.LawOracle.gives g.met.O.LawOracle.within c.loop-law.invariant.task c.in_err-stop.ensures.leaves)
 
 pub returns-in-Some-2-clause-lines : goal.returns-in-Some-2-clause-lines
 returns-in-Some-2-clause-lines g c = let o = g.O.LawOracle in let t = g.O.LogTeller in

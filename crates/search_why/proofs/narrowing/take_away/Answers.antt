@@ -30,14 +30,14 @@ returns-in_err-push-in-Found-clause-leaves g c = let o = g.O.LawOracle in let t 
     let p = o.task c.args.oracle.now in
     on_err_anyway _ _ (left_here t.knows t.log t.learnt o.task c.args.oracle.now c.ask.new.self (λ lines more. TellsReply p c.in_ok-d.field-0 lines more)
     c.in_ok-d.ensures.lines
-    g.met.O.LawOracle.gives c.in_ok-d.ensures.task g.O.LogTeller.derives g.O.LogTeller.one_reading)
+    g.met.O.LawOracle.gives g.met.O.LawOracle.within c.in_ok-d.ensures.task g.O.LogTeller.derives g.O.LogTeller.one_reading)
 
 pub returns-in_err-push-in-Found-2-clause-leaves : goal.returns-in_err-push-in-Found-2-clause-leaves
 returns-in_err-push-in-Found-2-clause-leaves g c = let o = g.O.LawOracle in let t = g.O.LogTeller in
     let p = o.task c.args.oracle.now in
     on_err_anyway _ _ (left_here t.knows t.log t.learnt o.task c.args.oracle.now c.ask.new.self (λ lines more. TellsReply p c.in_ok-d.field-0 lines more)
     c.in_ok-d.ensures.lines
-    g.met.O.LawOracle.gives c.in_ok-d.ensures.task g.O.LogTeller.derives g.O.LogTeller.one_reading)
+    g.met.O.LawOracle.gives g.met.O.LawOracle.within c.in_ok-d.ensures.task g.O.LogTeller.derives g.O.LogTeller.one_reading)
 
 pub returns-in-Found-clause-narrowed : goal.returns-in-Found-clause-narrowed
 returns-in-Found-clause-narrowed g c = λ e. let o = g.O.LawOracle in

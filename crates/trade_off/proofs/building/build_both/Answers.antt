@@ -81,5 +81,6 @@ returns-in-Whole-clause-leaves g c = let o = g.O.Oracle in let t = g.O.LogTeller
     let b = c.build_whole.new.oracle in
     on_err_weaker c.build_whole-in-Whole.result _ _ (both_left t.knows t.log t.learnt a b c.build_whole-in-Whole.new.oracle (o.task b) (o.task a) c.args.a
     c.args.b (o.vars a) (o.vars b) c.in_ok-build_whole.field-0
-    c.build_whole.ensures.task c.in-Whole.is (c.in_ok-build_whole.ensures.vars c.in-Whole.is) c.in_ok-build_whole.ensures.lines)
+    c.build_whole.ensures.task c.in-Whole.is (c.in_ok-build_whole.ensures.vars c.in-Whole.is) c.in_ok-build_whole.ensures.lines
+    (g.met.O.Oracle.within b))
     c.build_whole-in-Whole.ensures.leaves

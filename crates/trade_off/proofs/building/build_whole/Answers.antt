@@ -43,5 +43,6 @@ returns-clause-lines g c = let o = g.O.Oracle in let t = g.O.LogTeller in
 pub returns-in_err-built-clause-leaves : goal.returns-in_err-built-clause-leaves
 returns-in_err-built-clause-leaves g c = let o = g.O.Oracle in let t = g.O.LogTeller in
     let a = c.args.oracle.now in
-    on_err_anyway _ _ (subst (λ n. Leaves (sum_lines (o.task a).encoding (o.vars a) c.args.c n) (t.knows a) (t.log a) (t.log c.build.new.self))
+    on_err_anyway _ _ (subst (λ n. Leaves (o.task a).budget (sum_lines (o.task a).encoding (o.vars a) c.args.c n) (t.knows a) (t.log a)
+    (t.log c.build.new.self))
     c.greatest-most.ensures c.in_err-built.ensures.leaves)

@@ -93,6 +93,6 @@ returns-in_err-first-clause-leaves g c = let o = g.O.Oracle in
 pub returns-in-Pair-clause-leaves : goal.returns-in-Pair-clause-leaves
 returns-in-Pair-clause-leaves g c = let o = g.O.Oracle in let t = g.O.LogTeller in
     on_err_weaker c.further_pairs.result _ _ (asked_later t.knows t.log t.learnt c.args.oracle.now c.next_pair.new.oracle c.further_pairs.new.oracle
-    (o.task c.args.oracle.now) c.args.b []
+    (o.task c.next_pair.new.oracle) (o.task c.args.oracle.now) c.args.b []
     (EndsNext (o.task c.args.oracle.now) (AsksNext c.args.a c.args.b None (o.task c.args.oracle.now)) c.args.b c.in_ok-first.field-0)
-    c.in_ok-first.ensures.lines) c.further_pairs.ensures.leaves
+    c.in_ok-first.ensures.lines (g.met.O.Oracle.within c.next_pair.new.oracle) c.in_ok-first.ensures.task) c.further_pairs.ensures.leaves

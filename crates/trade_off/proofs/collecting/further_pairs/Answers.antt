@@ -150,17 +150,19 @@ returns-in_err-push-clause-leaves g c = let t = g.O.LogTeller in
 
 pub returns-in_err-n-clause-leaves : goal.returns-in_err-n-clause-leaves
 returns-in_err-n-clause-leaves g c = let o = g.O.Oracle in let t = g.O.LogTeller in
-    on_err_anyway _ _ (asked_later t.knows t.log t.learnt c.args.oracle.now c.loop-limit.oracle c.next_pair.new.oracle (o.task c.args.oracle.now)
-    c.args.b (under c.args.b (Some c.args.second))
-    (HasComeDown c.args.b (under c.args.b (Some c.loop-limit.limit))) c.loop-limit.invariant.lines c.in_err-n.ensures.leaves)
+    on_err_anyway _ _ (asked_later t.knows t.log t.learnt c.args.oracle.now c.loop-limit.oracle c.next_pair.new.oracle
+    (o.task c.loop-limit.oracle) (o.task c.args.oracle.now) c.args.b (under c.args.b (Some c.args.second))
+    (HasComeDown c.args.b (under c.args.b (Some c.loop-limit.limit))) c.loop-limit.invariant.lines (g.met.O.Oracle.within c.loop-limit.oracle)
+    c.loop-limit.invariant.task c.in_err-n.ensures.leaves)
 
 pub returns-in_err-push-in-Pair-clause-leaves : goal.returns-in_err-push-in-Pair-clause-leaves
 returns-in_err-push-in-Pair-clause-leaves g c = let o = g.O.Oracle in let t = g.O.LogTeller in
-    on_err_anyway _ _ (asked_later t.knows t.log t.learnt c.args.oracle.now c.loop-limit.oracle c.next_pair.new.oracle (o.task c.args.oracle.now)
-    c.args.b (under c.args.b (Some c.args.second))
+    on_err_anyway _ _ (asked_later t.knows t.log t.learnt c.args.oracle.now c.loop-limit.oracle c.next_pair.new.oracle
+    (o.task c.loop-limit.oracle) (o.task c.args.oracle.now) c.args.b (under c.args.b (Some c.args.second))
     (HasComeDown c.args.b (under c.args.b (Some c.loop-limit.limit))) c.loop-limit.invariant.lines
-    (asked_here t.knows t.log t.learnt c.loop-limit.oracle c.next_pair.new.oracle (o.task c.loop-limit.oracle)
+    (g.met.O.Oracle.within c.loop-limit.oracle) c.loop-limit.invariant.task
+    (asked_here t.knows t.log t.learnt c.loop-limit.oracle c.next_pair.new.oracle (o.task c.next_pair.new.oracle) (o.task c.loop-limit.oracle)
     c.args.b (under c.args.b (Some c.loop-limit.limit))
     (EndsNext (o.task c.loop-limit.oracle) (AsksNext c.args.a c.args.b (Some c.loop-limit.limit) (o.task c.loop-limit.oracle)) c.args.b c.in_ok-n.field-0)
-    c.in_ok-n.ensures.lines
+    c.in_ok-n.ensures.lines (g.met.O.Oracle.within c.next_pair.new.oracle) c.in_ok-n.ensures.task
     (g.O.LogTeller.derives c.next_pair.new.oracle) (g.O.LogTeller.one_reading c.next_pair.new.oracle)))

@@ -145,4 +145,5 @@ returns-in_err-first-clause-leaves g c = let o = g.O.Oracle in
 pub returns-in-Found-clause-leaves : goal.returns-in-Found-clause-leaves
 returns-in-Found-clause-leaves g c = let o = g.O.Oracle in let t = g.O.LogTeller in
     on_err_weaker c.pair_from.result _ _ (replied_later t.knows t.log t.learnt c.args.oracle.now c.ask.new.self c.pair_from.new.oracle
-    (o.task c.args.oracle.now) c.deref.result.now c.in_ok-first.field-0 c.in_ok-first.ensures.lines) c.pair_from.ensures.leaves
+    (o.task c.ask.new.self) (o.task c.args.oracle.now) c.deref.result.now c.in_ok-first.field-0 c.in_ok-first.ensures.lines
+    (g.met.O.Oracle.within c.ask.new.self) c.in_ok-first.ensures.task) c.pair_from.ensures.leaves

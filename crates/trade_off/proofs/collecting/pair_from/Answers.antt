@@ -89,7 +89,8 @@ returns-clause-lines g c = let o = g.O.Oracle in let teller = g.O.LogTeller in
     (subst (λ (hs : List Below). AskNoLess b hs (lowered bounds a c.args.first)) held
     (no_less_with b bounds (below_limit a (value_of (values_of c.args.first) a) ∷ [])))
     (λ lines h. come_down b (lowered bounds a d) mid lines (no_less_other b bounds a d mid c.requires.apart low) h)
-    (subst (λ (x : Option Stop). Continues teller.knows teller.log teller.learnt s t (AreAsked p b (lowered bounds a c.args.first) (EndsLowered p bounds a b d x)))
+    (subst (λ (x : Option Stop). Continues teller.knows teller.log teller.learnt s t
+    (AreAsked p b (lowered bounds a c.args.first) (EndsLowered p bounds a b d x)))
     c.in-None.is (c.in_ok-lowered.ensures.lines b)) in
     IfOk-weaker c.second_from.result
     (λ r. Continues teller.knows teller.log teller.learnt t e (AreAsked (o.task t) b mid (EndsNext (o.task t) (AsksSecond a b d (o.task t)) b r)))
@@ -122,7 +123,7 @@ returns-in_err-lowered-clause-leaves g c = let o = g.O.Oracle in
 pub returns-clause-leaves : goal.returns-clause-leaves
 returns-clause-leaves g c = let o = g.O.Oracle in let t = g.O.LogTeller in
     on_err_weaker c.second_from.result _ _ (asked_later t.knows t.log t.learnt c.args.oracle.now c.lower.new.oracle c.second_from.new.oracle
-    (o.task c.args.oracle.now) c.args.b (lowered c.deref.result.now c.args.a c.args.first)
+    (o.task c.lower.new.oracle) (o.task c.args.oracle.now) c.args.b (lowered c.deref.result.now c.args.a c.args.first)
     (EndsLowered (o.task c.args.oracle.now) c.deref.result.now c.args.a c.args.b c.in_ok-lowered.lowered.least c.in_ok-lowered.lowered.stop)
-    (c.in_ok-lowered.ensures.lines c.args.b))
+    (c.in_ok-lowered.ensures.lines c.args.b) (g.met.O.Oracle.within c.lower.new.oracle) c.in_ok-lowered.ensures.task)
     c.second_from.ensures.leaves

@@ -162,12 +162,14 @@ returns-clause-lines g c = let o = g.O.Oracle in let t = g.O.LogTeller in
 
 pub returns-in_err-bounds-clause-leaves : goal.returns-in_err-bounds-clause-leaves
 returns-in_err-bounds-clause-leaves g c = let o = g.O.Oracle in let t = g.O.LogTeller in
-    on_err_anyway _ _ (asked_here t.knows t.log t.learnt c.args.oracle.now c.loop-value.oracle (o.task c.args.oracle.now) c.args.c
+    on_err_anyway _ _ (asked_here t.knows t.log t.learnt c.args.oracle.now c.loop-value.oracle (o.task c.loop-value.oracle) (o.task c.args.oracle.now) c.args.c
     (lowered c.args.held.now c.args.c c.args.first) (HasComeDown c.args.c (lowered c.args.held.now c.args.c c.loop-value.least))
-    (c.loop-value.invariant.lines c.args.c) (g.O.LogTeller.derives c.loop-value.oracle) (g.O.LogTeller.one_reading c.loop-value.oracle))
+    (c.loop-value.invariant.lines c.args.c) (g.met.O.Oracle.within c.loop-value.oracle) c.loop-value.invariant.task
+    (g.O.LogTeller.derives c.loop-value.oracle) (g.O.LogTeller.one_reading c.loop-value.oracle))
 
 pub returns-in_err-d-clause-leaves : goal.returns-in_err-d-clause-leaves
 returns-in_err-d-clause-leaves g c = let o = g.O.Oracle in let t = g.O.LogTeller in
-    on_err_anyway _ _ (asked_later t.knows t.log t.learnt c.args.oracle.now c.loop-value.oracle c.ask.new.self (o.task c.args.oracle.now) c.args.c
+    on_err_anyway _ _ (asked_later t.knows t.log t.learnt c.args.oracle.now c.loop-value.oracle c.ask.new.self (o.task c.loop-value.oracle)
+    (o.task c.args.oracle.now) c.args.c
     (lowered c.args.held.now c.args.c c.args.first) (HasComeDown c.args.c (lowered c.args.held.now c.args.c c.loop-value.least))
-    (c.loop-value.invariant.lines c.args.c) c.in_err-d.ensures.leaves)
+    (c.loop-value.invariant.lines c.args.c) (g.met.O.Oracle.within c.loop-value.oracle) c.loop-value.invariant.task c.in_err-d.ensures.leaves)

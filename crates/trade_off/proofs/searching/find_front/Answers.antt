@@ -3,7 +3,8 @@ use Rattle.std.specs.Prelude.{IfOk}
 use Rattle.std.proofs.lemmas.Result.{IfOk-weaker}
 use Rattle.search_least.specs.Task.{Task, IsLawful, greatest_of}
 use Rattle.search_least.specs.Outcome.{first_lines}
-use Rattle.refute_log.specs.Steps.{ToldBehind, Continues}
+use Rattle.search_least.proofs.LeftLemmas.{IsSpentWithin}
+use Rattle.refute_log.specs.Steps.{ToldBehind, Continues, Leaves}
 use Rattle.trade_off.specs.Front.{IsFrontUpTo}
 use Rattle.trade_off.specs.Least.{AreAsked}
 use Rattle.trade_off.specs.Outcome.{IsRightFront, IsFrontLog, IsBuiltFront, EndsFront}
@@ -68,7 +69,8 @@ returns-in-Whole-clause-lines g c = let o = g.O.Oracle in let teller = g.O.LogTe
     (λ r. Continues teller.knows teller.log teller.learnt t e (AreAsked (o.task t) c.args.b [] (EndsFront (o.task t) c.args.a c.args.b r.pairs r.ending)))
     (λ r. ToldBehind (teller.knows e) (teller.log s) (teller.log e) (teller.learnt s) (teller.learnt e) (first_lines p)
     (λ more. IsFrontLog p c.args.a c.args.b r.pairs r.ending (first_lines p ++ more)))
-    (λ r h. tells_front teller.knows teller.log teller.learnt s t e (o.task t) p c.args.a c.args.b r.pairs c.in_ok-build_both.field-0 r.ending c.build_both.ensures.task
+    (λ r h. tells_front teller.knows teller.log teller.learnt s t e (o.task t) p c.args.a c.args.b r.pairs c.in_ok-build_both.field-0 r.ending
+    c.build_both.ensures.task
     c.in-Whole.is
     (laws_at teller.knows e (o.task e) p (c.collect.ensures.task ∙ c.build_both.ensures.task)
     (record {
@@ -86,11 +88,15 @@ pub returns-in_err-build_both-clause-left : goal.returns-in_err-build_both-claus
 returns-in_err-build_both-clause-left g c = let o = g.O.Oracle in let t = g.O.LogTeller in
     let s = c.args.oracle.now in
     on_err_anyway _ _ (build_left t.knows t.log s c.build_both.new.oracle (o.task s) c.args.a c.args.b (o.vars s) c.requires.fresh.vars_are c.requires.start
-    c.in_err-build_both.ensures.leaves)
+    (g.met.O.Oracle.within s) c.in_err-build_both.ensures.leaves)
 
 pub returns-in-Whole-clause-left : goal.returns-in-Whole-clause-left
 returns-in-Whole-clause-left g c = let o = g.O.Oracle in let teller = g.O.LogTeller in
     let s = c.args.oracle.now in
     let t = c.build_both.new.oracle in
-    on_err_weaker c.collect.result _ _ (collect_left teller.knows teller.log teller.learnt s t c.collect.new.oracle (o.task s) c.args.a c.args.b c.in_ok-build_both.field-0
-    c.in-Whole.is c.requires.start c.in_ok-build_both.ensures.lines) c.collect.ensures.leaves
+    on_err_weaker c.collect.result _ _ (λ leaves. collect_left teller.knows teller.log teller.learnt s t c.collect.new.oracle (o.task s) c.args.a c.args.b
+    c.in_ok-build_both.field-0
+    c.in-Whole.is c.requires.start c.in_ok-build_both.ensures.lines
+    (subst (λ (x : Task). IsSpentWithin x (teller.knows t)) c.in_ok-build_both.ensures.task (g.met.O.Oracle.within t))
+    (subst (λ (x : Task). Leaves x.budget [] (teller.knows t) (teller.log t) (teller.log c.collect.new.oracle)) c.in_ok-build_both.ensures.task leaves))
+    c.collect.ensures.leaves
