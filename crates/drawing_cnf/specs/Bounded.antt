@@ -12,7 +12,7 @@ use Rattle.plan_core.specs.Lawful.{Lawful}
 use Rattle.cnf_core.specs.Clause.{Clauses}
 use Rattle.cnf_core.specs.Assignment.{Assignment, SatisfiesAll}
 use Rattle.cnf_laws.specs.Stands.{DrawingVars, StandsFor}
-use Rattle.cnf_laws.specs.Expected.{drawing_vars, formula_clauses, formula_size}
+use Rattle.cnf_laws.specs.Expected.{drawing_vars, formula_clauses, formula_size, parts}
 use Rattle.drawing_cnf.specs.Bounds.{IsExact, bound_clauses, bound_size}
 
 -- a criterion's bound: variable last + k says "at least k", for k from 1 to the cap
@@ -36,6 +36,14 @@ size_of_bound g x grid b = bound_size g x grid b.last b.cap b.criterion
 -- how many literals the longest clause of a bound has at most
 abbrev pub longest_of_bound : Graph → GridSize → ℕ
 longest_of_bound g grid = length g.edges * (grid.width + 1) + length g.nodes + 3
+
+-- how many words the clauses of a bound up to this cap have at most, where the graph has a node or an edge
+abbrev pub most_words_of_bound : Graph → GridSize → ℕ → ℕ
+most_words_of_bound g grid cap = 400 * (parts g * (grid.width + 1) * (cap + 2))
+
+-- how many variables it has at most there
+abbrev pub most_size_of_bound : Graph → GridSize → ℕ → ℕ
+most_size_of_bound g grid cap = 40 * (parts g * (grid.width + 1) * (cap + 2))
 
 abbrev pub bounds_clauses : Graph → DrawingVars → GridSize → List Bound → Clauses
 bounds_clauses g x grid bounds = flat_map (clauses_of_bound g x grid) bounds

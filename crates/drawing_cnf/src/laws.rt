@@ -1,15 +1,21 @@
 // Laws of the definitions that compute: where nodes and edges stand, and bounds behind a formula. Each function does
 // nothing: its contract is the law.
-ghost use Rattle.std.specs.Prelude.{◌≡◌, ◌≤◌, ◌<◌, ℕ, Bool, List, [], ◌∷◌, ◌++◌, length, All, AllPairs, Contains};
+ghost use Rattle.std.specs.Prelude.{◌≡◌, ◌≤◌, ◌<◌, ◌+◌, ℕ, Bool, List, [], ◌∷◌, ◌++◌, length, All, AllPairs, Contains};
 ghost use Rattle.plan_core.specs.declared.criterion.Criterion.{Criterion};
-ghost use Rattle.plan_core.specs.Grid.{GridSize};
+ghost use Rattle.plan_core.specs.Grid.{GridSize, IsGrid};
 ghost use Rattle.plan_core.specs.Graph.{Graph};
-ghost use Rattle.cnf_core.specs.Clause.{words_of};
+ghost use Rattle.plan_core.specs.Values.{limit_of};
+ghost use Rattle.cnf_core.specs.declared.limits.TheConstants.{VARS};
+ghost use Rattle.cnf_core.specs.Lit.{negative_of};
+ghost use Rattle.cnf_core.specs.Clause.{words_of, IsNamed};
 ghost use Rattle.track_order.specs.Order.{is_above, is_overlap};
 ghost use Rattle.cnf_laws.specs.Rank.{LiesBefore, west_rank};
-ghost use Rattle.drawing_cnf.specs.Bounds.{west_first, BeginsBefore};
-ghost use Rattle.cnf_laws.specs.Expected.{formula_clauses, formula_size};
-ghost use Rattle.drawing_cnf.specs.Bounded.{expected_bounds, expected};
+ghost use Rattle.drawing_cnf.specs.Bounds.{west_first, BeginsBefore, reach_of};
+ghost use Rattle.cnf_laws.specs.Stands.{DrawingVars};
+ghost use Rattle.cnf_laws.specs.Expected.{formula_clauses, formula_size, parts};
+ghost use Rattle.drawing_cnf.specs.Bounded.{Bound, clauses_of_bound, size_of_bound, most_words_of_bound};
+ghost use Rattle.drawing_cnf.specs.Bounded.{most_size_of_bound, expected_bounds, expected};
+ghost use Rattle.drawing_cnf.specs.Behind.{bound_behind, clauses_behind};
 ghost use Rattle.drawing_cnf.specs.Encoding.{Encoding};
 ghost use Rattle.drawing_cnf.specs.Whole.{expected_last, one_bound_more, HasBoundsOf, IsWhole};
 
@@ -38,6 +44,21 @@ pub fn one_criterion_more()
     ensures skipped { (g : Graph) (above overlap : ℕ → ℕ → Bool) (grid : GridSize) (cs : List Criterion)
         (k : Criterion → ℕ) (c : Criterion) → k c ≡ 0 → expected_bounds g above overlap grid (cs ++ c ∷ []) k
         ≡ expected_bounds g above overlap grid cs k }
+{}
+
+/// A bound has few words and few variables, where the graph has a node or an edge. Its clauses name each of its
+/// variables. Where the value can't go so far, a clause of one literal makes the variable false.
+pub fn bounds_are_small_and_named()
+    ensures words { (g : Graph) (x : DrawingVars) (grid : GridSize) (b : Bound) → 1 ≤ parts g →
+        words_of (clauses_of_bound g x grid b) ≤ most_words_of_bound g grid b.cap }
+    ensures vars { (g : Graph) (x : DrawingVars) (grid : GridSize) (b : Bound) → 1 ≤ parts g →
+        size_of_bound g x grid b ≤ most_size_of_bound g grid b.cap }
+    ensures named { (e : Encoding) (c : Criterion) (cap k : ℕ) → IsWhole e → IsGrid e.grid → e.formula.vars ≤ VARS →
+        cap ≤ limit_of e.graph e.grid c → 1 ≤ k → k ≤ cap →
+        IsNamed (clauses_behind e (bound_behind e c cap)) (e.formula.vars + k) }
+    ensures forced { (g : Graph) (x : DrawingVars) (grid : GridSize) (b : Bound) (k : ℕ) →
+        b.cap ≤ limit_of g grid b.criterion → 1 ≤ k → k ≤ b.cap → reach_of g grid b.criterion < k →
+        Contains (clauses_of_bound g x grid b) (negative_of (b.last + k) ∷ []) }
 {}
 
 /// A whole formula with the bounds of an order has just the clauses and variables that there are for the order.

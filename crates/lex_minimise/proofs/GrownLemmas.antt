@@ -35,7 +35,8 @@ use Rattle.search_least.specs.Built.{IsBuild, AreBuiltTo}
 use Rattle.lex_minimise.specs.Known.{told_clauses, with_bound, no_caps, caps_of, AreTold, KnowsLines, IsReady}
 use Rattle.lex_minimise.specs.Task.{task_of}
 use Rattle.lex_minimise.specs.Told.{HasTaken}
-use Rattle.lex_minimise.specs.Grown.{clauses_behind, size_behind, HasGrown, IsGrown}
+use Rattle.drawing_cnf.specs.Behind.{clauses_behind, size_behind, HasGrown}
+use Rattle.lex_minimise.specs.Grown.{IsGrown}
 use Rattle.lex_minimise.proofs.CoverLemmas.{known_lines}
 use Rattle.lex_minimise.proofs.GrowLemmas.{clauses_more, told_more, told_are_more, bounds_belong, formula_count, block_count}
 use Rattle.lex_minimise.proofs.TellLemmas.{goes_weaker}

@@ -35,7 +35,8 @@ use Rattle.drawing_cnf.proofs.ListLemmas.{sum_is_bound}
 use Rattle.trade_off.specs.Outcome.{front_lines, IsFrontLeft}
 use Rattle.lex_minimise.specs.Known.{KnowsLines, IsReady}
 use Rattle.lex_minimise.specs.Task.{task_of}
-use Rattle.lex_minimise.specs.Grown.{HasGrown, IsGrown}
+use Rattle.drawing_cnf.specs.Behind.{HasGrown}
+use Rattle.lex_minimise.specs.Grown.{IsGrown}
 use Rattle.lex_minimise.proofs.TellLemmas.{told_next}
 use Rattle.lex_minimise.proofs.GrowLemmas.{formula_count, block_count}
 use Rattle.lex_minimise.proofs.StartLemmas.{IsFirst, first_does}

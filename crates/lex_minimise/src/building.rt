@@ -7,9 +7,9 @@ ghost use Rattle.cnf_core.specs.declared.limits.TheConstants.{VARS};
 ghost use Rattle.cnf_core.specs.Clause.{words_of};
 ghost use Rattle.refute_log.specs.declared.line.LogLine.TheVariants.{Formula as FormulaLine};
 ghost use Rattle.refute_log.specs.Expected.{sum_lines};
-ghost use Rattle.drawing_cnf.specs.Bounded.{bound};
 ghost use Rattle.drawing_cnf.specs.Whole.{IsWhole};
 ghost use Rattle.drawing_cnf.specs.Lists.{lines_behind};
+ghost use Rattle.drawing_cnf.specs.Behind.{bound_behind, PassesWith, HasGrown};
 ghost use Rattle.cdcl_core.specs.Kept.{with_more_vars};
 ghost use Rattle.cdcl_core.specs.Belongs.{Belongs};
 ghost use Rattle.search_least.specs.declared.oracle.Built.TheVariants.{Whole as AllOfThem};
@@ -18,7 +18,7 @@ ghost use Rattle.drawing_cnf.specs.Layout.{layout_of};
 ghost use Rattle.lex_minimise.specs.Known.{caps_of};
 ghost use Rattle.refute_log.specs.Steps.{GoesOn, Leaves};
 ghost use Rattle.lex_minimise.specs.Told.{HasTaken};
-ghost use Rattle.lex_minimise.specs.Grown.{PassesWith, HasGrown, IsGrown};
+ghost use Rattle.lex_minimise.specs.Grown.{IsGrown};
 ghost use Rattle.lex_minimise.specs.Search.{task_with, IsReadyWith, KnowsWith};
 
 use crate::search::Known;
@@ -71,7 +71,7 @@ fn bounds_for(known: &mut Known, c: Criterion, cap: u32) -> Result<Option<Bounds
     ensures told { known.new.told.items ≡ known.old.told.items }
     ensures budget { known.new.budget ≡ known.old.budget }
     ensures room { known.new.room ≡ known.old.room }
-    ensures bounds { let b = bound c known.old.encoded.formula.vars cap in
+    ensures bounds { let b = bound_behind known.old.encoded c cap in
         IfOk result (λ o. MatchOption o (PassesWith known.old.encoded b)
         (λ a. (a ≡ b) × HasGrown known.old.encoded known.new.encoded b)) }
     ensures cause { IsErrOf result MinFault.Log → ⊥ }

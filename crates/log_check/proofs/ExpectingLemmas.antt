@@ -21,7 +21,8 @@ use Rattle.refute_log.specs.Log.{given}
 use Rattle.refute_log.specs.Expected.{Problem, bound_lines, sum_lines, sum_vars_of, sums, vars_after, expected_lines, expected_vars}
 use Rattle.refute_check.proofs.JudgeLemmas.{take_next}
 use Rattle.drawing_cnf.specs.Expected.{formula_clauses, formula_size}
-use Rattle.drawing_cnf.specs.Bounded.{bound, clauses_of_bound, size_of_bound}
+use Rattle.drawing_cnf.specs.Bounded.{bound}
+use Rattle.drawing_cnf.specs.Behind.{bound_behind, clauses_behind, size_behind, PassesWith, HasGrown}
 use Rattle.drawing_cnf.specs.Encoding.{Encoding, encoded_vars}
 use Rattle.drawing_cnf.specs.Whole.{IsWhole}
 use Rattle.drawing_cnf.specs.Lists.{variables_behind, lines_of_bound}
@@ -220,19 +221,8 @@ expecting_skipped y xs c cap e parts none h =
 
 -- what a call that adds a criterion's bounds leaves
 pub record AddsBounds (e f : Encoding) (parts behind : List Part) (c : Criterion) (cap : ℕ) : Type 0 where
-  pub graph : f.graph ≡ e.graph
-  pub order : f.order ≡ e.order
-  pub grid : f.grid ≡ e.grid
-  pub room : f.formula.room ≡ e.formula.room
-  pub whole : IsWhole f
-  pub clauses : f.formula.clauses ≡ e.formula.clauses ++ clauses_of_bound e.graph (encoded_vars e) e.grid (bound c e.formula.vars cap)
-  pub vars : f.formula.vars ≡ e.formula.vars + size_of_bound e.graph (encoded_vars e) e.grid (bound c e.formula.vars cap)
-  pub few : e.formula.vars + cap ≤ VARS
+  pub grown : HasGrown e f (bound_behind e c cap)
   pub parts_are : behind ≡ parts ++ ClausesTo (length f.formula.clauses) ∷ Bounds c e.formula.vars cap ∷ []
-
-layout_same : (e f : Encoding) → f.graph ≡ e.graph → f.order ≡ e.order → f.grid ≡ e.grid → layout_of f ≡ layout_of e
-layout_same e f eg eo ed =
-    ap (λ (g : Graph). layout g f.order f.grid) eg ∙ ap (λ (o : EdgeOrder). layout e.graph o f.grid) eo ∙ ap (λ (d : GridSize). layout e.graph e.order d) ed
 
 sum_of : (e : Encoding) (v : ℕ) (c : Criterion) (cap : ℕ) → 1 ≤ cap →
     sum_lines (problem_of (layout_of e)) v c cap ≡ lines_of_bound e.graph (encoded_vars e) e.grid (bound c v cap)
@@ -241,19 +231,18 @@ sum_of e v c cap some = sum_is_bound e.graph (is_above e.order) (is_overlap e.or
 added_clauses : (e : Encoding) (xs : List Criterion) (c : Criterion) (cap : Criterion → ℕ) → 1 ≤ cap c →
     e.formula.vars ≡ expected_vars (problem_of (layout_of e)) xs cap →
     flat_map given (expected_lines (problem_of (layout_of e)) (xs ++ c ∷ []) cap)
-    ≡ flat_map given (expected_lines (problem_of (layout_of e)) xs cap) ++ clauses_of_bound e.graph (encoded_vars e) e.grid (bound c e.formula.vars (cap c))
+    ≡ flat_map given (expected_lines (problem_of (layout_of e)) xs cap) ++ clauses_behind e (bound_behind e c (cap c))
 added_clauses e xs c cap some vars =
     let p = problem_of (layout_of e) in
     let front = expected_lines p xs cap in
     ap (flat_map given) (expected_more p xs c cap) ∙ flat_map-append given front (sum_lines p (expected_vars p xs cap) c (cap c))
     ∙ ap (λ n. flat_map given front ++ flat_map given (sum_lines p n c (cap c))) (sym vars)
     ∙ ap (λ (ls : Lines). flat_map given front ++ flat_map given ls) (sum_of e e.formula.vars c (cap c) some)
-    ∙ ap (λ (cs : Clauses). flat_map given front ++ cs) (given_bound e.graph (encoded_vars e) e.grid (bound c e.formula.vars (cap c)))
+    ∙ ap (λ (cs : Clauses). flat_map given front ++ cs) (given_bound e.graph (encoded_vars e) e.grid (bound_behind e c (cap c)))
 
 added_vars : (e : Encoding) (xs : List Criterion) (c : Criterion) (cap : Criterion → ℕ) → 1 ≤ cap c →
     e.formula.vars ≡ expected_vars (problem_of (layout_of e)) xs cap →
-    expected_vars (problem_of (layout_of e)) (xs ++ c ∷ []) cap ≡ e.formula.vars + size_of_bound e.graph (encoded_vars e) e.grid
-    (bound c e.formula.vars (cap c))
+    expected_vars (problem_of (layout_of e)) (xs ++ c ∷ []) cap ≡ e.formula.vars + size_behind e (bound_behind e c (cap c))
 added_vars e xs c cap some vars =
     let p = problem_of (layout_of e) in
     vars_more p xs c cap ∙ ap (λ n. n + sum_vars_of p n c (cap c)) (sym vars)
@@ -265,11 +254,11 @@ added_lines : (e f : Encoding) (parts behind : List Part) (xs : List Criterion) 
 added_lines e f parts behind xs c cap some a h =
     let p = problem_of (layout_of e) in
     let cs = e.formula.clauses in
-    let more = clauses_of_bound e.graph (encoded_vars e) e.grid (bound c e.formula.vars (cap c)) in
+    let more = clauses_behind e (bound_behind e c (cap c)) in
     let two : List Part = ClausesTo (length (cs ++ more)) ∷ Bounds c e.formula.vars (cap c) ∷ [] in
     let parts_are : behind ≡ parts ++ two = a.parts_are ∙ ap (λ (ds : Clauses). parts ++ ClausesTo (length ds) ∷ Bounds c e.formula.vars (cap c) ∷ [])
-    a.clauses in
-    ap (λ (ds : Clauses). lines_from ds behind 0 0) a.clauses ∙ ap (λ (ps : List Part). lines_from (cs ++ more) ps 0 0) parts_are
+    a.grown.clauses in
+    ap (λ (ds : Clauses). lines_from ds behind 0 0) a.grown.clauses ∙ ap (λ (ps : List Part). lines_from (cs ++ more) ps 0 0) parts_are
     ∙ lines_append (cs ++ more) parts two 0
     ∙ ap (λ (ls : Lines). ls ++ lines_from (cs ++ more) two (clause_after parts 0) 0) (lines_longer cs more parts 0 0 h.each ∙ h.lines)
     ∙ ap (λ n. expected_lines p xs cap ++ lines_from (cs ++ more) two n 0) h.after
@@ -282,18 +271,20 @@ pub expecting_added : (e f : Encoding) (parts behind : List Part) (xs : List Cri
     IsExpecting (layout_of e) (xs ++ c ∷ []) cap f behind
 expecting_added e f parts behind xs c cap some a h =
     let cs = e.formula.clauses in
-    let more = clauses_of_bound e.graph (encoded_vars e) e.grid (bound c e.formula.vars (cap c)) in
+    let more = clauses_behind e (bound_behind e c (cap c)) in
     let two : List Part = ClausesTo (length f.formula.clauses) ∷ Bounds c e.formula.vars (cap c) ∷ [] in
+    let few = a.grown.few in
+    let there = a.grown.there in
     let last : AreParts f.formula.clauses two =
     All-cons (IsPart f.formula.clauses) (ClausesTo (length f.formula.clauses)) (Bounds c e.formula.vars (cap c) ∷ []) (omega arith)
-    (All-cons (IsPart f.formula.clauses) (Bounds c e.formula.vars (cap c)) [] a.few (All-nil (IsPart f.formula.clauses))) in
-    let first : AreParts f.formula.clauses parts = subst (λ (ds : Clauses). AreParts ds parts) (sym a.clauses) (parts_longer cs more parts h.each) in
+    (All-cons (IsPart f.formula.clauses) (Bounds c e.formula.vars (cap c)) [] (omega (arith, few, there)) (All-nil (IsPart f.formula.clauses))) in
+    let first : AreParts f.formula.clauses parts = subst (λ (ds : Clauses). AreParts ds parts) (sym a.grown.clauses) (parts_longer cs more parts h.each) in
     record {
-      layout = layout_same e f a.graph a.order a.grid;
-      whole = a.whole;
-      room = a.room ∙ h.room;
-      vars = a.vars ∙ sym (added_vars e xs c cap some h.vars);
-      clauses = a.clauses ∙ ap (λ (ds : Clauses). ds ++ more) h.clauses ∙ sym (added_clauses e xs c cap some h.vars);
+      layout = a.grown.layout;
+      whole = a.grown.whole;
+      room = a.grown.room ∙ h.room;
+      vars = a.grown.vars ∙ sym (added_vars e xs c cap some h.vars);
+      clauses = a.grown.clauses ∙ ap (λ (ds : Clauses). ds ++ more) h.clauses ∙ sym (added_clauses e xs c cap some h.vars);
       each = subst (AreParts f.formula.clauses) (sym a.parts_are) (parts_append f.formula.clauses parts two first last);
       after = ap (λ (ps : List Part). clause_after ps 0) a.parts_are ∙ after_append parts two 0;
       lines = added_lines e f parts behind xs c cap some a h;
@@ -302,13 +293,10 @@ expecting_added e f parts behind xs c cap some a h =
 -- no room for them
 pub passes_added : (e : Encoding) (parts : List Part) (xs : List Criterion) (c : Criterion) (cap : Criterion → ℕ) → 1 ≤ cap c →
     IsExpecting (layout_of e) xs cap e parts →
-    let b = bound c e.formula.vars (cap c) in
-    (VARS < e.formula.vars + size_of_bound e.graph (encoded_vars e) e.grid b) ⊎ (e.formula.room < words_of
-    (e.formula.clauses ++ clauses_of_bound e.graph (encoded_vars e) e.grid b)) →
-    PassesLimits (expectation (layout_of e) (xs ++ c ∷ []) cap)
+    PassesWith e (bound_behind e c (cap c)) → PassesLimits (expectation (layout_of e) (xs ++ c ∷ []) cap)
 passes_added e parts xs c cap some h (inl many) = inl (subst (λ n. VARS < n) (sym (added_vars e xs c cap some h.vars)) many)
 passes_added e parts xs c cap some h (inr words) =
-    let more = clauses_of_bound e.graph (encoded_vars e) e.grid (bound c e.formula.vars (cap c)) in
+    let more = clauses_behind e (bound_behind e c (cap c)) in
     let same : flat_map given (expected_lines (problem_of (layout_of e)) (xs ++ c ∷ []) cap) ≡ e.formula.clauses ++ more =
     added_clauses e xs c cap some h.vars ∙ ap (λ (ds : Clauses). ds ++ more) (sym h.clauses) in
     inr (subst (λ (ds : Clauses). ROOM < words_of ds) (sym same) (subst (λ n. n < words_of (e.formula.clauses ++ more)) h.room words))
@@ -333,15 +321,10 @@ place_added e f parts behind order i c n cap at is some a h =
 
 pub place_passes : (e : Encoding) (parts : List Part) (order : List Criterion) (i : ℕ) (c : Criterion) (n : ℕ) (cap : Criterion → ℕ) →
     slice_get order i ≡ Some c → n ≡ cap c → 1 ≤ n → IsExpecting (layout_of e) (take i order) cap e parts →
-    let b = bound c e.formula.vars n in
-    (VARS < e.formula.vars + size_of_bound e.graph (encoded_vars e) e.grid b) ⊎ (e.formula.room < words_of
-    (e.formula.clauses ++ clauses_of_bound e.graph (encoded_vars e) e.grid b)) →
-    PassesLimits (expectation (layout_of e) (take (i + 1) order) cap)
+    PassesWith e (bound_behind e c n) → PassesLimits (expectation (layout_of e) (take (i + 1) order) cap)
 place_passes e parts order i c n cap at is some h passes =
-    let P : ℕ → Type 0 = λ m. (VARS < e.formula.vars + size_of_bound e.graph (encoded_vars e) e.grid (bound c e.formula.vars m)) ⊎
-    (e.formula.room < words_of (e.formula.clauses ++ clauses_of_bound e.graph (encoded_vars e) e.grid (bound c e.formula.vars m))) in
     subst (λ (cs : List Criterion). PassesLimits (expectation (layout_of e) cs cap)) (next_place order i c at)
-    (passes_added e parts (take i order) c cap (subst (λ m. 1 ≤ m) is some) h (subst P is passes))
+    (passes_added e parts (take i order) c cap (subst (λ m. 1 ≤ m) is some) h (subst (λ m. PassesWith e (bound_behind e c m)) is passes))
 
 -- where some places pass the limits, the whole order does
 pub front_passes : (y : Layout) (order : List Criterion) (i : ℕ) (cap : Criterion → ℕ) → PassesLimits (expectation y (take i order) cap) →
@@ -385,21 +368,8 @@ first_part cs old new n none more is = more ∙ ap (λ (ps : List Part). ps ++ C
 -- a place, by how the call that adds its bounds ends
 pub place_added_on : (r : Result Unit CnfFault) (e f : Encoding) (parts behind : List Part) (order : List Criterion) (i : ℕ) (c : Criterion) (n : ℕ)
     (cap : Criterion → ℕ) → slice_get order i ≡ Some c → n ≡ cap c → 1 ≤ n →
-    f.graph ≡ e.graph → f.order ≡ e.order → f.grid ≡ e.grid → f.formula.room ≡ e.formula.room → OnOk r (IsWhole f) →
-    OnOk r (f.formula.clauses ≡ e.formula.clauses ++ clauses_of_bound e.graph (encoded_vars e) e.grid (bound c e.formula.vars n)) →
-    OnOk r (f.formula.vars ≡ e.formula.vars + size_of_bound e.graph (encoded_vars e) e.grid (bound c e.formula.vars n)) →
-    OnOk r (e.formula.vars + n ≤ VARS) → OnOk r (behind ≡ parts ++ ClausesTo (length f.formula.clauses) ∷ Bounds c e.formula.vars n ∷ []) →
+    OnOk r (HasGrown e f (bound_behind e c n)) → OnOk r (behind ≡ parts ++ ClausesTo (length f.formula.clauses) ∷ Bounds c e.formula.vars n ∷ []) →
     IsExpecting (layout_of e) (take i order) cap e parts → OnOk r (IsExpecting (layout_of e) (take (i + 1) order) cap f behind)
-place_added_on (Ok u) e f parts behind order i c n cap at is some g o d room whole clauses vars few told h =
-    place_added e f parts behind order i c n cap at is some (record {
-      graph = g;
-      order = o;
-      grid = d;
-      room = room;
-      whole = whole;
-      clauses = clauses;
-      vars = vars;
-      few = few;
-      parts_are = told;
-    }) h
-place_added_on (Err x) e f parts behind order i c n cap at is some g o d room whole clauses vars few told h = tt
+place_added_on (Ok u) e f parts behind order i c n cap at is some grown told h =
+    place_added e f parts behind order i c n cap at is some (record { grown = grown; parts_are = told }) h
+place_added_on (Err x) e f parts behind order i c n cap at is some grown told h = tt

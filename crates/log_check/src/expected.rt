@@ -1,16 +1,12 @@
 // What is expected of a log, as a formula and the parts of its lines.
-ghost use Rattle.std.specs.Prelude.{◌≡◌, ◌≤◌, ◌<◌, ◌⊎◌, ◌+◌, ◌++◌, ℕ, [], ◌∷◌, IfOk, OnOk, IsErrOf, length, take};
+ghost use Rattle.std.specs.Prelude.{◌≡◌, ◌≤◌, ◌<◌, ◌+◌, ◌++◌, ℕ, [], ◌∷◌, IfOk, OnOk, IsErrOf, length, take};
 ghost use Rattle.plan_core.specs.declared.criterion.Criterion.{Criterion as Measured};
 ghost use Rattle.plan_core.specs.Values.{value_of, limit_of};
-ghost use Rattle.cnf_core.specs.declared.limits.TheConstants.{VARS};
 ghost use Rattle.cnf_core.specs.declared.fault.CnfFault.TheVariants.{Room};
-ghost use Rattle.cnf_core.specs.Formula.{Passes};
-ghost use Rattle.cnf_core.specs.Added.{TooMany};
 ghost use Rattle.track_order.specs.Order.{IsOrderOf};
-ghost use Rattle.drawing_cnf.specs.Encoding.{encoded_vars};
-ghost use Rattle.drawing_cnf.specs.Bounded.{bound, clauses_of_bound, size_of_bound};
 ghost use Rattle.drawing_cnf.specs.Whole.{IsWhole};
 ghost use Rattle.drawing_cnf.specs.Layout.{layout, layout_of};
+ghost use Rattle.drawing_cnf.specs.Behind.{bound_behind, PassesWith, HasGrown};
 ghost use Rattle.log_check.specs.declared.awaited.Part.TheVariants.{ClausesTo as Clauses, Bounds as BoundsOf};
 ghost use Rattle.log_check.specs.Expectation.{expectation, PassesLimits};
 ghost use Rattle.log_check.specs.Expecting.{IsExpecting};
@@ -61,24 +57,11 @@ fn add_bounds<'a>(
     requires whole { IsWhole e.old.encoded }
     requires from { 1 ≤ cap }
     requires to { cap ≤ limit_of e.old.encoded.graph e.old.encoded.grid c }
-    ensures graph { e.new.encoded.graph ≡ e.old.encoded.graph }
-    ensures order { e.new.encoded.order ≡ e.old.encoded.order }
-    ensures grid { e.new.encoded.grid ≡ e.old.encoded.grid }
-    ensures room { e.new.encoded.formula.room ≡ e.old.encoded.formula.room }
-    ensures whole { OnOk result (IsWhole e.new.encoded) }
-    ensures clauses { let b = bound c e.old.encoded.formula.vars cap in OnOk result (e.new.encoded.formula.clauses ≡
-        e.old.encoded.formula.clauses ++ clauses_of_bound e.old.encoded.graph (encoded_vars e.old.encoded)
-        e.old.encoded.grid b) }
-    ensures vars { let b = bound c e.old.encoded.formula.vars cap in OnOk result (e.new.encoded.formula.vars ≡
-        e.old.encoded.formula.vars + size_of_bound e.old.encoded.graph (encoded_vars e.old.encoded) e.old.encoded.grid
-        b) }
-    ensures few { OnOk result (e.old.encoded.formula.vars + cap ≤ VARS) }
+    ensures grown { OnOk result (HasGrown e.old.encoded e.new.encoded (bound_behind e.old.encoded c cap)) }
     ensures parts { OnOk result (e.new.parts.items ≡
         e.old.parts.items ++ Clauses (length e.new.encoded.formula.clauses)
         ∷ BoundsOf c e.old.encoded.formula.vars cap ∷ []) }
-    ensures full { let d = e.old.encoded in let b = bound c d.formula.vars cap in
-        IsErrOf result Room → TooMany d.formula (size_of_bound d.graph (encoded_vars d) d.grid b)
-        ⊎ Passes d.formula (clauses_of_bound d.graph (encoded_vars d) d.grid b) }
+    ensures full { IsErrOf result Room → PassesWith e.old.encoded (bound_behind e.old.encoded c cap) }
 {
     let last = e.encoded.formula().vars();
     criterion_bound(alloc, &mut e.encoded, c, cap)?;

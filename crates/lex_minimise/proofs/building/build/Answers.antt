@@ -10,7 +10,7 @@ use Rattle.drawing_cnf.specs.Layout.{layout_of, problem_of}
 use Rattle.lex_minimise.specs.Known.{KnowsLines, IsReady}
 use Rattle.lex_minimise.specs.Task.{task_of}
 use Rattle.refute_log.specs.Steps.{GoesOn}
-use Rattle.lex_minimise.specs.Grown.{clauses_behind, PassesWith}
+use Rattle.drawing_cnf.specs.Behind.{clauses_behind, PassesWith}
 use Rattle.lex_minimise.proofs.GrownLemmas.{some_grown, none_grown, grown_words, grown_rest, is_grown, no_room, grown_as, goes_as, goes_to, built_whole}
 use Rattle.lex_minimise.proofs.GrownLemmas.{build_goes}
 use Rattle.lex_minimise.proofs.RoomLemmas.{formula_passes, solver_passes, none_goes}

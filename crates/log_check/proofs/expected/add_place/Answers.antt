@@ -15,7 +15,7 @@ returns-clause-so_far c =
     let some : 1 ≤ c.of-cap.result = omega arith in
     place_added_on c.add_bounds.result c.args.e.now.encoded c.add_bounds.new.e.encoded c.args.e.now.parts.items c.add_bounds.new.e.parts.items c.args.order.now
     c.args.i c.get-c.result c.of-cap.result (value_of c.args.caps.now)
-    c.get-c.ensures c.of-cap.ensures some k.graph k.order k.grid k.room k.whole k.clauses k.vars k.few k.parts c.requires.so_far
+    c.get-c.ensures c.of-cap.ensures some k.grown k.parts c.requires.so_far
 
 pub returns-clause-full : goal.returns-clause-full
 returns-clause-full c = λ is.
