@@ -24,6 +24,7 @@ SENTENCES = [
     (README, "`end conflicts S` and status {Unfinished}:"),
     (README, "`draw` gives up with status {Unfinished}"),
     (README, "Tracks that nothing joins are hard: on {apart} of them"),
+    (README, "`--order {first}` or a smaller grid need fewer."),
     (README, "`certified 4` with status {Done}:"),
     (README, "Were the loop drawn below its track, `verify` would print `broken law 4 node {loop}`."),
     (README, "The switch `W3`, at km {km}, has its legs in the {legs}, the {side} one diverges"),
@@ -44,6 +45,7 @@ SENTENCES = [
     (GUIDE, "Where that isn't enough it ends with {Unfinished}:"),
     (GUIDE, "`certified {many}`: all {all} values are least"),
     (GUIDE, "With `end conflicts 2` {first} and {second} would be least."),
+    (GUIDE, "for fewer criteria with `--order {first}`"),
     (GUIDE, "Letters have one size, about {letters} mm, on each paper"),
     (FORMATS, "Only {have_options} and `redraw` have options: `signals` has all of these but {not_signals}, `front` and `explain` have "
               "{of_front}, and `redraw` has these and {more_of_redraw}:"),
@@ -97,6 +99,7 @@ SENTENCES = [
     (TRUSTED, "none with {Refused}, {WordsRefused} and {Unread}, nor where there is nothing to search"),
     (TRUSTED, "A log holds, with {Done}, {NoDrawing} and {Unfinished}, the text"),
     (TRUSTED, "Nothing goes there with {Refused}, {WordsRefused} and {Unread}."),
+    (THEOREM, "It has {asked} `requires`."),
     (THEOREM, "in the rows of `check`, `trim` and `recheck` with {Refused}, {Unfinished} and {Broken}."),
     (THEOREM, "`IsCutShort` is {cut}:"),
     (THEOREM, "shows the {laws} laws in pictures"),
@@ -107,6 +110,7 @@ SENTENCES = [
     (THEOREM, "Where `check` ends with {Broken} and names no law"),
     (THEOREM, "Status {numbered}."),
     (THEOREM, "A run ends with a marked status, or with {WordsRefused}, {cut}. `main` ends with {unstarted} where"),
+    (THEOREM, "`CheckIsSo` is the row {of_check_is_so}, the others"),
     (THEOREM, "The launcher also ends with {unstarted} and {stopped}."),
     (THEOREM, "Rattle's crates {kit} state"),
     (THEOREM, "and ends with its status, or with {unstarted} where it couldn't have the words."),
@@ -208,12 +212,15 @@ def laws_in(path):
 
 def of_sources():
     parties, rows = "crates/lawful_check/src/law_break.rt", source("railml_read/specs/Rows.antt")
+    rows_of_runs = source("schematic_main/specs/So.antt")
     kit = sorted({name for below in stands_on().values() for name in below} - set(crates()))
     power, slow = groups(r"power (\S+) of their bytes.*?: (\d+ MB took \d+ s)", "bench/hostile/known.py")
     return {"laws": WORDS_OF_NUMBERS[len(laws())], "attributes": coded(re.findall(r"text_named \(codes \"(\w+)\"\)", rows)),
             "of_nodes": one(r"Laws (\d and \d) have two nodes", parties), "of_edges": one(r"law (\d) two edges", parties),
             "piece": f"{constant('outside_io', 'PIECE')[0]:,}", "power": power, "slow": slow,
             "kit": coded(kit), "kit_listed": ", ".join(f"`{it}`" for it in kit),
+            "of_check_is_so": " and ".join(f"of `{it.lower()}`" for it in re.findall(r"^IsSo \((\w+).*= CheckIsSo", rows_of_runs, re.M)),
+            "asked": "a" if "requires" in one(r"^pub fn run<((?:.*\n)*?)^\{", "crates/schematic_main/src/running.rt") else "no",
             "apart": one(r"^tracks_64 +(\d+) tracks that nothing joins", "cases/stations/README"),
             "cases": one(r"\"seeds\".*?default=(\d+)", "bench/second_opinion/run"),
             "in_node_laws": laws_in("cnf_laws/src/node_laws.rt"), "in_edge_laws": laws_in("cnf_laws/src/edge_laws.rt"),
