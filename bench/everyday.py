@@ -4,11 +4,10 @@ the search ended, learnt lines and how many of them trim keeps, the sizes of the
 seconds of draw, check, trim and recheck."""
 from __future__ import annotations
 
-import tempfile
 from pathlib import Path
 
-from made_stations import EVERYDAY, named
-from measuring import Table, counts_of, lines_of, read_words, reader_of_words, run
+from made_stations import EVERYDAY
+from measuring import counts_of, lines_of, measure_stations, run
 
 HEAD = ["station", "nodes", "edges", "end", "check", "learnt lines", "kept", "log, MB", "hints, MB", "draw, s", "check, s", "trim, s",
         "recheck, s"]
@@ -19,7 +18,7 @@ def megabytes(path: Path) -> str:
     return f"{path.stat().st_size / 1e6:.2f}" if path.exists() else "-"
 
 
-def row(program: Path, name: str, text: str, folder: Path) -> list[object]:
+def row(program: Path, text: str, folder: Path) -> list[object]:
     file, sheet, log, hints = (folder / it for it in ("station.xml", "sheet", "log", "hints"))
     for path in (log, hints):
         path.unlink(missing_ok=True)
@@ -27,23 +26,14 @@ def row(program: Path, name: str, text: str, folder: Path) -> list[object]:
     drawn = run([program, "draw", file, *GRID, "--log", log], sheet)
     checked = run([program, "check", file, sheet, log])
     trimmed = run([program, "trim", file, sheet, log, hints])
-    cells: list[object] = [name, *counts_of(program, file), drawn.first("end "), checked.text.strip(), lines_of(log, "l")]
+    cells: list[object] = [*counts_of(program, file), drawn.first("end "), checked.text.strip(), lines_of(log, "l")]
     if trimmed.status:
         return [*cells, "-", megabytes(log), "-", drawn.seconds, checked.seconds, trimmed.text.strip(), "-"]
     again = run([program, "recheck", file, sheet, hints])
-    assert again.text == checked.text, (name, checked.text, again.text)
+    assert again.text == checked.text, (checked.text, again.text)
     return [*cells, trimmed.text.split()[2], megabytes(log), megabytes(hints), drawn.seconds, checked.seconds, trimmed.seconds,
             again.seconds]
 
 
-def main() -> None:
-    words = read_words(reader_of_words(__doc__, only="stations whose names hold one of these words"))
-    table = Table("everyday", HEAD, words.program)
-    with tempfile.TemporaryDirectory() as folder:
-        for name, station in named(EVERYDAY, words.only):
-            table.add(*row(words.program, name, station.text(), Path(folder)))
-    table.end(words.write)
-
-
 if __name__ == "__main__":
-    main()
+    measure_stations(__doc__, "everyday", HEAD, EVERYDAY, row)

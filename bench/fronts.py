@@ -3,11 +3,10 @@
 height,width`, and of three pairs of criteria the seconds of front and how many pairs of values it finds."""
 from __future__ import annotations
 
-import tempfile
 from pathlib import Path
 
-from made_stations import Station, crossovers, fan, loops, named, scissors, yard
-from measuring import Table, counts_of, read_words, reader_of_words, run
+from made_stations import Station, crossovers, fan, loops, scissors, yard
+from measuring import counts_of, measure_stations, run
 
 PAIRS = ("height,width", "height,bends", "bends,width")
 HEAD = ["station", "nodes", "edges", "draw, s", *(cell for pair in PAIRS for cell in (f"{pair}, s", "pairs"))]
@@ -29,14 +28,5 @@ def row(program: Path, text: str, folder: Path) -> list[object]:
     return cells
 
 
-def main() -> None:
-    words = read_words(reader_of_words(__doc__, only="stations whose names hold one of these words"))
-    table = Table("fronts", HEAD, words.program)
-    with tempfile.TemporaryDirectory() as folder:
-        for name, station in named(stations(), words.only):
-            table.add(name, *row(words.program, station.text(), Path(folder)))
-    table.end(words.write)
-
-
 if __name__ == "__main__":
-    main()
+    measure_stations(__doc__, "fronts", HEAD, stations(), row)

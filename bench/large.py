@@ -3,33 +3,23 @@
 learnt lines of the budget of 50,000, the size of the log in MB, and the processor seconds and memory in MB of draw."""
 from __future__ import annotations
 
-import tempfile
 from pathlib import Path
 
-from made_stations import LARGE, named
-from measuring import Table, counts_of, lines_of, read_words, reader_of_words, run
+from made_stations import LARGE
+from measuring import counts_of, lines_of, measure_stations, run
 
 HEAD = ["station", "nodes", "edges", "end", "values", "learnt lines", "log, MB", "draw, s", "MB"]
 GRID = ["--width", "64", "--height", "12"]
 
 
-def row(program: Path, name: str, text: str, folder: Path) -> list[object]:
+def row(program: Path, text: str, folder: Path) -> list[object]:
     file, sheet, log = (folder / it for it in ("station.xml", "sheet", "log"))
     file.write_text(text, encoding="utf-8")
     log.unlink(missing_ok=True)
     drawn = run([program, "draw", file, *GRID, "--log", log], sheet)
-    return [name, *counts_of(program, file), drawn.first("end "), drawn.first("values "), lines_of(log, "l") if log.exists() else "-",
+    return [*counts_of(program, file), drawn.first("end "), drawn.first("values "), lines_of(log, "l") if log.exists() else "-",
             f"{log.stat().st_size / 1e6:.1f}" if log.exists() else "-", drawn.seconds, f"{drawn.megabytes:.0f}"]
 
 
-def main() -> None:
-    words = read_words(reader_of_words(__doc__, only="stations whose names hold one of these words"))
-    table = Table("large", HEAD, words.program)
-    with tempfile.TemporaryDirectory() as folder:
-        for name, station in named(LARGE, words.only):
-            table.add(*row(words.program, name, station.text(), Path(folder)))
-    table.end(words.write)
-
-
 if __name__ == "__main__":
-    main()
+    measure_stations(__doc__, "large", HEAD, LARGE, row)

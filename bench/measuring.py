@@ -1,4 +1,5 @@
-"""What the scripts that measure have in common: the program's name, a run with its time and memory, and a table as CSV."""
+"""What the scripts that measure have in common: the program's name, a run with its time and memory, a table as CSV, and a row for
+each made station."""
 from __future__ import annotations
 
 import argparse
@@ -8,9 +9,13 @@ import hashlib
 import os
 import subprocess
 import sys
+import tempfile
 import time
 from dataclasses import dataclass
 from pathlib import Path
+from typing import Callable, Iterable
+
+from made_stations import Station, named
 
 sys.dont_write_bytecode = True
 TOP = Path(__file__).resolve().parent.parent
@@ -88,6 +93,17 @@ def read_words(parser: argparse.ArgumentParser) -> argparse.Namespace:
     if not os.access(words.program, os.X_OK):
         parser.error(f"{words.program} isn't there; ./railplan draw examples/one.xml builds the program")
     return words
+
+
+def measure_stations(about: str | None, table: str, head: list[str], stations: Iterable[tuple[str, Station]],
+                     row: Callable[[Path, str, Path], list[object]]) -> None:
+    """all that a script does which has a row for each made station: the program, the station's text and a folder give its cells"""
+    words = read_words(reader_of_words(about, only="stations whose names hold one of these words"))
+    rows = Table(table, head, words.program)
+    with tempfile.TemporaryDirectory() as folder:
+        for name, station in named(stations, words.only):
+            rows.add(name, *row(words.program, station.text(), Path(folder)))
+    rows.end(words.write)
 
 
 class Table:

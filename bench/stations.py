@@ -3,22 +3,21 @@
 lines, the size of the log in MB, and the processor seconds and memory in MB of draw, verify and check."""
 from __future__ import annotations
 
-import tempfile
 from pathlib import Path
 
-from made_stations import KINDS, named
-from measuring import Table, counts_of, lines_of, read_words, reader_of_words, run
+from made_stations import KINDS
+from measuring import counts_of, lines_of, measure_stations, run
 
 HEAD = ["station", "nodes", "edges", "end", "values", "learnt lines", "log, MB", "draw, s", "MB", "verify, s", "MB", "check, s", "MB"]
 GRID = ["--width", "64", "--height", "8"]
 
 
-def row(program: Path, name: str, text: str, folder: Path) -> list[object]:
+def row(program: Path, text: str, folder: Path) -> list[object]:
     file, sheet, log = (folder / it for it in ("station.xml", "sheet", "log"))
     file.write_text(text, encoding="utf-8")
     log.unlink(missing_ok=True)
     drawn = run([program, "draw", file, *GRID, "--log", log], sheet)
-    cells: list[object] = [name, *counts_of(program, file), drawn.first("end "), drawn.first("values "), lines_of(log, "l"),
+    cells: list[object] = [*counts_of(program, file), drawn.first("end "), drawn.first("values "), lines_of(log, "l"),
                            f"{log.stat().st_size / 1e6:.1f}", drawn.seconds, f"{drawn.megabytes:.0f}"]
     verified = run([program, "verify", file, sheet])
     cells += [verified.seconds, f"{verified.megabytes:.0f}"] if verified.status == 0 else ["-", "-"]
@@ -27,14 +26,5 @@ def row(program: Path, name: str, text: str, folder: Path) -> list[object]:
     return [*cells, checked.seconds if is_certified else checked.text.strip(), f"{checked.megabytes:.0f}" if is_certified else "-"]
 
 
-def main() -> None:
-    words = read_words(reader_of_words(__doc__, only="stations whose names hold one of these words"))
-    table = Table("stations", HEAD, words.program)
-    with tempfile.TemporaryDirectory() as folder:
-        for name, station in named(KINDS, words.only):
-            table.add(*row(words.program, name, station.text(), Path(folder)))
-    table.end(words.write)
-
-
 if __name__ == "__main__":
-    main()
+    measure_stations(__doc__, "stations", HEAD, KINDS, row)

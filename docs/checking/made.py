@@ -4,7 +4,7 @@ import textwrap
 
 from checking.crates import (DOCUMENTS, TOP, contracts_of, crates, head, module_of, read, root_text, show, spec_files,
                              words_of, words_of_public_contracts)
-from checking import pictures, results, theorem
+from checking import guide, pictures, results, theorem
 from checking.numbers import with_tables
 
 COLUMNS = 120
@@ -92,12 +92,12 @@ def calls_text():
 
 
 def made_pages():
-    """The pages of which a part is made from the crates, each as it is to be."""
+    """The pages of which a part is made, and the pictures, each as it is to be."""
     found = {path: with_tables(read(path)) for path in DOCUMENTS if "<!-- made: " in read(path)}
     return {**found, INDEX: index_text(), GLOSSARY: glossary_text(), CALLS: calls_text(), theorem.PICTURE: theorem.picture(),
-            pictures.ROOMS: pictures.rooms_picture(), results.PLOT: results.peers_plot()}
+            pictures.ROOMS: pictures.rooms_picture(), results.PLOT: results.peers_plot(), **guide.pictures()}
 
 
 def pages_that_differ():
-    return [f"{show(path)}: isn't what the crates give; docs/check --write makes it so"
+    return [f"{show(path)}: isn't what its sources give; docs/check --write makes it so"
             for path, text in made_pages().items() if not path.exists() or read(path) != text]

@@ -78,7 +78,7 @@ def peers_plot():
 def unwritten():
     """Tables that no script of bench/ writes, so that nobody can repeat them."""
     scripts = "".join(read(path) for folder in ("bench", "bench/hostile") for path in sorted((TOP / folder).glob("*.py")))
-    written = {*re.findall(r"""(?:Table\("|bench/results/)(\w+)""", scripts), "when"}
+    written = {*re.findall(r"""(?:Table\("|measure_stations\(__doc__, "|bench/results/)(\w+)""", scripts), "when"}
     return [f"{show(path)}: no script of bench/ writes it" for path in sorted(RESULTS.glob("*.csv")) if path.stem not in written]
 
 

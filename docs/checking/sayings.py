@@ -21,6 +21,10 @@ NUMBERS = [
     ("plan_core", "MAX_HEIGHT", 0, README, r"`--width \d+ --height #` is the largest"),
     ("plan_words", "DEFAULT_BUDGET", 0, README, r"one from each dead end: #, or what"),
     ("plan_core", "MAX_BUDGET", 0, README, r"says, up to #\."),
+    ("plan_core", "MAX_WIDTH", 0, README, r"on \d+ of them, # by \d+,"),
+    ("plan_core", "MAX_HEIGHT", 0, README, r"on \d+ of them, \d+ by #,"),
+    ("plan_core", "MAX_WIDTH", 0, "docs/guide.md", r"lawful on # by \d+ either"),
+    ("plan_core", "MAX_HEIGHT", 0, "docs/guide.md", r"lawful on \d+ by # either"),
     ("plan_words", "DEFAULT_BUDGET", 0, "docs/guide.md", r"may learn # clauses"),
     ("plan_core", "MAX_BUDGET", 0, "docs/guide.md", r"`--conflicts #`, for fewer"),
     ("cdcl_core", "RESTART", 0, "docs/DECISIONS.md", r"restart every # conflicts stays"),
@@ -48,6 +52,8 @@ NUMBERS = [
     ("plan_objects", "SIGNALS_OF_AN_EDGE", 1, FORMATS, r"it is the #th signal"),
     ("plan_core", "MAX_FILE_BYTES", 1, "docs/trusted.md", r"one byte: # bytes for `draw`"),
     ("plan_core", "MAX_LOG_BYTES", 1, "docs/trusted.md", r"`verify`, # of a log"),
+    ("plan_core", "MAX_EDGES", 0, "crates/README.md", r"one more \(#, \d+\) in"),
+    ("plan_core", "MAX_EDGES", 1, "crates/README.md", r"one more \(\d+, #\) in"),
 ]
 
 GEOMETRY = "plan_core/specs/Laws.antt"
@@ -122,6 +128,10 @@ SAYINGS = [
     ("rail_mileage/specs/Metres.antt",
      "pub whole_limit : length parts.whole ≤ 9 pub fraction_limit : length (fraction_digits parts.fraction) ≤ 6",
      [(FORMATS, "up to 9 digits, a point with up to 6 digits or no point, white space, at least one digit in all")]),
+    ("rail_mileage/src/lib.rt", "const METRE: u64 = 1_000_000;", [(FORMATS, "A mileage is kept in micrometres")]),
+    # the command line
+    ("plan_words/specs/WordFaults.antt", "pub few : length (argument_names arguments) < name_count command pub place : position ≡ end",
+     [(FORMATS, "the words end with too few names. Position: the number of words plus 1.")]),
     # texts
     ("plan_write/specs/SvgText.antt", "pixels_across x = 20 + 40 * x", [(FORMATS, "has X = 20 + 40 x")]),
     ("plan_write/specs/SvgText.antt", "pixels_down height y = 20 + 40 * (height - y)", [(FORMATS, "Y = 20 + 40 (h - y)")]),
@@ -157,10 +167,12 @@ SAYINGS = [
      [(FORMATS, "The launcher ends with 10 too"), ("THEOREM.md", "The launcher also ends with 10 and 130")]),
     ("tool/built.py", 'FIRST_BUILD = "most of an hour on four processors" UNPROVED_BUILD = "about a minute"',
      [(README, "The first run with proofs takes most of an hour on four processors, and says where it is."),
-      (README, "a first look: builds without proofs, in about a minute, and draws")]),
+      (README, "the same page without proofs, in about a minute")]),
+    # dicts joined by a stroke, which Python has from 3.9 on
+    ("pages/changes.py", 'nodes |= {', [(README, "Python 3.9 or later")]),
     ("tool/install.py", 'line.words[1] if len(line.words) > 1 else "~/.local"', [(README, "`~/.local` is usual")]),
     ("pages/columns.py", 'PAPERS = {"A4": (297, 210), "A3": (420, 297), "A2": (594, 420), "A1": (841, 594)}', [("docs/guide.md", "A4 to A1 go as well")]),
-    (".ci/run", "rt ci status=$?", [(README, "the gate: rt ci (proofs, tests, edits that must fail), cases/, bench/hostile, pages/, tool/, documents")]),
+    (".ci/run", "rt ci status=$?", [(README, "is the gate: rt ci (proofs, tests, edits that must fail), cases/, bench/hostile, pages/, tool/, documents")]),
     (".ci/run", "cases/run crates/railplan_main/out/railplan_main >&2 || status=1 bench/hostile/run crates/railplan_main/out/railplan_main "
      ">&2 || status=1 python3 pages/check.py >&2 || status=1 python3 -m unittest discover -s tool -t . >&2 || status=1 python3 docs/check",
      [(README, "rt ci (proofs, tests, edits that must fail), cases/, bench/hostile, pages/, tool/, documents")]),
