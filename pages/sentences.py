@@ -9,7 +9,7 @@ from tool import law_words
 
 MEASURED = {"height": ("row above the lowest", "rows above the lowest"),
             "bends": ("point at which a line turns", "points at which lines turn"),
-            "diagonal": ("column in which a line rises or falls", "columns in which lines rise or fall"),
+            "diagonal": ("column in which a line rises or falls", "columns in which a line rises or falls, added up over all lines"),
             "width": ("column east of the first", "columns east of the first")}
 LAWS = {1: "all lies on the grid", 2: "mileages rise from west to east", 3: "lines join their nodes",
         4: "slopes at nodes are those of their kinds", 5: "no two nodes have one point", 6: "what is above lies above",

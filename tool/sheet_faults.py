@@ -75,7 +75,7 @@ def shape(sheet: str, at: Place, usage: str) -> str:
 
 
 def values(sheet: str, at: Place, usage: str) -> str:
-    return "these aren't the values of the drawing above: its height, bends, columns of diagonals and width. Was a point changed?"
+    return "these aren't the values of the drawing above: its height, bends, diagonal and width. Was a point changed?"
 
 
 SAID = {"Form": form, "Range": range_of, "Graph": graph, "Shape": shape, "Values": values}

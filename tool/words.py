@@ -93,7 +93,7 @@ OPTIONS = {it.word: it for it in (
 PAGE_WORDS = {it.word: it for it in (
     Option("--html", "FILE", "a page with the drawing and what is said of it", "file", kind="page"),
     Option("--dxf", "FILE", "the drawing for a CAD program", "file", kind="dxf"),
-    Option("--csv", "FILE", "the drawing's points as a table", "file", kind="csv"),
+    Option("--csv", "FILE", "the drawing's objects as a table", "file", kind="csv"),
     Option("--paper", "SIZE", "the paper that the page is for", "word", usual="A3", choices=("A4", "A3", "A2", "A1")),
     Option("--labels", "KIND", "what is written at nodes, tracks and signals", "word", usual="name", choices=("name", "id")),
     Option("--side", "SIDE", "the side of the track on which signals are", "word", usual="right", choices=("right", "left")),
@@ -104,7 +104,8 @@ SEARCH = ("--width", "--height", "--least", "--conflicts")
 COMMANDS = {it.word: it for it in (
     Command("draw", (FILE,), ("--width", "--height", "--least", "--order", "--conflicts", "--svg", "--log"),
             "searches for the best drawing of a railML 2 file's tracks, and prints it as a text, a sheet",
-            "The best drawing has the least values: its height, then its bends, the columns of its diagonals and its width. "
+            "The best drawing has the least values: its height, then its bends, then its diagonal (the "
+            "columns in which a line rises or falls, added up over all lines) and its width. "
             "The last line says how the search ended: `end best`, `end none` where no drawing is lawful on this grid, or "
             "`end conflicts S` where it stopped at its budget.",
             "draw examples/station.xml --svg station.svg", "draw examples/station.xml --order height,width", takes_long=True),

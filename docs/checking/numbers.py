@@ -334,8 +334,8 @@ def prose_that_fails():
     names = {word: WORDS_OF_NUMBERS[number] for word, number in commands().items()}
     ones, twos, threes = ([f"`{word}`" for word, number in commands().items() if number == many and word not in ("make", "trial")]
                           for many in (1, 2, 3))
-    due = [(README, f"its highest row is row {height}, counted from 0, it has {bends} bends and {diagonal} columns of diagonals, its "
-                    f"last column is column {width}"),
+    due = [(README, f"its highest row is row {height}, counted from 0, it has {bends} bends and diagonal {diagonal}, its last "
+                    f"column is column {width}"),
            (README, f"better in {', '.join(front)} and {last}"),
            (FORMATS, f"{', '.join(ones[:-1])} and {ones[-1]} have {names['draw']} name, {' and '.join(twos)} {names['verify']}, "
                      f"{', '.join(threes[:-1])} and {threes[-1]} {names['check']}, `trim` {names['trim']}, and `make` and `trial` "

@@ -170,12 +170,12 @@ SAYINGS = [
       (README, "the same page without proofs, in about a minute")]),
     # dicts joined by a stroke, which Python has from 3.9 on
     ("pages/changes.py", 'nodes |= {', [(README, "Python 3.9 or later")]),
-    ("tool/install.py", 'line.words[1] if len(line.words) > 1 else "~/.local"', [(README, "`~/.local` is usual")]),
+    ("tool/install.py", 'line.words[1] if len(line.words) > 1 else "~/.local"', [(README, "`./railplan install ~/.local` makes a link in `~/.local/bin`")]),
     ("pages/columns.py", 'PAPERS = {"A4": (297, 210), "A3": (420, 297), "A2": (594, 420), "A1": (841, 594)}', [("docs/guide.md", "A4 to A1 go as well")]),
-    (".ci/run", "rt ci status=$?", [(README, "is the gate: rt ci (proofs, tests, edits that must fail), cases/, bench/hostile, pages/, tool/, documents")]),
+    (".ci/run", "rt ci status=$?", [(README, "is the gate. It runs `rt ci` (proofs, tests, edits that must fail), `docs/check`, tests of `bench/hostile`,")]),
     (".ci/run", "cases/run crates/railplan_main/out/railplan_main >&2 || status=1 bench/hostile/run crates/railplan_main/out/railplan_main "
      ">&2 || status=1 python3 pages/check.py >&2 || status=1 python3 -m unittest discover -s tool -t . >&2 || status=1 python3 docs/check",
-     [(README, "rt ci (proofs, tests, edits that must fail), cases/, bench/hostile, pages/, tool/, documents")]),
+     [(README, "`docs/check`, tests of `bench/hostile`, `pages/` and `tool/`, and the runs of `cases/`")]),
 ]
 
 
