@@ -85,6 +85,17 @@ PLANTED = [
      "from pages.widths import width_of\nSMALL = 11", "pictures"),
     ("the output isn't given where the page can't be written", "command.py", "    ended = give_all(output, is_open)\n",
      "    ended = 0\n", "command"),
+    ("a line goes straight from node to node", "strip.py", "self.add_lines(points, 2.2", "self.add_lines([points[0], points[-1]], 2.2",
+     "lines"),
+    ("a line is that of another edge", "strip.py", 'data_key=scene.key("e", edge.number)))', 'data_key=scene.key("e", edge.number ^ 1)))',
+     "lines"),
+    ("a line's bend is a column aside", "strip.py", "        placed = [self.at(point) for point in points]\n",
+     "        placed = [self.at((x + (0 < at < len(points) - 1), y)) for at, (x, y) in enumerate(points)]\n", "lines"),
+    ("lines are cut off at another height", "strip.py", "y + (v - y) * (column - x) / (u - x)", "v if column == min(u, self.high) else y",
+     "lines"),
+    ("two versions have columns of their own", "kinds.py", "    pictures = draw_alike(scenes)\n    is_wide",
+     "    pictures = [draw(scene) for scene in scenes]\n    is_wide", "lines"),
+    ("two versions have frames of their own", "drawing.py", "            picture.frame(at, box)\n", "            pass\n", "lines"),
 ]
 
 
@@ -93,9 +104,8 @@ def plant(base: Path, one: tuple[str, str, str, str, str]) -> tuple[str, list[st
     what, name, old, new, asked = one
     with tempfile.TemporaryDirectory(dir=base) as folder:
         copy = Path(folder) / "clone"
-        for part in ("pages", "tool", "examples"):
+        for part in ("pages", "tool", "examples", "cases/stations", "cases/draw"):
             shutil.copytree(TOP / part, copy / part, ignore=shutil.ignore_patterns("__pycache__"))
-        shutil.copytree(TOP / "cases/stations", copy / "cases/stations")
         path = copy / "pages" / name
         text = path.read_text(encoding="utf-8")
         if old not in text:

@@ -8,15 +8,15 @@ from __future__ import annotations
 import math
 import re
 from dataclasses import dataclass, field
-from typing import Callable, Iterator, Optional
+from typing import Callable, Iterator, Optional, Sequence
 
 from pages.columns import BESIDE_CUT, LEVEL, ROW, SLOPED, Columns, Demand, Strip, cut, last_column, positions, room_on
 from pages.columns import last_row, sloped_intervals
 from pages.markup import Element, element, flat
-from pages.places import LONGEST, SIZES, NoPlace
+from pages.places import LONGEST, SIZES, Box, NoPlace
 from pages.signs import shown
 from pages.station import Station
-from pages.strip import StripPlan
+from pages.strip import StripPlan, bounds
 from pages.texts import Drawing, Signal
 from pages.widths import shortened, width_of
 
@@ -62,7 +62,7 @@ class Scene:
 class Picture:
     """the strips of a drawing, each an element; what was shortened in them or left out, and how well all of it stands"""
     strips: list[Element]
-    boxes: list[tuple[float, float, float, float]]
+    boxes: list[Box]
     columns: Columns
     short: list[tuple[str, str]] = field(default_factory=list)
     left_out: list[str] = field(default_factory=list)
@@ -76,9 +76,13 @@ class Picture:
         """makes each strip so wide, with as much more room on the left as on the right"""
         for at, (left, top, right, bottom) in enumerate(self.boxes):
             more = (wide - right + left) / 2
-            self.boxes[at] = (left - more, top, right + more, bottom)
-            self.strips[at].attributes.update(viewBox=f"{shown(left - more)} {shown(top)} {shown(wide)} {shown(bottom - top)}",
-                                              width=shown(wide))
+            self.frame(at, (left - more, top, right + more, bottom))
+
+    def frame(self, at: int, box: Box) -> None:
+        """gives a strip this frame"""
+        left, top, right, bottom = self.boxes[at] = box
+        wide, high = shown(right - left), shown(bottom - top)
+        self.strips[at].attributes.update(viewBox=f"{shown(left)} {shown(top)} {wide} {high}", width=wide, height=high)
 
 
 def demands(scene: Scene) -> Iterator[Demand]:
@@ -129,17 +133,20 @@ def outer_room(scene: Scene) -> tuple[float, float]:
     return found[0], found[1]
 
 
-def layout(scene: Scene, wider: dict[int, float], taller: float) -> Columns:
-    """the columns, narrow where all is level, those that had trouble made wider, and all as wide as the paper allows"""
-    last = last_column([scene.drawing])
-    sloped = sloped_intervals(scene.drawing, last)
+def layout(scenes: Sequence[Scene], wider: dict[int, float], taller: float) -> Columns:
+    """the columns that these scenes share, narrow where all is level, those that had trouble made wider, and all as wide as the paper
+    allows"""
+    drawings, paper = [scene.drawing for scene in scenes], room_on(scenes[0].paper)
+    last = last_column(drawings)
+    sloped = [any(each) for each in zip(*(sloped_intervals(one, last) for one in drawings))]
     steps = [(SLOPED if sloped[at] else LEVEL) * wider.get(at, 1) for at in range(last)]
-    at = positions(steps, demands(scene))
-    room, outer = room_on(scene.paper)[0] * scene.part, outer_room(scene)
+    at = positions(steps, [demand for scene in scenes for demand in demands(scene)])
+    west, east = zip(*map(outer_room, scenes))
+    room, outer = paper[0] * scenes[0].part, (max(west), max(east))
     free = room - outer[0] - outer[1]
     grown = max(1.0, min(WIDE, free / at[-1])) if at[-1] else 1.0
     at = [x * grown for x in at]
-    high = (room_on(scene.paper)[1] - BESIDE_ROWS) / max(1, last_row(scene.drawing))
+    high = (paper[1] - BESIDE_ROWS) / max(1, *map(last_row, drawings))
     columns = Columns(at, min(ROW * taller * min(TALL, max(1.0, grown * 0.8)), max(ROW, high)))
     columns.strips = cut(at, sloped, room, outer)
     if len(columns.strips) > 1:
@@ -180,15 +187,22 @@ def drawn(scene: Scene, columns: Columns, is_crowded: bool = False) -> tuple[Pic
 
 def draw(scene: Scene) -> Picture:
     """the picture of a drawing: the first in which all names stand well, or else the best"""
-    best: Optional[Picture] = None
+    return draw_alike([scene])[0]
+
+
+def draw_alike(scenes: Sequence[Scene]) -> list[Picture]:
+    """the pictures of drawings, with the same columns, rows and frames, so that one can be laid over another"""
+    best: list[Picture] = []
     wider: dict[int, float] = {}
-    taller, last = 1.0, last_column([scene.drawing])
+    taller, last = 1.0, last_column(scene.drawing for scene in scenes)
     for attempt in range(TRIES):
         worst: list[float] = [column for column in range(last)]
         try:
-            found, worst = drawn(scene, layout(scene, wider, taller))
-            if not best or found.trouble < best.trouble:
-                best = found
+            columns = layout(scenes, wider, taller)
+            found, badly = zip(*(drawn(scene, columns) for scene in scenes))
+            worst = sum(badly, [])
+            if not best or sum(it.trouble for it in found) < sum(it.trouble for it in best):
+                best = list(found)
         except NoPlace:
             pass
         if not worst:
@@ -196,19 +210,24 @@ def draw(scene: Scene) -> Picture:
         for at in {at for column in worst for at in (math.floor(column) - 1, math.floor(column), math.ceil(column))}:
             wider[at] = wider.get(at, 1) * 1.3
         taller *= 1.06
-    if not best:
-        best = last_tries(scene, wider)
+    best = best or last_tries(scenes, wider)
+    for at in range(len(best[0].strips)):
+        box = bounds([picture.boxes[at] for picture in best])
+        for picture in best:
+            picture.frame(at, box)
     return best
 
 
-def last_tries(scene: Scene, wider: dict[int, float]) -> Picture:
+def last_tries(scenes: Sequence[Scene], wider: dict[int, float]) -> list[Picture]:
     """much wider and taller layouts, for names that found no place; where that doesn't help either some names are left out"""
     for factor in (2, 4, 8):
         try:
-            return drawn(scene, layout(scene, {at: factor * wide for at, wide in wider.items()}, factor))[0]
+            columns = layout(scenes, {at: factor * wide for at, wide in wider.items()}, factor)
+            return [drawn(scene, columns)[0] for scene in scenes]
         except NoPlace:
             continue
-    return drawn(scene, layout(scene, {}, 1.0), True)[0]
+    columns = layout(scenes, {}, 1.0)
+    return [drawn(scene, columns, True)[0] for scene in scenes]
 
 
 def small(scene: Scene) -> Picture:

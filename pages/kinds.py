@@ -5,7 +5,7 @@ from dataclasses import dataclass, field
 from typing import Callable, Optional
 
 from pages import cad, facts, faults, sentences, signs, texts
-from pages.drawing import Marks, Picture, Scene, alone, draw, small
+from pages.drawing import Marks, Picture, Scene, alone, draw, draw_alike, small
 from pages.facts import Build, FileFacts, Provenance
 from pages.files import Input
 from pages.infrastructure import Infrastructure, read
@@ -106,9 +106,9 @@ class Page:
     sheet: str = ""
     is_left: bool = False
 
-    def draw(self, scene: Scene, *caption: Child, **more: str) -> Picture:
-        """adds the picture of a scene; the first one's objects are those of the list"""
-        picture = draw(scene)
+    def draw(self, scene: Scene, *caption: Child, picture: Optional[Picture] = None, **more: str) -> Picture:
+        """adds the picture of a scene, which may be drawn already; the first one's objects are those of the list"""
+        picture = picture or draw(scene)
         picture.widen(picture.width())
         self.figures.append(Figure(picture, picture.strips, list(caption), **more))
         self.short += [pair for pair in picture.short if pair not in self.short]
@@ -368,16 +368,20 @@ def redraw_page(run: Run) -> Page:
 
 
 def add_versions(page: Page, run: Run, new: Drawing, old: Drawing) -> None:
-    """both drawings, marked, and what changed from one to the other"""
+    """both drawings, marked, a column of one as wide as that of the other, and what changed from one to the other"""
     from pages.changes import Changes
     former = run.station(1)
     changes = Changes(old, new, former, page.station)
     scenes = [run.scene(old, former, marks=changes.old_marks(), title="the former drawing", key=changes.old_key, part=HALF),
               run.scene(new, page.station, marks=changes.new_marks(), title="the new drawing", part=HALF)]
-    is_wide = any(len(draw(scene).strips) > 1 for scene in scenes)
-    for scene, word in zip(scenes, ("Before. ", "Now. ")):
-        scene.part = 1.0 if is_wide else HALF
-        page.draw(scene, element("b", word), CAPTION, kind="" if is_wide else "version", title=scene.title)
+    pictures = draw_alike(scenes)
+    is_wide = len(pictures[0].strips) > 1
+    if is_wide:
+        for scene in scenes:
+            scene.part = 1.0
+        pictures = draw_alike(scenes)
+    for scene, picture, word in zip(scenes, pictures, ("Before. ", "Now. ")):
+        page.draw(scene, element("b", word), CAPTION, picture=picture, kind="" if is_wide else "version", title=scene.title)
     page.align()
     page.objects, page.scene = Objects(scenes[1]), scenes[1]
     page.changes = changes.items()

@@ -95,6 +95,7 @@ def made_pages():
     """The pages of which a part is made, and the pictures, each as it is to be."""
     found = {path: with_tables(read(path)) for path in DOCUMENTS if "<!-- made: " in read(path)}
     return {**found, INDEX: index_text(), GLOSSARY: glossary_text(), CALLS: calls_text(), theorem.PICTURE: theorem.picture(),
+            theorem.RESTS: theorem.rests_text(),
             pictures.ROOMS: pictures.rooms_picture(), results.PLOT: results.peers_plot(), **guide.pictures()}
 
 

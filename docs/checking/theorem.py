@@ -9,23 +9,26 @@ from checking.crates import TOP, crates, handed_on, head, imported_words, module
 
 PAGE = TOP / "THEOREM.md"
 PICTURE = TOP / "docs" / "made" / "theorem.svg"
+RESTS = TOP / "docs" / "made" / "rests.md"
 RUN = TOP / "crates" / "schematic_main" / "src" / "running.rt"
 ROWS, BEST = ("schematic_main", "So"), ("plan_core", "Values", "IsBest")
 STATION = ("run_input", "Input", "HasStation")
+DRAW, CHECK, VERIFY, ASKS = (*ROWS, "DrawIsSo"), (*ROWS, "CheckIsSo"), (*ROWS, "VerifyIsSo"), ("schematic_main", "Run", "Asks")
 
-# the way from bytes to the best drawing: a definition, and what it says in a few words
-WAY = [(("run_input", "Input", "HasRows"), "the bytes are read as rows"),
-       (("run_input", "Input", "HasTopology"), "the rows are a topology"),
-       (("run_input", "Input", "HasGraph"), "the topology has a track graph"),
-       (STATION, "no two edges contradict each other"),
-       (("schematic_main", "So", "OfStation"), "the file has this station"),
-       (("plan_core", "Lawful", "Lawful"), "a drawing meets the seven laws"),
-       (("plan_core", "Values", "values_of"), "what it measures"),
-       (("plan_core", "Values", "Better"), "which of two is better"),
-       (BEST, "lawful, and none is better"),
-       (("schematic_main", "So", "IsTextOf"), "the text of its sheet"),
-       (("schematic_main", "So", "DrawIsSo"), "what draw prints with 0"),
-       (("schematic_main", "So", "IsSoFor"), "what a run prints is true")]
+# the way from bytes to what a run prints: a definition, what it says in a few words, and its place in the picture
+WAY = [(("run_input", "Input", "HasRows"), "the bytes are read as rows", (0, 0)),
+       (("run_input", "Input", "HasTopology"), "the rows are a topology", (1, 0)),
+       (("run_input", "Input", "HasGraph"), "the topology has a track graph", (2, 0)),
+       (STATION, "the bytes have this graph and order", (3, 0)),
+       (("plan_core", "Lawful", "Lawful"), "a drawing meets the seven laws", (0, 1)),
+       (("plan_core", "Values", "Better"), "which of two values is better", (1, 1)),
+       (("plan_core", "Values", "values_of"), "what a drawing measures", (2, 1)),
+       (("schematic_main", "So", "OfStation"), "the file has this station", (3, 1)),
+       (BEST, "lawful, and none is better", (1, 2)),
+       (("schematic_main", "So", "IsTextOf"), "the text of its sheet", (2, 2)),
+       (DRAW, "draw with 0, 1, 3, 4 and 5: a row each", (3, 3)),
+       (ASKS, "the words ask for this command", (2, 4)),
+       (("schematic_main", "So", "IsSoFor"), "what a run prints is true", (3, 4))]
 
 
 @cache
@@ -46,14 +49,18 @@ def files_named(crate, module):
     return {name: handed_on().get((other, file), (other, file)) for other, file, name in found}
 
 
-def behind(key):
-    """The definitions that a definition names, in the order in which it names them."""
-    crate, module, _ = key
+def named_in(text, crate, module):
+    """The definitions that a text of a file names, in the order in which it names them."""
     found = []
-    for file, name in re.findall(r"(?<![.\w])(?:(\w+)\.)?([A-Za-z_][\w'-]*)", words()[key].text):
+    for file, name in re.findall(r"(?<![.\w])(?:(\w+)\.)?([A-Za-z_][\w'-]*)", text):
         other = files_named(crate, module).get(file)
         found.append((*other, name) if other else imports()[crate, module].get(name, (crate, module, name)))
-    return list(dict.fromkeys(other for other in found if other in words() and other != key))
+    return list(dict.fromkeys(other for other in found if other in words()))
+
+
+def behind(key):
+    """The definitions that a definition names."""
+    return [other for other in named_in(words()[key].text, *key[:2]) if other != key]
 
 
 def resting_on(*keys):
@@ -145,41 +152,77 @@ def order_of(file):
     return [place for place, key in enumerate(resting_on(BEST)) if key[:2] == file]
 
 
-def rest_lines():
-    """What the rows rest on besides, file by file: what the file defines, and the names."""
-    whole = set(resting_on(BEST))
-    roots = [key for key in words() if key[:2] == ROWS]
-    files = {}
-    for key in resting_on(*roots):
+def rest():
+    """What the rows rest on besides, by the files that define it."""
+    whole, files = set(resting_on(BEST)), {}
+    for key in resting_on(*(key for key in words() if key[:2] == ROWS)):
         if key not in whole and key[:2] != ROWS:
             files.setdefault(key[:2], []).append(key[2])
-    lines = []
-    for (crate, module), names in files.items():
+    return files
+
+
+def rest_lines():
+    """How much that is, and where it is listed."""
+    files = rest()
+    return [f"The rows rest on {sum(map(len, files.values()))} more definitions, in {len(files)} files. "
+            f"[`docs/made/{RESTS.name}`](docs/made/{RESTS.name}) names them,", "file by file, each file with what it defines."]
+
+
+def rests_text():
+    """What the rows rest on besides, file by file: what the file defines, and the names."""
+    lines = ["# What else the rows of the theorem rest on", "",
+             "File by file: what the file defines, and the names that the rows of `crates/schematic_main/specs/So.antt` need. Those that",
+             "`THEOREM.md` has whole aren't here. `docs/check --write` makes this page.", ""]
+    for (crate, module), names in rest().items():
         said = re.split(r"(?<=\.) ", head(read(spec_path(crate, module)), "--"))[0]
         entry = f"- {said} (`crates/{crate}/specs/{module.replace('.', '/')}.antt`): {', '.join(f'`{name}`' for name in names)}"
         lines += textwrap.wrap(entry, 118, subsequent_indent="  ", break_long_words=False, break_on_hyphens=False)
-    return lines
+    return "\n".join(lines) + "\n"
+
+
+def on_status(row, status):
+    """What a row rests on where a command ends with one status: the row's first name and what its line for it names."""
+    found = re.search(rf"^{row[2]} [^=]*\b{status} text = (.*?)(?=^{row[2]} )", words()[row].text, re.M | re.S)
+    return [row, *resting_on(*named_in(found.group(1), *row[:2]))]
 
 
 def count_lines():
     """How much there is to read."""
-    rows = [key for key in words() if key[:2] == ROWS]
-    counted = [("the rows of all commands", rows), ("of these, `check`", [(*ROWS, "CheckIsSo")]),
-               ("of these, `draw`", [(*ROWS, "DrawIsSo")]), ("of these, a station read from a file", [STATION]), ("of these, the best drawing", [BEST])]
+    draw = set(resting_on(DRAW))
+    counted = [("the rows of all commands", resting_on(*(key for key in words() if key[:2] == ROWS))),
+               ("`draw` alone", draw), ("`check` alone", resting_on(CHECK)), ("`verify` alone, which reads a sheet", resting_on(VERIFY)),
+               ("in each of these three: a station read from a file", resting_on(STATION)),
+               ("in `draw` and `check`: the best drawing", resting_on(BEST)),
+               ("`draw` with status 0 alone", on_status(DRAW, "Done")),
+               ("besides those of `draw`: which command the words ask for (`Asks`)", set(resting_on(ASKS)) - draw)]
     lines = ["| what | definitions | lines | files |", "|---|---|---|---|"]
-    for said, roots in counted:
-        found = resting_on(*roots)
+    for said, found in counted:
         size = sum(words()[key].text.rstrip().count("\n") + 1 for key in found)
         lines.append(f"| {said} | {len(found)} | {size} | {len({key[:2] for key in found})} |")
     return lines
 
 
+def rests_directly(key, others):
+    """Those of some definitions on which one rests by way of none of them."""
+    found, seen, left = set(), {key}, [key]
+    while left:
+        for other in behind(left.pop()):
+            if other in others:
+                found.add(other)
+            elif other not in seen:
+                seen.add(other)
+                left.append(other)
+    return found
+
+
 def picture():
-    """The way from bytes to the best drawing, a box for each definition."""
-    listed = [pictures.Box(key[2], [said], [f"{key[0]}/specs/{key[1]}"]) for key, said in WAY]
-    return pictures.boxes("The way from a file's bytes to the best drawing", listed, pictures.Size(250, 58, 3))
+    """The way from bytes to what a run prints: a box for each definition, and an arrow to each that rests on it."""
+    keys = [key for key, _, _ in WAY]
+    listed = {key: pictures.Box(key[2], [said], [f"{key[0]}/specs/{key[1]}"], at) for key, said, at in WAY}
+    below = pictures.shortest({key: rests_directly(key, set(keys) - {key}) for key in keys})
+    return pictures.graph("The way from a file's bytes to what a run prints", listed, below, pictures.Size(240, 58))
 
 
 def all_failures():
     """Definitions of the picture that aren't there."""
-    return [f"docs/checking/theorem.py: there is no {'.'.join(key)}" for key, _ in WAY if key not in words()]
+    return [f"docs/checking/theorem.py: there is no {'.'.join(key)}" for key, *_ in WAY if key not in words()]

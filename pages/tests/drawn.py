@@ -82,6 +82,10 @@ class Drawn:
     lines: list[tuple[str, Piece]] = field(default_factory=list)
     signs: list[tuple[str, Box]] = field(default_factory=list)
     edges: dict[str, list[list[Spot]]] = field(default_factory=dict)
+    places: dict[str, list[Spot]] = field(default_factory=dict)
+    wedges: dict[str, list[Spot]] = field(default_factory=dict)
+    columns: dict[int, float] = field(default_factory=dict)
+    rows: dict[int, float] = field(default_factory=dict)
 
 
 def of_strip(strip: Element) -> Drawn:
@@ -97,10 +101,14 @@ def number(one: Element, name: str) -> float:
 
 def walk(one: Element, matrix: Matrix, key: str, drawn: Drawn, in_sign: bool = False) -> None:
     classes = str(one.attributes.get("class") or "").split()
+    if "grid" in classes:
+        of_grid(one, drawn)
     if "grid" in classes or "hit" in classes:
         return
     matrix = times(matrix, matrix_of(str(one.attributes.get("transform") or "")))
     key, in_sign = str(one.attributes.get("data-key") or key), in_sign or "sign" in classes
+    if "sign" in classes:
+        drawn.places.setdefault(key, []).append(moved(matrix, (0, 0)))
     title = next((it.text() for it in flat(one.children) if isinstance(it, Element) and it.tag == "title"), "")
     for child in flat(one.children):
         if isinstance(child, Element) and child.tag == "text":
@@ -109,6 +117,17 @@ def walk(one: Element, matrix: Matrix, key: str, drawn: Drawn, in_sign: bool = F
             walk(child, matrix, key, drawn, in_sign)
         elif isinstance(child, Element):
             of_shape(child, matrix, key, in_sign, drawn)
+
+
+def of_grid(one: Element, drawn: Drawn) -> None:
+    """where columns and rows are: each line has its number behind it"""
+    parts = [it for it in flat(one.children) if isinstance(it, Element)]
+    for line, text in zip(parts[::2], parts[1::2]):
+        (x, y), (u, _) = spots_of(line)
+        if x == u:
+            drawn.columns[int(text.text())] = x
+        else:
+            drawn.rows[int(text.text())] = y
 
 
 def of_text(one: Element, matrix: Matrix, title: str) -> Written:
@@ -143,6 +162,7 @@ def of_shape(one: Element, matrix: Matrix, key: str, in_sign: bool, drawn: Drawn
     placed = [moved(matrix, spot) for spot in spots_of(one)]
     if "wedge" in classes:
         drawn.lines += [("wedge", piece) for piece in zip(placed, placed[1:] + placed[:1])]
+        drawn.wedges[key] = placed
     elif in_sign:
         drawn.signs.append((key, around(placed)))
     elif any(kind in classes for kind in LINES):

@@ -247,7 +247,7 @@ class Clashes(unittest.TestCase):
         run = sample("signals")
         sheet, signals = texts.read_signals(run.output)
         scene = run.scene(sheet.drawing, run.station(), signals=signals)
-        found = drawing.layout(scene, {}, 1.0)
+        found = drawing.layout([scene], {}, 1.0)
         plan = StripPlan(scene, found, found.strips[0], set())
         plan.lay()
         self.assertEqual(plan.clashes, [])
