@@ -85,6 +85,7 @@ PLANTED = [
      "from pages.widths import width_of\nSMALL = 11", "pictures"),
     ("the output isn't given where the page can't be written", "command.py", "    ended = give_all(output, is_open)\n",
      "    ended = 0\n", "command"),
+    ("signals on slopes lie beside their lines", "strip.py", "return x, y if high is None else high", "return x, y", "pictures"),
     ("pages are printed on one paper", "screen/page.css", "size: PAPER;", "size: A3 landscape;", "paper"),
     ("what can't be pressed is printed", "screen/page.css", "  .tools, .screen, .said, details { display: none }\n", "", "paper"),
     ("a long list is cut off on paper", "screen/page.css", "max-height: none; overflow: visible; position: static; columns", "columns",
