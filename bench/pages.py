@@ -36,7 +36,7 @@ sys.path[0:0] = [str(TOP), str(TOP / "bench")]
 import page_stations  # noqa: E402
 from answers import Answers  # noqa: E402
 from browser import Browser, Gone, Tab  # noqa: E402
-from measuring import Table  # noqa: E402
+from measuring import Table, counts_of  # noqa: E402
 from pages import command  # noqa: E402
 from pages.columns import MM, room_on  # noqa: E402
 from pages.kinds import Run, make  # noqa: E402
@@ -53,6 +53,7 @@ WORDS = {"draw": [*GRID, "--conflicts", "3000"], "signals": [*GRID, "--conflicts
          "explain": ["--height", "0", "--conflicts", "500"], "verify": [], "redraw": [*GRID, "--conflicts", "800"],
          "front": [*GRID, "--conflicts", "150"]}
 HEAD = ["page", "pages", "with a drawing", "strips", "texts", "least letters, mm", "faults", "largest, KB", "slowest to open, s"]
+STATIONS_HEAD = ["station", "nodes", *KINDS]
 SEEN = """(() => {
   const box = it => { const r = it.getBoundingClientRect(); return [r.left, r.top, r.right, r.bottom] };
   const context = document.createElement('canvas').getContext('2d');
@@ -275,7 +276,7 @@ def measured(number: int, folder: Path, kinds: int, namings: int, is_kept: bool)
 
 
 def measure(words: argparse.Namespace) -> list[tuple[str, list[str]]]:
-    found: list[Looked] = []
+    found: list[list[Looked]] = []
     with contextlib.ExitStack() as stack:
         folder = words.folder or Path(stack.enter_context(tempfile.TemporaryDirectory()))
         folder.mkdir(parents=True, exist_ok=True)
@@ -285,7 +286,14 @@ def measure(words: argparse.Namespace) -> list[tuple[str, list[str]]]:
             for it in pages:
                 faults = f"{it.faults[0]}, and {len(it.faults) - 1} more" if it.faults else "as it is to be"
                 print(f"{number} {it.what}: {faults}", flush=True)
-            found += pages
+            found.append(pages)
+    write_kinds([it for pages in found for it in pages], words.write)
+    write_stations(dict(enumerate(found, words.first)), words.write)
+    return [(it.what, it.faults) for pages in found for it in pages]
+
+
+def write_kinds(found: list[Looked], is_written: bool) -> None:
+    """the table of the pages by their kinds"""
     table = Table("pages", HEAD, PROGRAM)
     for kind in KINDS:
         pages = [it for it in found if it.kind == kind]
@@ -293,8 +301,21 @@ def measure(words: argparse.Namespace) -> list[tuple[str, list[str]]]:
             table.add(kind, len(pages), sum(it.strips > 0 for it in pages), sum(it.strips for it in pages),
                       f"{sum(it.texts for it in pages):,}", min(it.least for it in pages), sum(bool(it.faults) for it in pages),
                       max(it.kilobytes for it in pages), max(it.seconds for it in pages))
-    table.end(words.write)
-    return [(it.what, it.faults) for it in found]
+    table.end(is_written)
+
+
+def write_stations(found: dict[int, list[Looked]], is_written: bool) -> None:
+    """the table of the pages by their stations: of each kind how many have a drawing, and how many there are"""
+    table = Table("pages_stations", STATIONS_HEAD, PROGRAM)
+    with tempfile.TemporaryDirectory() as folder:
+        for number, pages in found.items():
+            name, station = page_stations.STATIONS[number]
+            file = Path(folder) / "station.xml"
+            file.write_text(station.text(), encoding="utf-8")
+            drawn = [[it.strips > 0 for it in pages if it.kind == kind] for kind in KINDS]
+            if pages:
+                table.add(name, counts_of(PROGRAM, file)[0], *(f"{sum(it)} of {len(it)}" if it else "-" for it in drawn))
+    table.end(is_written)
 
 
 # ---- driven

@@ -7,6 +7,7 @@ from pathlib import Path
 from typing import Callable, Iterator
 
 from browser import Browser, Tab, centre
+from pages.columns import MM, PAPERS
 
 SIGN = 'svg.strip .sign[data-key="{}"]'
 ROW = 'aside.list tr[data-key="{}"]'
@@ -231,6 +232,15 @@ def looks(tab: Tab, page: Path) -> Iterator[Check]:
     tab.size(1600, 1000)
 
 
+def printing(tab: Tab, page: Path) -> Iterator[Check]:
+    """each sheet of paper has the size that the page's style says, to a pixel"""
+    printed = page.with_suffix(".pdf")
+    tab.print(printed, preferCSSPageSize=True)
+    sheets = re.findall(rb"/MediaBox \[0 0 ([\d.]+) ([\d.]+)\]", printed.read_bytes())
+    wrong = [it for sheet in sheets for it, wanted in zip(sheet, PAPERS["A3"]) if abs(float(it) * 96 / 72 - wanted * MM) > 1]
+    yield f"it is printed on A3 ({len(sheets)} sheets)", bool(sheets) and not wrong
+
+
 # ---- other pages
 
 
@@ -371,7 +381,7 @@ def drive(browser: Browser, kind: str, page: Path, output: str, graph: str) -> l
                 ways = tab.run("Object.fromEntries(Object.entries(known.signals).map(([k, v]) => [k, v[2]]))")
                 found += list(paths(tab, lambda one, other: expected(one, other, ways)))
             found += list(links(tab, page, tab.run(f"objects['{switch}'].link"), switch))
-            found += list(looks(tab, page))
+            found += [*looks(tab, page), *printing(tab, page)]
         else:
             found += list({"explain": laws, "verify": laws, "front": points, "redraw": versions,
                            "fault": lines_of_fault}[kind](tab))

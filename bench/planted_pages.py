@@ -96,6 +96,12 @@ PLANTED = [
     ("two versions have columns of their own", "kinds.py", "    pictures = draw_alike(scenes)\n    is_wide",
      "    pictures = [draw(scene) for scene in scenes]\n    is_wide", "lines"),
     ("two versions have frames of their own", "drawing.py", "            picture.frame(at, box)\n", "            pass\n", "lines"),
+    ("signals on slopes lie beside their lines", "strip.py", "return x, y if high is None else high", "return x, y", "pictures"),
+    ("pages are printed on one paper", "screen/page.css", "size: PAPER;", "size: A3 landscape;", "paper"),
+    ("what can't be pressed is printed", "screen/page.css", "  .tools, .screen, .said, details { display: none }\n", "", "paper"),
+    ("a long list is cut off on paper", "screen/page.css", "max-height: none; overflow: visible; position: static; columns", "columns",
+     "paper"),
+    ("a dark screen prints dark", "screen/page.css", "@media screen and (prefers", "@media (prefers", "paper"),
 ]
 
 

@@ -6,9 +6,10 @@ from __future__ import annotations
 
 from typing import Iterable
 
-from pages.columns import MM, Columns, Strip
+from pages.columns import MM, Columns, Strip, height_at
 from pages.drawing import Scene
 from pages.places import SIZES
+from pages.texts import Edge
 from tool.law_words import kilometres
 
 LAYERS = (("TRACK", 7), ("MAIN", 7), ("NODE", 1), ("NAME", 3), ("SIGNAL", 5), ("KILOMETRE", 8))
@@ -42,6 +43,9 @@ class Dxf:
     def at(self, point: tuple[float, float]) -> tuple[float, float]:
         return MARGIN + self.columns.x(point[0], self.strip) / MM, MARGIN + point[1] * self.columns.row / MM
 
+    def line_of(self, edge: Edge) -> list[tuple[float, float]]:
+        return [self.at(point) for point in edge.points]
+
     def put(self, kind: str, layer: str, *codes: Code) -> None:
         self.codes += [(0, kind), (8, layer), *codes]
 
@@ -72,6 +76,8 @@ class Dxf:
     def put_signals(self) -> None:
         for signal in self.scene.signals:
             x, y = self.at(signal.point)
+            high = height_at(x, self.line_of(self.scene.drawing.edges[signal.edge]))
+            y = y if high is None else high
             east = self.scene.station.heads_east(signal)
             way = 1 if east or east is None else -1
             side = -way if not self.scene.is_left else way
@@ -82,7 +88,7 @@ class Dxf:
 
     def entities(self) -> list[Code]:
         for edge in self.scene.drawing.edges:
-            self.line("MAIN" if self.scene.station.is_main(edge.track) else "TRACK", [self.at(point) for point in edge.points])
+            self.line("MAIN" if self.scene.station.is_main(edge.track) else "TRACK", self.line_of(edge))
         named: set[str] = set()
         for edge in sorted(self.scene.drawing.edges, key=lambda it: it.points[0][0] - it.points[-1][0]):
             if edge.track is not None and edge.track not in named:

@@ -58,6 +58,14 @@ class Columns:
         return self.at[whole] + part * step - left
 
 
+def height_at(x: float, placed: list[tuple[float, float]]) -> Optional[float]:
+    """how high a line through these places is at another one; nothing where it doesn't reach so far"""
+    for (left, one), (right, other) in zip(placed, placed[1:]):
+        if left <= x <= right and left < right:
+            return one + (other - one) * (x - left) / (right - left)
+    return None
+
+
 def last_column(drawings: Iterable[Drawing]) -> int:
     return max((x for one in drawings for x in [it.point[0] for it in one.nodes]
                 + [x for edge in one.edges for x, _ in edge.points]), default=0)

@@ -5,7 +5,7 @@ import math
 from typing import TYPE_CHECKING, Optional
 
 from pages import places, signs
-from pages.columns import BEYOND, Columns, Strip, last_row
+from pages.columns import BEYOND, Columns, Strip, height_at, last_row
 from pages.markup import Element, element
 from pages.places import Box, Field, Line, Name, Sign, Spot, Wish
 from pages.signs import shown, spots
@@ -181,10 +181,19 @@ class StripPlan:
         wish.near = lambda text, size: places.beside_sign(wish, text, size, first)
         return wish
 
+    def line_of(self, signal: Signal) -> list[Spot]:
+        """the places through which a signal's line is drawn"""
+        return [self.at(point) for point in self.clipped(self.scene.drawing.edges[signal.edge])]
+
+    def place_of(self, signal: Signal) -> Spot:
+        """a signal's place on its line: where columns differ in width a line that rises or falls passes beside the grid's points"""
+        x, y = self.at(signal.point)
+        high = height_at(x, self.line_of(signal))
+        return x, y if high is None else high
+
     def signal_slope(self, signal: Signal, east: bool) -> float:
         """the angle of the signal's line beside the signal, which lies west or east of its column"""
-        points = [self.at(point) for point in self.scene.drawing.edges[signal.edge].points]
-        x = self.at(signal.point)[0]
+        points, x = self.line_of(signal), self.x(signal.point[0])
         angles = [math.atan2(low - high, right - left)
                   for (left, high), (right, low) in zip(points, points[1:]) if left <= x <= right]
         return angles[-1 if east else 0] if angles else 0.0
@@ -197,7 +206,7 @@ class StripPlan:
 
     def put_signal(self, signal: Signal) -> Wish:
         """a signal on its side of the track, turned as its line runs"""
-        (x, y), east, is_left = self.at(signal.point), self.scene.station.heads_east(signal), self.scene.is_left
+        (x, y), east, is_left = self.place_of(signal), self.scene.station.heads_east(signal), self.scene.is_left
         parts, corners = signs.signal_sign(east, is_left)
         left, top, right, bottom = bounds([(a, b, a, b) for a, b in corners])
         parts.insert(0, element("rect", class_="hit", x=shown(left), y=shown(top), width=shown(right - left),

@@ -55,27 +55,21 @@ def changed_number(chance: Chance, text: bytes) -> bytes:
 def changed_file(chance: Chance, text: bytes) -> bytes:
     """a railML file with one change"""
     kind = chance.randrange(8)
-    if kind == 0:
-        return changed_bytes(chance, text) or b"x"
-    if kind == 1:
-        return changed_number(chance, text)
-    return stations.edited_text(chance, text) or b"x"
+    change = changed_bytes if kind == 0 else changed_number if kind == 1 else stations.edited_text
+    return change(chance, text) or b"x"
 
 
 def changed_sheet(chance: Chance, text: bytes) -> bytes:
     """a sheet with one change"""
     kind = chance.randrange(8)
-    if kind < 2:
-        return changed_bytes(chance, text) or b"x"
-    if kind < 4:
-        return changed_number(chance, text)
-    return stations.edited_lines(chance, text) or b"x"
+    change = changed_bytes if kind < 2 else changed_number if kind < 4 else stations.edited_lines
+    return change(chance, text) or b"x"
 
 
 def changed_log(chance: Chance, text: bytes) -> bytes:
     """a log with one change, of its Learnt, Query and Refuted lines more often than of the many clauses of the station"""
     kind = chance.randrange(8)
-    if kind == 0:
+    if kind == 0 or b"\n" not in text:
         return changed_bytes(chance, text)
     if kind == 1:
         at = chance.randrange(len(text))

@@ -284,12 +284,17 @@ def parser_of(text: str, count: int) -> argparse.ArgumentParser:
 
 
 def write_row(words: argparse.Namespace, tally: Tally) -> None:
-    """puts what was tried into the table, in place of an earlier row of the script and the seed"""
+    """puts what was tried into the table, in place of an earlier row of the script and the seed. A run that goes on with the same
+    program where that row ends, by `--first`, is added to it"""
     program = hashlib.sha256(words.program.read_bytes()).hexdigest()[:8]
-    seconds = round(time.time() - words.began)
-    row = [words.name, *map(str, (words.seed, tally.cases, tally.runs, len(tally.wrong), seconds)), program]
+    counts = [tally.cases, tally.runs, len(tally.wrong), round(time.time() - words.began)]
     rows = list(csv.reader(TABLE.read_text(encoding="utf-8").splitlines()))[1:] if TABLE.exists() else []
-    rows = sorted([*(it for it in rows if it[:2] != row[:2]), row], key=lambda it: (it[0], int(it[1])))
+    place = [words.name, str(words.seed)]
+    for before in rows:
+        if before[:2] == place and before[2] == str(words.first) and before[6] == program:
+            counts = [one + int(other) for one, other in zip(counts, before[2:6])]
+    row = [*place, *map(str, counts), program]
+    rows = sorted([*(it for it in rows if it[:2] != place), row], key=lambda it: (it[0], int(it[1])))
     with TABLE.open("w", encoding="utf-8", newline="") as text:
         csv.writer(text, lineterminator="\n").writerows([HEAD, *rows])
 

@@ -9,6 +9,8 @@ from checking.crates import TOP, read, show
 RESULTS = TOP / "bench" / "results"
 PLOT = TOP / "docs" / "made" / "peers.svg"
 COLOURS = ("#146", "#c72", "#9ab", "#686")
+# how many inputs a case of each script of bench/hostile changes
+CHANGED = {"files": 1, "hints": 31, "logs": 6, "sheets": 20}
 
 
 def rows_of(name):
@@ -16,16 +18,41 @@ def rows_of(name):
         return list(csv.reader(text))
 
 
-def table(name):
+def written(head, rows):
     """The lines of a table; numbers stand at the right."""
-    head, *rows = rows_of(name)
     are_numbers = [all(row[at].replace(".", "").replace(",", "").isdigit() or row[at] == "-" for row in rows) for at in range(len(head))]
     return ["| " + " | ".join(head) + " |", "|" + "|".join("--:" if it else "---" for it in are_numbers) + "|",
             *("| " + " | ".join(row) + " |" for row in rows)]
 
 
+def table(name):
+    head, *rows = rows_of(name)
+    return written(head, rows)
+
+
+def hostile():
+    """The runs of bench/hostile, those of one script with one program together."""
+    head, *rows = rows_of("hostile")
+    together = {}
+    for row in rows:
+        together.setdefault((row[0], row[-1]), []).append(row)
+    return written(head, [[name, ", ".join(row[1] for row in some), *(str(sum(int(row[at]) for row in some)) for at in range(2, 6)), program]
+                          for (name, program), some in together.items()])
+
+
+def changed():
+    """How many inputs the scripts of bench/hostile changed, each in all its runs; the last row has the sums."""
+    sums = {name: [0, 0, 0] for name in CHANGED}
+    for name, _, cases, runs, wrong, *_ in rows_of("hostile")[1:]:
+        for key in {name, "sum"} if name in CHANGED else ():
+            more = int(cases) * CHANGED[name], int(runs), int(wrong)
+            sums[key] = [one + other for one, other in zip(sums.get(key, [0, 0, 0]), more)]
+    return written(["script", "changed inputs", "runs", "wrong"], [[name, *(f"{it:,}" for it in row)] for name, row in sums.items()])
+
+
 def tables():
-    return {f"{path.stem}_results": partial(table, path.stem) for path in sorted(RESULTS.glob("*.csv"))} | {"peers_ratios": ratios}
+    found = {f"{path.stem}_results": partial(table, path.stem) for path in sorted(RESULTS.glob("*.csv"))}
+    return found | {"peers_ratios": ratios, "hostile_results": hostile, "hostile_changed": changed}
 
 
 def seconds_of_peers():

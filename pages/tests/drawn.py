@@ -86,6 +86,8 @@ class Drawn:
     wedges: dict[str, list[Spot]] = field(default_factory=dict)
     columns: dict[int, float] = field(default_factory=dict)
     rows: dict[int, float] = field(default_factory=dict)
+    # of each signal the point from which it is drawn, which is to be on its line
+    feet: dict[str, Spot] = field(default_factory=dict)
 
 
 def of_strip(strip: Element) -> Drawn:
@@ -109,6 +111,8 @@ def walk(one: Element, matrix: Matrix, key: str, drawn: Drawn, in_sign: bool = F
     key, in_sign = str(one.attributes.get("data-key") or key), in_sign or "sign" in classes
     if "sign" in classes:
         drawn.places.setdefault(key, []).append(moved(matrix, (0, 0)))
+    if "sign" in classes and "signal" in classes:
+        drawn.feet[key] = moved(matrix, (0, 0))
     title = next((it.text() for it in flat(one.children) if isinstance(it, Element) and it.tag == "title"), "")
     for child in flat(one.children):
         if isinstance(child, Element) and child.tag == "text":
@@ -221,8 +225,18 @@ def faults_of_signs(drawn: Drawn) -> Iterator[str]:
             yield f"{key} is cut off"
 
 
+def faults_of_feet(strips: list[Drawn], signals: Union[list[Signal], tuple[()]]) -> Iterator[str]:
+    """signals that aren't on their lines"""
+    for signal in signals:
+        for drawn in strips:
+            foot, lines = drawn.feet.get(f"s{signal.number}"), drawn.edges.get(f"e{signal.edge}", [])
+            if foot and not any(meets((*foot, *foot), piece, 0.1) for line in lines for piece in zip(line, line[1:])):
+                yield f"signal {signal.number} lies beside its line"
+
+
 def faults_of_drawing(strips: list[Drawn], drawing: Drawing, signals: Union[list[Signal], tuple[()]] = ()) -> Iterator[str]:
-    """nodes, signals and names that aren't there once, tracks without a name, and edges that aren't there"""
+    """nodes, signals and names that aren't there once, tracks without a name, edges that aren't there, and signals beside their lines"""
+    yield from faults_of_feet(strips, signals)
     names = Counter(text.owner for drawn in strips for text in drawn.texts if text.owner)
     for owner in [f"node {it.number}" for it in drawing.nodes] + [f"signal {it.number}" for it in signals]:
         if names[owner] != 1:

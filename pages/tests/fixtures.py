@@ -65,6 +65,14 @@ def sample(name: str, **more: object) -> Run:
     return run
 
 
+def sloping() -> Run:
+    """a run with two signals on a line that rises and falls, over columns that differ in width"""
+    run = sample("signals")
+    output = run.output.replace("4 0 5 1 7 1 8 0", "4 0 6 2 8 0").replace("3 6 1", "3 7 1")
+    run.output = re.sub(r"(?m) \w+ (1 [56] 0)$", r" its-name-asks-for-room \1", output)
+    return run
+
+
 def samples() -> list[str]:
     return sorted(path.stem for path in SAMPLES.glob("*.run"))
 

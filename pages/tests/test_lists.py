@@ -6,9 +6,10 @@ import io
 import unittest
 
 from pages import cad
+from pages.columns import height_at
 from pages.kinds import Settings, dxf_of, make
 from pages.objects import Entry, Objects, safe
-from pages.tests.fixtures import example, run_of, sample
+from pages.tests.fixtures import example, run_of, sample, sloping
 
 TWO = ("railplan 2\ngrid 9 1 1\norder width\nnodes 2\nnode 0 {} 0 0 -5.500000\nnode 1 b 3 0 9.000000\n"
        "edges 1\nedge 0 {} 0 1 0 0 3 0\n"
@@ -79,6 +80,24 @@ class Dxf(unittest.TestCase):
         points = [(float(pairs[at + 2][1]), float(pairs[at + 3][1])) for at, it in enumerate(pairs) if it == ("0", "POINT")]
         self.assertLess(points[0][0], points[1][0])
         self.assertLess(points[0][1], points[3][1])
+
+    def lines(self, text: str, layer: str) -> list[list[tuple[float, float]]]:
+        """the points of each line of a layer"""
+        found: list[list[tuple[float, float]]] = []
+        pairs = self.pairs(text)
+        for at, pair in enumerate(pairs):
+            if pairs[at + 1:at + 2] == [("8", layer)] and pair == ("0", "POLYLINE"):
+                found.append([])
+            elif pairs[at + 1:at + 2] == [("8", layer)] and pair == ("0", "VERTEX"):
+                found[-1].append((float(pairs[at + 2][1]), float(pairs[at + 3][1])))
+        return found
+
+    def test_signals_on_slopes_are_on_their_lines(self) -> None:
+        text = dxf_of(make(sloping()))
+        tracks, feet = self.lines(text, "TRACK"), self.lines(text, "SIGNAL")[::2]
+        self.assertEqual((len(tracks), len(feet)), (4, 7))
+        for (x, near), (_, far) in feet[-2:]:
+            self.assertAlmostEqual(height_at(x, tracks[3]), near - (far - near) / 2, delta=0.01)
 
     def test_texts_are_one_line_of_ascii(self) -> None:
         self.assertEqual(cad.text_of("Ä%轉\n"), "\\U+00C4%%\\U+8F49\\U+000A")

@@ -242,6 +242,17 @@ class Paper(unittest.TestCase):
         self.assertEqual([one.x(it, strip) for it in (0.5, 1, 1.5, 2)], [-30, 0, 15, 30])
 
 
+class SignalsOnSlopes(unittest.TestCase):
+    def test_they_are_on_their_lines_where_columns_differ_in_width(self) -> None:
+        page = make(fixtures.sloping())
+        scene, strips = page.scene, [drawn.of_strip(strip) for it in page.figures for strip in it.picture.strips]
+        foot, [line] = strips[0].feet["s6"], strips[0].edges["e3"]
+        self.assertGreater(foot[0] - line[0][0], 0)
+        self.assertNotAlmostEqual(foot[0], (line[0][0] + line[1][0]) / 2, delta=9, msg="the columns are of one width")
+        self.assertEqual(list(drawn.faults_of_feet(strips, scene.signals)), [])
+        self.assertEqual(len(strips[0].feet), len(scene.signals))
+
+
 class Clashes(unittest.TestCase):
     def test_signals_on_signs_and_lines_are_noted(self) -> None:
         run = sample("signals")

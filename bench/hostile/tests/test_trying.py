@@ -129,17 +129,26 @@ class Scripts(unittest.TestCase):
 
 
 class Written(unittest.TestCase):
-    def test_a_run_has_its_row(self) -> None:
-        def words_of(name: str, seed: int) -> argparse.Namespace:
-            return argparse.Namespace(name=name, seed=seed, began=time.time(), program=Path("/bin/sh"))
-
+    def rows_of(self, *runs: tuple[str, int, int, int], program: str = "/bin/sh") -> list[list[str]]:
+        """the rows that come of runs, each with its script, its seed, its first case and how many it tried; and the head"""
         with tempfile.TemporaryDirectory() as folder, mock.patch.object(trying, "TABLE", Path(folder) / "rows.csv"):
-            for name, seed, cases in (("sheets", 12, 1), ("files", 3, 2), ("sheets", 7, 3), ("sheets", 12, 4)):
-                trying.write_row(words_of(name, seed), Tally(cases=cases, runs=9, wrong=["x"]))
-            rows = [line.split(",") for line in trying.TABLE.read_text().splitlines()]
+            for number, (name, seed, first, cases) in enumerate(runs):
+                path = Path("/bin/sh" if number == 0 else program)
+                words = argparse.Namespace(name=name, seed=seed, first=first, began=time.time() - 5, program=path)
+                trying.write_row(words, Tally(cases=cases, runs=9, wrong=["x"]))
+            return [line.split(",") for line in trying.TABLE.read_text().splitlines()]
+
+    def test_a_run_has_its_row(self) -> None:
+        rows = self.rows_of(("sheets", 12, 0, 1), ("files", 3, 0, 2), ("sheets", 7, 0, 3), ("sheets", 12, 0, 4))
         self.assertEqual([row[:5] for row in rows], [["script", "seed", "cases", "runs", "wrong"], ["files", "3", "2", "9", "1"],
                                                     ["sheets", "7", "3", "9", "1"], ["sheets", "12", "4", "9", "1"]])
-        self.assertEqual(rows[1][5:], ["0", hashlib.sha256(Path("/bin/sh").read_bytes()).hexdigest()[:8]])
+        self.assertEqual(rows[1][5:], ["5", hashlib.sha256(Path("/bin/sh").read_bytes()).hexdigest()[:8]])
+
+    def test_a_run_that_goes_on_is_added_to_its_row(self) -> None:
+        self.assertEqual(self.rows_of(("files", 3, 0, 20), ("files", 3, 20, 7))[1][:6], ["files", "3", "27", "18", "2", "10"])
+        for other in (("files", 3, 21, 7), ("files", 3, 0, 7)):
+            self.assertEqual(self.rows_of(("files", 3, 0, 20), other)[1:][0][:6], ["files", "3", "7", "9", "1", "5"])
+        self.assertEqual(self.rows_of(("files", 3, 0, 20), ("files", 3, 20, 7), program="/bin/ls")[1][2:4], ["7", "9"])
 
 
 class Interrupts(unittest.TestCase):
@@ -207,6 +216,14 @@ class Changes(unittest.TestCase):
             self.assertEqual(made, [change(random.Random(seed), text) for seed in range(300)])
             self.assertGreater(sum(one != text for one in made), 200, change)
             self.assertGreater(len(set(made)), 90, change)
+
+    def test_what_little_is_left_of_a_text_is_changed_too(self) -> None:
+        for change in (changes.changed_file, changes.changed_sheet, changes.changed_log, changes.changed_hints):
+            for seed in range(600):
+                chance, text = random.Random(seed), (b"x", b"\n", b"1", b"7\n")[seed % 4]
+                for _ in range(6):
+                    text = change(chance, text)
+                    self.assertTrue(text or change in (changes.changed_log, changes.changed_hints), (change, seed))
 
 
 class Slow(unittest.TestCase):
