@@ -8,6 +8,7 @@ from functools import cache
 
 from checking.crates import DOCUMENTS, TOP, crates, handed_on, read, show, spans, stands_on
 from checking.numbers import WORDS_OF_NUMBERS, Missing, constant, criteria, faults, laws, options, source, statuses, usual_order
+from pages.cad import CAP
 from pages.places import SIZES
 from tool import words as table
 
@@ -28,8 +29,9 @@ SENTENCES = [
     (README, "`certified 4` with status {Done}:"),
     (README, "Were the loop drawn below its track, `verify` would print `broken law 4 node {loop}`."),
     (README, "The switch `W3`, at km {km}, has its legs in the {legs}, the {side} one diverges"),
-    (GUIDE, "The values are height {height}, {bends} bends, {diagonal} columns of diagonals and width {width}."),
-    (GUIDE, "none is lower; of those as low none has fewer {second}; then fewer columns of diagonals; then none is narrower"),
+    (GUIDE, "The values are height {height}, {bends} bends, diagonal {diagonal} and width {width}:"),
+    (GUIDE, "none is lower; of those as low none has fewer {second}; then comes the diagonal, the columns in which a line rises or falls, added up "
+            "over all lines; then the width."),
     (GUIDE, "`node {loop} W3 {loop_x} {loop_y} {metres}` is node {loop}: the switch `W3` is at column {loop_x} of row {loop_y}, at km {km}."),
     (GUIDE, "`edge {line}` goes from node {line_west} to node {line_east}, through the points behind them: up, level, down."),
     (GUIDE, "one `outgoing` and one `incoming`, as `{outgoing}` and `{incoming}`"),
@@ -46,7 +48,7 @@ SENTENCES = [
     (GUIDE, "`certified {many}`: all {all} values are least"),
     (GUIDE, "With `end conflicts 2` {first} and {second} would be least."),
     (GUIDE, "for fewer criteria with `--order {first}`"),
-    (GUIDE, "Letters have one size, about {letters} mm, on each paper"),
+    (GUIDE, "Capitals are about {capitals} mm high on each paper"),
     (FORMATS, "Only {have_options} and `redraw` have options: `signals` has all of these but {not_signals}, `front` and `explain` have "
               "{of_front}, and `redraw` has these and {more_of_redraw}:"),
     (FORMATS, "Of attributes {attributes} are read, and no others"),
@@ -83,7 +85,7 @@ SENTENCES = [
     (TRUSTED, "`front` with {Done}: the pairs are exactly those"),
     (TRUSTED, "With {NoDrawing} none is lawful. With {Unfinished} none is missing"),
     (TRUSTED, "`explain` with {Done}: `drawing exists`"),
-    (TRUSTED, "With {Unfinished} no Model line answers a query of all laws."),
+    (TRUSTED, "With {Unfinished} it keeps no lawful drawing back:"),
     (TRUSTED, "`redraw` with {Done}: the drawing is lawful, and no lawful drawing moves fewer nodes. With {NoDrawing} none is lawful."),
     (TRUSTED, "end with {Done} exactly where some drawing is lawful on their grid, and with {NoDrawing} exactly where none is; and `explain` ends "
               "with {Done}."),
@@ -190,8 +192,8 @@ def of_answers():
 
 
 def of_pages():
-    """The paper that pages are for, and the size of letters in mm, of which 25.4 are 96 units of a page"""
-    return {"paper": table.PAGE_WORDS["--paper"].usual, "letters": str(round(SIZES["node"] * 25.4 / 96))}
+    """The paper that pages are for, and how high capitals are in mm, of which 25.4 are 96 units of a page"""
+    return {"paper": table.PAGE_WORDS["--paper"].usual, "capitals": str(round(SIZES["node"] * CAP * 25.4 / 96))}
 
 
 def of_options():
