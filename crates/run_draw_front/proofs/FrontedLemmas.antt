@@ -6,6 +6,7 @@ use Rattle.plan_core.specs.Graph.{Graph}
 use Rattle.cnf_core.specs.declared.limits.TheConstants.{ROOM}
 use Rattle.track_order.specs.Order.{EdgeOrder}
 use Rattle.refute_log.specs.Told.{Lines, AddsAll}
+use Rattle.refute_log.proofs.StepLemmas.{counted_within}
 use Rattle.search_least.specs.Task.{IsLawful}
 use Rattle.trade_off.specs.declared.outcome.FrontEnd.{FrontEnd}
 use Rattle.trade_off.specs.Front.{Pairs}
@@ -49,6 +50,7 @@ told_front_left grid a b budget asked g o pairs ending told old new same log one
     subst (IsLeftOfFront asked g o) (one told lines (adds [] none) is) (left_of_parts grid a b budget asked g o told same (record {
       derives = log.derives;
       begins = log.begins;
+      few = counted_within budget told log.within;
     }))
 
 -- nothing was told

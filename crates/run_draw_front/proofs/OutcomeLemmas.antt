@@ -4,6 +4,7 @@ use Rattle.std.specs.Prelude.{length, min}
 use Rattle.plan_core.specs.declared.criterion.Criterion.{Criterion}
 use Rattle.refute_log.specs.Told.{Lines}
 use Rattle.refute_log.specs.Expected.{bound_vars, caps}
+use Rattle.refute_log.proofs.StepLemmas.{counted_within}
 use Rattle.search_least.specs.Task.{Task, greatest_of}
 use Rattle.search_least.specs.Outcome.{IsOutcome, IsSearched, IsLeastLeft}
 use Rattle.search_least.specs.declared.outcome.Outcome.{Outcome}
@@ -37,4 +38,5 @@ outcome_left p order outcome lines ended =
       cap = caps (greatest_of p) lines;
       within = λ c. let e : min (length (bound_vars c lines)) (greatest_of p c) ≡ caps (greatest_of p) lines c = refl in omega (arith, e);
       begins = searched.front;
+      few = counted_within p.budget lines searched.within;
     }

@@ -159,8 +159,8 @@ IsLeftByDraw input asked met traced name bytes =
 
 -- ---- what the trace is told, also where there is no answer
 
--- lines of a search for what is asked, whether it ended or was cut short: they derive, and the clauses that they give
--- are the first of those that are expected
+-- lines of a search for what is asked, whether it ended or was cut short: they derive, the clauses that they give are
+-- the first of those that are expected with some caps, and no more were learnt than the budget allows
 abbrev pub IsLeftOfDraw : Job → Graph → EdgeOrder → Lines → Type 0
 IsLeftOfDraw asked g o lines = IsLeastLeft (search_of g o asked) asked.order lines
 

@@ -111,6 +111,7 @@ impl<'a> Searching for BestSearch<'a> {
       cap = λ _. 0;
       within = λ c. omega arith;
       begins = (_, refl);
+      few = omega arith;
     } };
 }
 

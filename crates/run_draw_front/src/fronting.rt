@@ -94,7 +94,7 @@ fn front_station<L: LogSink>(
 }
 
 /// What `front` answers. After an error the Formula and Bound lines of a trace that had no line are the first of those
-/// that are expected, or there are none.
+/// that are expected, or there are none, and it has no more Learnt lines than the budget allows.
 pub fn front<F: Files, T: LogSink>(
     alloc: Global,
     input: &Text,

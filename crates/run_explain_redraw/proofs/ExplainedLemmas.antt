@@ -13,6 +13,7 @@ use Rattle.lawful_check.specs.declared.law_break.LawBreak.{LawBreak}
 use Rattle.lawful_check.specs.Breaks.{break_of}
 use Rattle.track_order.specs.Order.{EdgeOrder, is_above}
 use Rattle.refute_log.specs.Told.{Lines, AddsAll}
+use Rattle.refute_log.proofs.StepLemmas.{counted_within}
 use Rattle.drawing_cnf.specs.Layout.{layout}
 use Rattle.search_why.proofs.OutcomeLemmas.{none_lawful}
 use Rattle.search_why.specs.Task.{Task}
@@ -93,7 +94,7 @@ exists g o asked Room right done = absurd (cc)
 -- ---- what is left after an error
 
 pub left_of_parts : (grid : GridSize) (budget : ℕ) (asked : ExplainJob) (g : Graph) (o : EdgeOrder) (lines : Lines) → explain_job grid budget ≡ asked →
-    IsWhyLeft (layout g o grid) lines → IsLeftOfExplain asked g o lines
+    IsWhyLeft (layout g o grid) budget lines → IsLeftOfExplain asked g o lines
 left_of_parts grid budget asked g o lines same left = subst (λ (j : ExplainJob). IsLeftOfExplain j g o lines) same left
 
 -- the whole search was told
@@ -102,7 +103,11 @@ pub told_why_left : (grid : GridSize) (budget : ℕ) (asked : ExplainJob) (g : G
     old [] → (lines : Lines) → new lines → IsLeftOfExplain asked g o lines
 told_why_left grid budget asked g o w told old new same log one adds none lines is =
     subst (IsLeftOfExplain asked g o) (one told lines (adds [] none) is)
-    (left_of_parts grid budget asked g o told same (record { derives = log.derives; begins = log.begins }))
+    (left_of_parts grid budget asked g o told same (record {
+      derives = log.derives;
+      begins = log.begins;
+      few = counted_within budget told log.within;
+    }))
 
 -- nothing was told
 pub left_unbegun : (asked : ExplainJob) (input : List ℕ) (met : Met) (log : Lines → Type 0) → ((x y : Lines) → log x → log y → x ≡ y) → log [] →

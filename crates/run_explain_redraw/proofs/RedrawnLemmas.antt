@@ -1,5 +1,5 @@
 -- What redraw answers once the three files were read, and what it leaves.
-use Rattle.std.proofs.Common.{◌≡◌, ◌≢◌, ◌⊎◌, ℕ, List, [], ◌∷◌, map, append-nil, None, Some, refl, sym, ◌∙◌, ap, subst, inl, inr}
+use Rattle.std.proofs.Common.{◌≡◌, ◌≢◌, ◌⊎◌, ℕ, List, [], ◌∷◌, map, append-nil, None, Some, refl, sym, ◌∙◌, ap, subst, inl, inr, arith}
 use Rattle.std.specs.Prelude.{Result, Ok, Err, IfOk, IfSome}
 use Rattle.std.specs.declared.option.Option.{Option}
 use Rattle.outside_io.specs.Contents.{FilesAt, WhereTold, SameFiles}
@@ -11,6 +11,7 @@ use Rattle.refute_log.specs.declared.line.LogLine.TheVariants.{Formula}
 use Rattle.refute_log.specs.Log.{clause_lines}
 use Rattle.refute_log.specs.FileLog.{BeginsLog}
 use Rattle.refute_log.proofs.LogLemmas.{derives_none}
+use Rattle.refute_log.proofs.StepLemmas.{counted_within}
 use Rattle.drawing_cnf.specs.Layout.{Layout}
 use Rattle.drawing_cnf.specs.Moved.{Former}
 use Rattle.search_least.specs.declared.fewest.Fewest.{Fewest}
@@ -142,10 +143,18 @@ redraw_untold (Some file) input former sheet old new Refused before after found 
 
 -- the lines of a search that came to its end begin what is expected
 pub moved_left : (y : Layout) (former : Former) (budget room : ℕ) (o : Fewest) (lines : Lines) → IsMovedEnd y former budget room o lines →
-    IsMovedLeft y former lines
-moved_left y former budget room o lines (inl log) = record { derives = log.derives; begins = ([], sym log.told ∙ sym (append-nil (clause_lines lines))) }
+    IsMovedLeft y former budget lines
+moved_left y former budget room o lines (inl log) = record {
+  derives = log.derives;
+  begins = ([], sym log.told ∙ sym (append-nil (clause_lines lines)));
+  few = counted_within budget lines log.within;
+}
 moved_left y former budget room o lines (inr none) =
-    subst (IsMovedLeft y former) (sym none.1) (record { derives = derives_none; begins = (map Formula (formula_of y former), refl) })
+    subst (IsMovedLeft y former budget) (sym none.1) (record {
+      derives = derives_none;
+      begins = (map Formula (formula_of y former), refl);
+      few = counted_within budget [] (omega arith);
+    })
 
 -- lines of the search for what was read are such of redraw
 pub redraw_tells : (input former sheet : List ℕ) (asked : RedrawJob) (met : Met) (found : HasReadFormer input former sheet met) (old new : Lines → Type 0) →

@@ -52,7 +52,7 @@ pub record IsExplainAnswer (asked : ExplainJob) (IsTold : Lines → Type 0) (g :
 
 -- what is left of such a search for the station after an error
 abbrev pub IsLeftOfExplain : ExplainJob → Graph → EdgeOrder → Lines → Type 0
-IsLeftOfExplain asked g o lines = IsWhyLeft (layout g o asked.grid) lines
+IsLeftOfExplain asked g o lines = IsWhyLeft (layout g o asked.grid) asked.budget lines
 
 -- what a run may leave after an error in a log that had no line: nothing, or what is left of a search for the station
 -- that was read

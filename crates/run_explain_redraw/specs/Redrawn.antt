@@ -47,10 +47,10 @@ abbrev pub HasEndedMoved : Graph → EdgeOrder → RedrawJob → Former → Fewe
 HasEndedMoved g o asked former outcome lines = IsRightFewest (moved_in g o asked former) outcome
     × IsMovedEnd (layout g o asked.grid) former asked.budget ROOM outcome lines
 
--- lines of such a search, whether it ended or was cut short: they derive, and the clauses that they give are the first
--- of those that are expected
+-- lines of such a search, whether it ended or was cut short: they derive, the clauses that they give are the first of
+-- those that are expected, and no more were learnt than the budget allows
 abbrev pub IsLeftOfRedraw : RedrawJob → Graph → EdgeOrder → Former → Lines → Type 0
-IsLeftOfRedraw asked g o former lines = IsMovedLeft (layout g o asked.grid) former lines
+IsLeftOfRedraw asked g o former lines = IsMovedLeft (layout g o asked.grid) former asked.budget lines
 
 -- a search with this outcome was done and told these lines: they certify of the drawings what the outcome says
 pub record HasSearchedMoved (g : Graph) (o : EdgeOrder) (asked : RedrawJob) (former : Former) (IsTold : Lines → Type 0)

@@ -106,7 +106,7 @@ fn explain_station<L: LogSink>(
 }
 
 /// What `explain` answers. After an error the Formula lines of a trace that had no line are the first of those that
-/// are expected, or there are none.
+/// are expected, or there are none, and it has no more Learnt lines than the budget allows.
 pub fn explain<F: Files, T: LogSink>(
     alloc: Global,
     input: &Text,

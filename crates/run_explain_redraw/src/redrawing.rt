@@ -55,7 +55,7 @@ struct MovedSearch<'a> {
 
 impl<'a> Searching for MovedSearch<'a> {
     ghost use Rattle.std.specs.Prelude.{◌≡◌, length, None};
-    ghost use Rattle.std.proofs.Common.{refl};
+    ghost use Rattle.std.proofs.Common.{refl, arith};
     ghost use Rattle.track_order.specs.Order.{IsOrderOf};
     ghost use Rattle.refute_log.proofs.LogLemmas.{derives_none};
     ghost use Rattle.run_explain_redraw.specs.Redrawn.{redraw_job};
@@ -90,7 +90,7 @@ impl<'a> Searching for MovedSearch<'a> {
         }
     }
 
-    ghost left_none = { λ s. record { derives = derives_none; begins = (_, refl) } };
+    ghost left_none = { λ s. record { derives = derives_none; begins = (_, refl); few = omega arith } };
 }
 
 /// The search for what is asked, its lines given to the file that is named for them or else to the trace.

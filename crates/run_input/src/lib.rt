@@ -11,9 +11,10 @@
 //! modules give. `law` writes a law and its parties as fields of a line (`specs/Law`). `laws` says that a file has one
 //! station or one fault.
 //!
-//! `searching` is the frame of each search of a command (`Searching`): `search_logged` gives its lines to the file that
-//! is named for them, or else to the trace. `specs/SearchLog` says which lines a run gave, `specs/Written` which files
-//! are written. This crate uses those that read a station. Each command's crate uses it.
+//! `searching` is the frame of each search whose lines may go to a file, and of that of trial (`Searching`):
+//! `search_logged` gives the lines to the file that is named for them, or else to the trace. `specs/SearchLog` says
+//! which lines a run gave, `specs/Written` which files are written. This crate uses those that read a station. Each
+//! command's crate uses it.
 #![tactic(auto)]
 
 mod fault;

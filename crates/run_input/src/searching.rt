@@ -1,5 +1,5 @@
-// A search whose lines go to the file that is named for them, or else to the trace: one frame for each search of a
-// command.
+// A search whose lines go to the file that is named for them, or else to the trace: one frame for each search whose
+// lines may go to a file, and for that of trial.
 ghost use Rattle.std.specs.Prelude.{◌≡◌, ◌≢◌, ◌≤◌, ◌⊎◌, [], None, Some, IfOk, IsErrOf};
 ghost use Rattle.outside_io.specs.Contents.{WhereTold, SameElsewhere};
 ghost use Rattle.outside_io.specs.Counts.{Rose};
@@ -40,7 +40,7 @@ pub trait Searching {
         ensures faults { L.faults log.old ≤ L.faults log.new }
         ensures cause { IsErrOf result Cut.Unwritten → Rose (L.faults log.old) (L.faults log.new) };
 
-    /// No lines are such.
+    /// The empty list is such.
     ghost left_none: { (s : Self) → left s [] };
 }
 

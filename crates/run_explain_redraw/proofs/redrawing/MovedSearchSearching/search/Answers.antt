@@ -27,8 +27,8 @@ returns-in-Ok-clause-left g c =
     let s = c.args.self.now in
     let y = layout s.known.now.station.graph s.known.now.station.order s.grid.now in
     let lines = c.in-Ok.ensures.lines in
-    subst (λ (former : Former). TellsIfNew (IsMovedLeft y former) (k.tells c.args.log.now) (k.tells c.fewest_moved.new.log)) c.deref.ensures.value
-    (tells_told (IsMovedLeft y c.deref.result.now) (k.tells c.args.log.now) (k.tells c.fewest_moved.new.log) lines.0
+    subst (λ (former : Former). TellsIfNew (IsMovedLeft y former s.budget) (k.tells c.args.log.now) (k.tells c.fewest_moved.new.log)) c.deref.ensures.value
+    (tells_told (IsMovedLeft y c.deref.result.now s.budget) (k.tells c.args.log.now) (k.tells c.fewest_moved.new.log) lines.0
     (g.met.L.LogSink.one_reading c.fewest_moved.new.log) lines.1.behind (moved_left y c.deref.result.now s.budget ROOM c.in-Ok.outcome lines.0 lines.2))
 
 pub returns-in-Err-Log-clause-left : goal.returns-in-Err-Log-clause-left
@@ -36,7 +36,7 @@ returns-in-Err-Log-clause-left g c =
     let k = g.L.LogSink in
     let s = c.args.self.now in
     let y = layout s.known.now.station.graph s.known.now.station.order s.grid.now in
-    subst (λ (former : Former). TellsIfNew (IsMovedLeft y former) (k.tells c.args.log.now) (k.tells c.fewest_moved.new.log)) c.deref.ensures.value
+    subst (λ (former : Former). TellsIfNew (IsMovedLeft y former s.budget) (k.tells c.args.log.now) (k.tells c.fewest_moved.new.log)) c.deref.ensures.value
     c.in-Err-Log.ensures.left
 
 pub returns-in-Err-Memory-clause-left : goal.returns-in-Err-Memory-clause-left
@@ -44,5 +44,5 @@ returns-in-Err-Memory-clause-left g c =
     let k = g.L.LogSink in
     let s = c.args.self.now in
     let y = layout s.known.now.station.graph s.known.now.station.order s.grid.now in
-    subst (λ (former : Former). TellsIfNew (IsMovedLeft y former) (k.tells c.args.log.now) (k.tells c.fewest_moved.new.log)) c.deref.ensures.value
+    subst (λ (former : Former). TellsIfNew (IsMovedLeft y former s.budget) (k.tells c.args.log.now) (k.tells c.fewest_moved.new.log)) c.deref.ensures.value
     c.in-Err-Memory.ensures.left
