@@ -7,19 +7,21 @@ use std::alloc::Global;
 use std::hash::{DefaultHasher, Hasher};
 use std::marker::Model;
 
-/// A set of words of literals, in a row of places. A word's hash says which place is its own. There it is, or behind,
-/// where others had taken all places up to it. So a look goes from the own place on, to the first free one at most, and
-/// is a read or two, since there are at least as many own places as words, and half of them free at first.
+/// A set of words of literals, in a row of places. A word's hash says which place is its own. It is there, or behind,
+/// where others had taken the places before it. So a look goes from the own place on, to the first free one at most. It
+/// reads a place or two, since at most half of the own places are taken.
 #[derive(Drop)]
 pub(crate) struct FarWords {
     alloc: Global,
     /// What is at each place: a word, or 0 where it is free.
     row: Vec<u32>,
-    /// The last place that is some word's own: so many times 2, less 1.
+    /// The last own place: a power of 2, less 1.
     last: usize,
+    /// How many words there are.
     count: u32,
     /// What words are multiplied by, for their hashes.
     key: u64,
+    /// Of all words that were seen: keys come of it.
     seen: DefaultHasher,
 }
 
