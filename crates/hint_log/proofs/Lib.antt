@@ -1,5 +1,6 @@
 pub mod LeftLemmas
 pub mod NegationLemmas
+pub mod FarWordsLemmas
 pub mod MarksLemmas
 pub mod NotesLemmas
 pub mod HintLemmas
