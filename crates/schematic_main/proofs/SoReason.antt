@@ -1,7 +1,7 @@
 -- The text of an explanation is read back in one way as far as it names laws: whichever laws of the station it is read as,
 -- they are those that explain.
 use Rattle.std.proofs.Common.{◌≡◌, ◌⊎◌, ◌≤◌, ◌<◌, ◌^◌, ℕ, zero, suc, ◌/◌, ◌%◌, ◌==◌, Bool, false, true, cond, List, [], ◌∷◌, ◌++◌, length, map, get_or}
-use Rattle.std.proofs.Common.{Some, None, refl, sym, ◌∙◌, ap, subst, arith, append_assoc}
+use Rattle.std.proofs.Common.{inl, inr, Some, refl, sym, ◌∙◌, ap, subst, arith, append_assoc}
 use Rattle.std.specs.Prelude.{All, flat_map, codes}
 use Rattle.std.specs.Fmt.{decimal, digits, digits_onto, digit_glyph}
 use Rattle.std.specs.List.{AllByRecursion}
@@ -34,17 +34,15 @@ glyph_is_no_end n ends = grind (arith, ends)
 
 onto_is_one : (k n : ℕ) (behind : List ℕ) → IsOneField behind → IsOneField (digits_onto k 10 false n behind)
 onto_is_one zero n behind h = h
-onto_is_one (suc k) n behind h = by (n / 10 == 0)
+onto_is_one (suc k) n behind h =
+    let one : IsOneField (digit_glyph false (n % 10) ∷ behind) = (glyph_is_no_end n, h) in
+    either (n / 10 == 0) one (onto_is_one k (n / 10) (digit_glyph false (n % 10) ∷ behind) one)
   where
-    more : List ℕ
-    more = digit_glyph false (n % 10) ∷ behind
-
-    one : IsOneField more
-    one = (glyph_is_no_end n, h)
-
-    by : (b : Bool) → IsOneField (cond b more (digits_onto k 10 false (n / 10) more))
-    by true = one
-    by false = onto_is_one k (n / 10) more one
+    either : (b : Bool) → IsOneField (digit_glyph false (n % 10) ∷ behind) →
+        IsOneField (digits_onto k 10 false (n / 10) (digit_glyph false (n % 10) ∷ behind)) →
+        IsOneField (cond b (digit_glyph false (n % 10) ∷ behind) (digits_onto k 10 false (n / 10) (digit_glyph false (n % 10) ∷ behind)))
+    either true last more = last
+    either false last more = more
 
 number_is_one : (n : ℕ) → IsOneField (decimal n)
 unfolding digits
