@@ -170,8 +170,9 @@ MayLeave (Explain input grid budget) met traced name bytes = ⊥
 MayLeave (Trim input sheet log hints) met traced name bytes = IsLeftByTrim input sheet log hints met name bytes
 MayLeave (Recheck input sheet hints) met traced name bytes = ⊥
 
--- with every status, what a trace that had no line may hold: none, or lines of the search that there was, and the
--- clauses that these give are the first of those that are expected; a command that tells it nothing leaves none
+-- with every status, what a trace that had no line may hold: none, or lines of the search that there was, the clauses
+-- that these give are the first of those that are expected, and no more were learnt than the budget allows; a command
+-- that tells it nothing leaves none
 abbrev pub TraceMayHold : Command → Met → Lines → Type 0
 TraceMayHold (Draw input grid order budget svg log) met lines =
     DrawMayTell (job grid order budget svg log) input met lines

@@ -1,4 +1,4 @@
--- Which fault a command names with 1, where contents are known: the first that its inputs have. It follows from
+-- What a command prints with 1 for a fault of the file or of the sheet, where contents are known. It follows from
 -- `specs/So`.
 use Rattle.std.specs.Prelude.{◌≡◌, ℕ, Bool, false, true, List, [], ◌∷◌, Some}
 use Rattle.outside_io.specs.Contents.{Told}
@@ -21,8 +21,8 @@ use Rattle.schematic_main.specs.So.{VerifyIsSo, CheckIsSo, IsSo}
 abbrev pub ReadsAlone : Command → (input : List ℕ) → Type 0
 ReadsAlone command input = inputs_of command ≡ text_input 1 input ∷ []
 
--- where the file has a fault, a command that reads no other prints its line; a file has one at most (`one_fault` of
--- run_input)
+-- where the file has a fault, a command that reads no other prints with 1 its line; a file has one at most
+-- (`one_fault` of run_input)
 abbrev pub FileFaultIsNamed : Type 0
 FileFaultIsNamed = (command : Command) (told : Told) (input bytes : List ℕ) (fault : RunFault) (text : List ℕ) →
     ReadsAlone command input → told input ≡ Some bytes → HasFileFault bytes fault →
@@ -37,7 +37,7 @@ pub record IsFaultOfSheet (told : Told) (needs_drawing : Bool) (g : Graph) (shee
   pub short : IsShort MAX_FILE_BYTES bytes
   pub first : HasSheetFault g needs_drawing bytes what line
 
--- where the file has a station and the sheet a fault, verify prints the line of the sheet's first
+-- where the file has a station and the sheet a fault, verify prints with 1 the line of the sheet's first
 abbrev pub VerifyNamesSheetFault : Type 0
 VerifyNamesSheetFault = (told : Told) (input sheet : List ℕ) (g : Graph) (o : EdgeOrder) (what : SheetWhat) (line : ℕ)
     (text : List ℕ) → IsStationOf input (Some told) g o → IsFaultOfSheet told true g sheet what line →

@@ -102,10 +102,6 @@ TellsNothing words met = WhereAsked words (λ command. MayTell command met → �
 
 -- ---- what it told
 
--- where a log told no line before, this holds of what it tells
-abbrev pub HoldsIfNew : (old new : Lines → Type 0) → (Lines → Type 0) → Type 0
-HoldsIfNew old new May = old [] → (lines : Lines) → new lines → May lines
-
 -- what a trace that had no line may hold after a run: nothing, or what the command that the words ask for may leave in
 -- it
 abbrev pub RunMayTell : List (List ℕ) → Met → Lines → Type 0

@@ -6,9 +6,9 @@ ghost use Rattle.run_input.specs.Met.{between, ReadsInputs, IsUnread, IsUnwritte
 ghost use Rattle.refute_log.specs.ToldTo.{told_to};
 ghost use Rattle.schematic_main.specs.Commands.{HasApartPair, inputs_of, outputs_of, AnswersAlone, MayWrite, MayTell};
 ghost use Rattle.schematic_main.specs.Commands.{MayLeave, Owes, TraceMayHold};
-ghost use Rattle.run_input.specs.SearchLog.{DerivesIfNew};
+ghost use Rattle.run_input.specs.SearchLog.{DerivesIfNew, TellsIfNew};
 ghost use Rattle.run_input.specs.Written.{AreFilesApart};
-ghost use Rattle.schematic_main.specs.Run.{CommandFailsToWrite, HoldsIfNew};
+ghost use Rattle.schematic_main.specs.Run.{CommandFailsToWrite};
 
 use outside_io::Files;
 use plan_words::Command;
@@ -46,7 +46,7 @@ pub fn answer_to<F: Files, T: LogSink>(
     ensures later { (F.at files.old).read_faults ≤ (F.at files.new).read_faults }
     ensures derives { DerivesIfNew (T.tells trace.old) (T.tells trace.new) }
     ensures begins { let met = between (F.at files.old) (F.at files.new) in
-        HoldsIfNew (T.tells trace.old) (T.tells trace.new) (TraceMayHold command.now met) }
+        TellsIfNew (TraceMayHold command.now met) (T.tells trace.old) (T.tells trace.new) }
     ensures traced { T.is_later trace.old trace.new }
     ensures untold { let met = between (F.at files.old) (F.at files.new) in
         IsOkAnd result (λ r. IsRefused r.status) ⊎ (MayTell command.now met → ⊥) → trace.new ≡ trace.old }
