@@ -1,6 +1,5 @@
 pub mod LeftLemmas
 pub mod NegationLemmas
-pub mod FarWordsLemmas
 pub mod MarksLemmas
 pub mod NotesLemmas
 pub mod HintLemmas

@@ -5,7 +5,7 @@ use cdcl_core::Solver;
 use drawing_cnf::{Bounds, Encoded, greatest};
 use plan_core::Criterion;
 use plan_geometry::Drawing;
-use refute_log::{LogSink, LogTeller};
+use refute_log::LogSink;
 use search_least::{Below, Built, MinFault, Oracle, Reply};
 use std::alloc::Global;
 
@@ -31,10 +31,13 @@ pub(crate) struct Search<'k, 's, 'l, 'a, L: LogSink> {
     pub(crate) log: &'l mut L,
 }
 
-impl<'k, 's, 'l, 'a, L: LogSink> LogTeller for Search<'k, 's, 'l, 'a, L> {
-    ghost use Rattle.std.specs.Prelude.{◌≡◌};
-    ghost use Rattle.std.proofs.Common.{refl, ◌∙◌};
-    ghost use Rattle.lex_minimise.specs.Search.{IsReadyWith, KnowsWith};
+impl<'k, 's, 'l, 'a, L: LogSink> Oracle for Search<'k, 's, 'l, 'a, L> {
+    ghost use Rattle.std.specs.Prelude.{◌≡◌, ◌≤◌};
+    ghost use Rattle.std.proofs.Common.{refl, ◌∙◌, subst};
+    ghost use Rattle.lex_minimise.specs.Known.{caps_of};
+    ghost use Rattle.lex_minimise.specs.Search.{task_with, IsReadyWith, KnowsWith};
+
+    ghost task = { λ s. task_with s.known.now };
 
     ghost ready = { λ s. IsReadyWith s.known.now s.solver.now };
 
@@ -48,31 +51,6 @@ impl<'k, 's, 'l, 'a, L: LogSink> LogTeller for Search<'k, 's, 'l, 'a, L> {
 
     ghost is_later = { λ s t. (t.known.ghost_name ≡ s.known.ghost_name) × (t.solver.ghost_name ≡ s.solver.ghost_name)
         × (t.log.ghost_name ≡ s.log.ghost_name) × L.is_later s.log.now t.log.now };
-
-    ghost derives = { λ s lines k. k.belongs.derives };
-
-    ghost due = { λ s lines k. k.belongs.due };
-
-    ghost one_reading = { λ s a b x y. L.one_reading s.log.now a b x y };
-
-    ghost later_same = { λ s. (refl, refl, refl, L.later_same s.log.now) };
-
-    ghost later_more = { λ a b c h k. (
-      k.0 ∙ h.0,
-      k.1 ∙ h.1,
-      k.2 ∙ h.2,
-      L.later_more a.log.now b.log.now c.log.now h.3
-          k.3,
-    ) };
-}
-
-impl<'k, 's, 'l, 'a, L: LogSink> Oracle for Search<'k, 's, 'l, 'a, L> {
-    ghost use Rattle.std.specs.Prelude.{◌≤◌};
-    ghost use Rattle.std.proofs.Common.{subst};
-    ghost use Rattle.lex_minimise.specs.Known.{caps_of};
-    ghost use Rattle.lex_minimise.specs.Search.{task_with};
-
-    ghost task = { λ s. task_with s.known.now };
 
     ghost caps = { λ s. caps_of s.known.now.told.items };
 
@@ -94,6 +72,10 @@ impl<'k, 's, 'l, 'a, L: LogSink> Oracle for Search<'k, 's, 'l, 'a, L> {
 
     ghost formed = { λ s lines k. k.belongs.formed };
 
+    ghost derives = { λ s lines k. k.belongs.derives };
+
+    ghost due = { λ s lines k. k.belongs.due };
+
     ghost fits = { λ s lines k. k.fits };
 
     ghost within = { λ s lines k. subst (λ n. n ≤ s.known.now.budget) k.learnt_are k.spent };
@@ -103,4 +85,16 @@ impl<'k, 's, 'l, 'a, L: LogSink> Oracle for Search<'k, 's, 'l, 'a, L> {
     ghost counted = { λ s lines c k. k.counted c };
 
     ghost apart = { λ s lines k. k.apart };
+
+    ghost one_reading = { λ s a b x y. L.one_reading s.log.now a b x y };
+
+    ghost later_same = { λ s. (refl, refl, refl, L.later_same s.log.now) };
+
+    ghost later_more = { λ a b c h k. (
+      k.0 ∙ h.0,
+      k.1 ∙ h.1,
+      k.2 ∙ h.2,
+      L.later_more a.log.now b.log.now c.log.now h.3
+          k.3,
+    ) };
 }

@@ -2,11 +2,11 @@
 //!
 //! A log is the certificate of a drawing, a line each: the clauses of its formula, learnt clauses, questions,
 //! answers. A search gives its lines to a `LogSink`: `LineList` keeps them, `NoLog` counts them, `FileLog` writes
-//! them to a file. `LogTeller` says what a search that tells them knows of them. `write_line` and `read_line` write
-//! and read a line's text. Other texts with literals use `read_literal`, `write_literals`, `are_distinct` and
-//! `is_number`. `specs/Lines` says which lines there may be. `specs/LineText` and `specs/LineForm` say what a text is
-//! as a line, or its fault. `specs/Log` says which logs derive. `specs/Told`, `specs/ToldTo` and `specs/Steps` say
-//! how a list of lines goes on through calls. `specs/FieldText` is for private contracts.
+//! them to a file. `write_line` and `read_line` write and read a line's text. Other texts with literals use
+//! `read_literal`, `write_literals`, `are_distinct` and `is_number`. `specs/Lines` says which lines there may be.
+//! `specs/LineText` and `specs/LineForm` say what a text is as a line, or its fault. `specs/Log` says which logs
+//! derive. `specs/Told`, `specs/ToldTo` and `specs/Steps` say how a list of lines goes on through calls.
+//! `specs/FieldText` is for private contracts.
 //!
 //! A Bound line names the variable of "this criterion is at least k". A Refuted line says that one of its literals
 //! holds in every lawful drawing. `specs/Bounds` and `specs/Certified` say which values a log certifies. What is to
@@ -31,7 +31,6 @@ mod no_log;
 mod reading;
 mod sink;
 mod stop;
-mod teller;
 mod writing;
 
 pub use among::are_among;
@@ -62,5 +61,4 @@ pub use no_log::NoLog;
 pub use reading::read_line;
 pub use sink::{LogSink, LogSinkFault};
 pub use stop::Stop;
-pub use teller::LogTeller;
 pub use writing::{write_line, write_literals};

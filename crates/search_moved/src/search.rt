@@ -3,7 +3,7 @@ use crate::asking::{MovedKnown, ask};
 use crate::counted::count_moved;
 use cdcl_core::Solver;
 use plan_geometry::Drawing;
-use refute_log::{LogSink, LogTeller};
+use refute_log::LogSink;
 use search_least::{Answer, CountOracle, MinFault};
 
 /// What is asked: all of it is lent.
@@ -14,10 +14,14 @@ pub(crate) struct MovedSearch<'k, 's, 'l, 'a, L: LogSink> {
     pub(crate) log: &'l mut L,
 }
 
-impl<'k, 's, 'l, 'a, L: LogSink> LogTeller for MovedSearch<'k, 's, 'l, 'a, L> {
-    ghost use Rattle.std.specs.Prelude.{◌≡◌};
-    ghost use Rattle.std.proofs.Common.{refl, ◌∙◌};
-    ghost use Rattle.search_moved.specs.Search.{IsReadyWith, KnowsWith};
+impl<'k, 's, 'l, 'a, L: LogSink> CountOracle for MovedSearch<'k, 's, 'l, 'a, L> {
+    ghost use Rattle.std.specs.Prelude.{◌≡◌, ◌≤◌};
+    ghost use Rattle.std.proofs.Common.{refl, ◌∙◌, subst};
+    ghost use Rattle.plan_core.specs.Drawing.{place};
+    ghost use Rattle.drawing_cnf.proofs.VariableLemmas.{moved_within};
+    ghost use Rattle.search_moved.specs.Search.{task_with, IsReadyWith, KnowsWith};
+
+    ghost task = { λ s. task_with s.known.now };
 
     ghost ready = { λ s. IsReadyWith s.known.now s.solver.now };
 
@@ -31,26 +35,6 @@ impl<'k, 's, 'l, 'a, L: LogSink> LogTeller for MovedSearch<'k, 's, 'l, 'a, L> {
 
     ghost is_later = { λ s t. (t.solver.ghost_name ≡ s.solver.ghost_name)
         × (t.log.ghost_name ≡ s.log.ghost_name) × L.is_later s.log.now t.log.now };
-
-    ghost derives = { λ s lines k. k.belongs.derives };
-
-    ghost due = { λ s lines k. k.belongs.due };
-
-    ghost one_reading = { λ s a b x y. L.one_reading s.log.now a b x y };
-
-    ghost later_same = { λ s. (refl, refl, L.later_same s.log.now) };
-
-    ghost later_more = { λ a b c h k. (k.0 ∙ h.0, k.1 ∙ h.1, L.later_more a.log.now b.log.now c.log.now h.2 k.2) };
-}
-
-impl<'k, 's, 'l, 'a, L: LogSink> CountOracle for MovedSearch<'k, 's, 'l, 'a, L> {
-    ghost use Rattle.std.specs.Prelude.{◌≤◌};
-    ghost use Rattle.std.proofs.Common.{subst};
-    ghost use Rattle.plan_core.specs.Drawing.{place};
-    ghost use Rattle.drawing_cnf.proofs.VariableLemmas.{moved_within};
-    ghost use Rattle.search_moved.specs.Search.{task_with};
-
-    ghost task = { λ s. task_with s.known.now };
 
     fn count(&self, d: &Drawing) -> u32 {
         count_moved(d, self.known.former)
@@ -66,7 +50,15 @@ impl<'k, 's, 'l, 'a, L: LogSink> CountOracle for MovedSearch<'k, 's, 'l, 'a, L> 
 
     ghost formed = { λ s lines k. k.belongs.formed };
 
+    ghost derives = { λ s lines k. k.belongs.derives };
+
+    ghost due = { λ s lines k. k.belongs.due };
+
     ghost fits = { λ s lines k. k.fits };
 
     ghost spent = { λ s lines k. subst (λ n. n ≤ s.known.now.budget) k.learnt_are k.spent };
+
+    ghost later_same = { λ s. (refl, refl, L.later_same s.log.now) };
+
+    ghost later_more = { λ a b c h k. (k.0 ∙ h.0, k.1 ∙ h.1, L.later_more a.log.now b.log.now c.log.now h.2 k.2) };
 }
