@@ -309,9 +309,10 @@ class Case:
                 "PROGRAM": str(self.program)}
 
     def shelled(self, words: list[bytes], target: Optional[str], due: list[Step]) -> Ended:
-        """the same of a command that a shell runs in the clone"""
-        ran = subprocess.run(["sh", "-c", *words], cwd=self.clone, env=self.environment(), stdin=subprocess.DEVNULL,
-                             capture_output=True, timeout=SECONDS)
+        """the same of a command that a shell runs in the clone, which is its home"""
+        environment = self.environment() | {"HOME": str(self.clone)}
+        ran = subprocess.run(["sh", "-c", *words], cwd=self.clone, env=environment, stdin=subprocess.DEVNULL, capture_output=True,
+                             timeout=SECONDS)
         return ran.returncode, ran.stdout, ran.stderr
 
     def launched(self, words: list[bytes], target: Optional[str], due: list[Step]) -> Ended:
