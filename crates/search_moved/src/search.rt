@@ -44,7 +44,7 @@ impl<'k, 's, 'l, 'a, L: LogSink> CountOracle for MovedSearch<'k, 's, 'l, 'a, L> 
         ask(self.known, self.solver, self.log, limit)
     }
 
-    ghost within = { λ s d one. moved_within s.known.now.former.now (place d) };
+    ghost limited = { λ s d one. moved_within s.known.now.former.now (place d) };
 
     ghost covers = { λ s lines k. k.covers };
 
@@ -56,7 +56,7 @@ impl<'k, 's, 'l, 'a, L: LogSink> CountOracle for MovedSearch<'k, 's, 'l, 'a, L> 
 
     ghost fits = { λ s lines k. k.fits };
 
-    ghost spent = { λ s lines k. subst (λ n. n ≤ s.known.now.budget) k.learnt_are k.spent };
+    ghost within = { λ s lines k. subst (λ n. n ≤ s.known.now.budget) k.learnt_are k.spent };
 
     ghost later_same = { λ s. (refl, refl, L.later_same s.log.now) };
 

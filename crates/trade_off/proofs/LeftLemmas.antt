@@ -4,7 +4,7 @@ use Rattle.plan_core.specs.declared.criterion.Criterion.{Criterion}
 use Rattle.refute_log.specs.Told.{Lines}
 use Rattle.refute_log.specs.Log.{Derives, clause_lines}
 use Rattle.refute_log.specs.Steps.{ToldBehind, Continues, Leaves}
-use Rattle.refute_log.proofs.StepLemmas.{leaves_later, leaves_same, few_left}
+use Rattle.refute_log.proofs.StepLemmas.{leaves_later, leaves_most, leaves_same, few_left}
 use Rattle.refute_log.specs.Expected.{sum_lines, sum_vars_of, sums}
 use Rattle.search_least.specs.declared.oracle.Below.{Below}
 use Rattle.search_least.specs.declared.oracle.Reply.{Reply}
@@ -54,14 +54,15 @@ pub both_left : {S : Type 0} (knows log : S → Lines → Type 0) (count : S →
     q ≡ p → first ≡ AllOfThem →
     many ≡ vars + sum_vars_of p.encoding vars a (greatest_of p a) →
     Continues knows log count s t (λ lines more. IsBuild p vars a (greatest_of p a) first lines more) →
-    IsSpentWithin q (knows t) → Leaves q.budget (sum_lines q.encoding many b (greatest_of q b)) (knows t) (log t) (log e) →
+    IsSpentWithin q (knows t) → Leaves 0 (sum_lines q.encoding many b (greatest_of q b)) (knows t) (log t) (log e) →
     Leaves p.budget (sums p.encoding vars (a ∷ b ∷ []) (greatest_of p)) (knows s) (log s) (log e)
 both_left knows log count s t e q p a b vars many first same was size f within h =
     let xs = sum_lines p.encoding vars a (greatest_of p a) in
     let ys = sum_lines p.encoding (vars + sum_vars_of p.encoding vars a (greatest_of p a)) b (greatest_of p b) in
     let second : Leaves p.budget ys (knows t) (log t) (log e) =
     subst (λ v. Leaves p.budget (sum_lines p.encoding v b (greatest_of p b)) (knows t) (log t) (log e)) size
-    (subst (λ (x : Task). Leaves x.budget (sum_lines x.encoding many b (greatest_of x b)) (knows t) (log t) (log e)) same h) in
+    (subst (λ (x : Task). Leaves x.budget (sum_lines x.encoding many b (greatest_of x b)) (knows t) (log t) (log e)) same
+    (leaves_most 0 q.budget (sum_lines q.encoding many b (greatest_of q b)) (knows t) (log t) (log e) (omega arith) h)) in
     subst (λ (zs : Lines). Leaves p.budget (xs ++ zs) (knows s) (log s) (log e)) (sym (append-nil ys))
     (leaves_later knows log count s t e (λ lines more. IsBuild p vars a (greatest_of p a) first lines more) xs ys f
     (λ lines more r. ap clause_lines (subst (λ (x : Built). IsBuild p vars a (greatest_of p a) x lines more) was r)

@@ -26,7 +26,7 @@ use Rattle.trade_off.specs.declared.outcome.FrontEnd.TheVariants.{Whole, Empty, 
 use Rattle.search_least.specs.Placed.{EachBehind, IsUnderBounds, AreUnderBounds}
 use Rattle.search_least.proofs.PlacedLemmas.{TakesClauses, sums_anywhere, first_anywhere, clauses_under_bounds}
 use Rattle.trade_off.specs.Least.{IsNoLess, HasComeDown, AreAsked}
-use Rattle.trade_off.specs.Outcome.{front_lines, IsFrontCause, IsFrontLog, IsBuiltFront, EndsFront}
+use Rattle.trade_off.specs.Outcome.{front_lines, HasNoRoomToAsk, IsFrontCause, IsFrontLog, IsBuiltFront, EndsFront}
 use Rattle.trade_off.specs.Front.{Pairs}
 
 -- ---- the lines of both criteria
@@ -139,6 +139,8 @@ no_room_for_first knows log count s e p a b vars r was start goes =
       begins_first p a b (lines ++ xs) whole,
       first_passes p a b (lines ++ xs) whole
           (subst (SumPasses p p.encoding.vars a (greatest_of p a)) (sym same) got.1),
+      refl,
+      ap clause_lines whole ∙ clauses_of_first p ∙ sym whole,
     ))
 
 second_built : (p : Task) (a b : Criterion) (r : Built) (lines xs ys : Lines) → lines ≡ first_lines p → xs ≡ first_sum p a →
@@ -161,6 +163,8 @@ second_built p a b NoRoom lines xs ys is one two =
       begins_second p a b (lines ++ (xs ++ ys)) whole,
       second_passes p a b (lines ++ (xs ++ ys)) whole
           (subst (SumPasses p (second_vars p a) b (greatest_of p b)) (sym same) two.1),
+      refl,
+      ap clause_lines whole ∙ told_first p a ∙ sym whole,
     )
 
 pub both_built : {S : Type 0} (knows log : S → Lines → Type 0) (count : S → ℕ) (s t e : S) (q p : Task) (a b : Criterion) (vars many : ℕ) (first r : Built) →
@@ -211,10 +215,10 @@ front_log knows s p a b pairs ending lines laws k begins placed cause = record {
 }
 
 pub tells_no_room : {S : Type 0} (knows log : S → Lines → Type 0) (count : S → ℕ) (s e : S) (p : Task) (a b : Criterion) (pairs : Pairs) (r : Built) →
-    r ≡ NoRoom → FrontLaws knows e p → knows s (first_lines p) →
+    r ≡ NoRoom → pairs ≡ [] → FrontLaws knows e p → knows s (first_lines p) →
     Continues knows log count s e (λ lines more. lines ≡ first_lines p → IsBuiltFront p a b r (lines ++ more)) →
     ToldBehind (knows e) (log s) (log e) (count s) (count e) (first_lines p) (λ more. IsFrontLog p a b pairs Room (first_lines p ++ more))
-tells_no_room knows log count s e p a b pairs r was laws start goes =
+tells_no_room knows log count s e p a b pairs r was none laws start goes =
     let t : ToldBehind (knows e) (log s) (log e) (count s) (count e) (first_lines p)
     (λ more. first_lines p ≡ first_lines p → IsBuiltFront p a b r (first_lines p ++ more)) = goes (first_lines p) start in
     let got : IsBuiltFront p a b NoRoom (first_lines p ++ t.more) = subst (λ (x : Built). IsBuiltFront p a b x (first_lines p ++ t.more)) was (t.does refl) in
@@ -224,7 +228,7 @@ tells_no_room knows log count s e p a b pairs r was laws start goes =
       told = t.told;
       counted = t.counted;
       does = front_log knows e p a b pairs Room (first_lines p ++ t.more) laws t.knows
-          got.1 got.0 (inl got.2);
+          got.1 got.0 (inl (subst (λ (ps : Pairs). HasNoRoomToAsk p a b ps (first_lines p ++ t.more)) (sym none) got.2));
     }
 
 told_still : (lines xs ys : Lines) → clause_lines ys ≡ [] → clause_lines (lines ++ (xs ++ ys)) ≡ clause_lines (lines ++ xs)
