@@ -27,19 +27,17 @@ spent_still q p known same within = subst (λ (x : Task). IsSpentWithin x known)
 -- ---- questions tell no clauses
 
 -- an error behind questions: in a later call, or in one that tells nothing
-pub asked_later : {S : Type 0} (knows log : S → Lines → Type 0) (count : S → ℕ) (a b e : S) (q p : Task) (c : Criterion) (first : List Below)
-    (EndsSo : Lines → Type 0) →
-    Continues knows log count a b (AreAsked p c first EndsSo) → IsSpentWithin q (knows b) → q ≡ p → Leaves q.budget [] (knows b) (log b) (log e) →
+pub asked_later : {S : Type 0} (knows log : S → Lines → Type 0) (count : S → ℕ) (a b e : S) (q p : Task) (BeginsSo EndsSo : Lines → Type 0) →
+    Continues knows log count a b (AreAsked p BeginsSo EndsSo) → IsSpentWithin q (knows b) → q ≡ p → Leaves q.budget [] (knows b) (log b) (log e) →
     Leaves p.budget [] (knows a) (log a) (log e)
-asked_later knows log count a b e q p c first EndsSo run within same after =
-    leaves_later knows log count a b e (AreAsked p c first EndsSo) [] [] run (λ lines more h. h.none) within (ap (λ (x : Task). x.budget) same) after
+asked_later knows log count a b e q p BeginsSo EndsSo run within same after =
+    leaves_later knows log count a b e (AreAsked p BeginsSo EndsSo) [] [] run (λ lines more h. h.none) within (ap (λ (x : Task). x.budget) same) after
 
-pub asked_here : {S : Type 0} (knows log : S → Lines → Type 0) (count : S → ℕ) (a b : S) (q p : Task) (c : Criterion) (first : List Below)
-    (EndsSo : Lines → Type 0) →
-    Continues knows log count a b (AreAsked p c first EndsSo) → IsSpentWithin q (knows b) → q ≡ p → ((lines : Lines) → knows b lines → Derives lines) →
+pub asked_here : {S : Type 0} (knows log : S → Lines → Type 0) (count : S → ℕ) (a b : S) (q p : Task) (BeginsSo EndsSo : Lines → Type 0) →
+    Continues knows log count a b (AreAsked p BeginsSo EndsSo) → IsSpentWithin q (knows b) → q ≡ p → ((lines : Lines) → knows b lines → Derives lines) →
     ((x y : Lines) → log b x → log b y → x ≡ y) → Leaves p.budget [] (knows a) (log a) (log b)
-asked_here knows log count a b q p c first EndsSo run within same derives one =
-    asked_later knows log count a b b q p c first EndsSo run within same (leaves_same (knows b) (log b) derives one)
+asked_here knows log count a b q p BeginsSo EndsSo run within same derives one =
+    asked_later knows log count a b b q p BeginsSo EndsSo run within same (leaves_same (knows b) (log b) derives one)
 
 pub replied_later : {S : Type 0} (knows log : S → Lines → Type 0) (count : S → ℕ) (a b e : S) (q p : Task) (bounds : List Below) (reply : Reply) →
     Continues knows log count a b (λ lines more. IsReply p lines bounds reply more) → IsSpentWithin q (knows b) → q ≡ p →
@@ -86,7 +84,7 @@ build_left knows log s e p a b vars start known spent h = λ told lines is.
             ∙ sym (append_assoc (first_lines p) left.front rest)
             ∙ ap (λ (ls : Lines). ls ++ rest) (ap (λ (ls : Lines). ls ++ left.front) (sym (formulas_are_clauses p.encoding.clauses)) ∙ sym left.gives),
       );
-      few = few_left p.budget p.budget (first_lines p) lines (omega arith) (spent (first_lines p) known) left.few;
+      within = few_left p.budget p.budget (first_lines p) lines (omega arith) (spent (first_lines p) known) left.few;
     }
 
 pub collect_left : {S : Type 0} (knows log : S → Lines → Type 0) (count : S → ℕ) (s t e : S) (p : Task) (a b : Criterion) (r : Built) → r ≡ AllOfThem →
@@ -109,5 +107,5 @@ collect_left knows log count s t e p a b r was known run spent h = λ told lines
             ∙ sym (append_assoc (front_lines p a b) left.front rest)
             ∙ ap (λ (ls : Lines). ls ++ rest) (ap (λ (ls : Lines). ls ++ left.front) (sym whole) ∙ sym left.gives),
       );
-      few = few_left p.budget p.budget now lines (omega arith) (spent now first.knows) left.few;
+      within = few_left p.budget p.budget now lines (omega arith) (spent now first.knows) left.few;
     }

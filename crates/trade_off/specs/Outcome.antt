@@ -76,7 +76,7 @@ IsFrontAfter p a b pairs ending more = IsFrontLog p a b pairs ending (first_line
 pub record IsFrontLeft (p : Task) (a b : Criterion) (lines : Lines) : Type 0 where
   pub derives : Derives lines
   pub begins : BeginsLines (clause_lines lines) (front_lines p a b)
-  pub few : learnt_count lines ≤ p.budget
+  pub within : learnt_count lines ≤ p.budget
 
 -- the end of a search that stopped
 abbrev pub stopped_by : Stop → FrontEnd

@@ -1,17 +1,18 @@
-use Rattle.std.proofs.Common.{◌≡◌, refl, sym, ◌∙◌, ap, subst, List, inl}
+use Rattle.std.proofs.Common.{◌≡◌, [], ◌∷◌, refl, sym, ◌∙◌, ap, subst, List, inl}
 use Rattle.std.specs.Prelude.{IfOk, MatchOption, ⊤, ◌≤◌}
 use Rattle.std.proofs.lemmas.Result.{IfOk-weaker}
-use Rattle.plan_core.specs.Values.{values_of}
+use Rattle.plan_core.specs.Values.{values_of, value_of}
 use Rattle.search_least.specs.declared.oracle.Below.{Below}
-use Rattle.search_least.specs.Asked.{AreMet, IsReply}
+use Rattle.search_least.specs.Asked.{below_limit, AreMet, IsReply}
 use Rattle.search_least.specs.Task.{Task, IsLawful, greatest_of}
 use Rattle.refute_log.specs.Steps.{Continues}
 use Rattle.trade_off.specs.declared.collecting.Next.TheVariants.{NoMore, Stopped}
-use Rattle.trade_off.specs.Least.{HasComeDown, StopsUnder, AreAsked}
+use Rattle.trade_off.specs.Least.{AreBeside, lowered, HasComeTo, StopsUnder, AreAsked}
 use Rattle.trade_off.specs.Next.{under, IsNext, AsksNext, EndsNext}
 use Rattle.refute_log.proofs.StepLemmas.{known_after, on_err_weaker, leaves_same}
-use Rattle.trade_off.proofs.AskLemmas.{asked_then, asked_to, stops_as, asks_found, asks_refuted, asks_stopped, refuted_none, laws_back}
-use Rattle.trade_off.proofs.NextLemmas.{under_within, under_once, none_from, found_fact}
+use Rattle.trade_off.proofs.AskLemmas.{asked_then, asked_to, stops_as, HasFound, asks_found, asks_refuted, asks_stopped, found_to, refuted_none, laws_back}
+use Rattle.trade_off.proofs.LimitLemmas.{no_less_with, behind_with, not_behind_with}
+use Rattle.trade_off.proofs.NextLemmas.{under_within, under_once, under_beside, none_from, found_fact}
 use Rattle.trade_off.proofs.LeftLemmas.{replied_later}
 use Rattle.trade_off.proofs.collecting.next_pair.Goals as goal
 use Rattle.outside_io.proofs.Results.{on_err_anyway}
@@ -82,10 +83,12 @@ returns-in-Refuted-clause-lines g c = let o = g.O.Oracle in let t = g.O.LogTelle
     let b = c.args.b in
     let bounds = c.deref.ensures.value ∙ c.in_ok-bounds.ensures in
     let begin = under b c.args.limit in
-    asked_to t.knows t.log t.learnt s e p b begin (HasComeDown b begin) (EndsNext p (AsksNext c.args.a b c.args.limit p) b NoMore) (λ lines h. tt)
-    (subst (λ (bs : List Below). Continues t.knows t.log t.learnt s e (AreAsked p b bs (HasComeDown b bs))) bounds
-    (asks_refuted t.knows t.log t.learnt s e p p b c.deref.result.now c.in_ok-first.field-0
-    (record { same = refl; once = under_once b c.args.limit c.deref.result.now bounds; right = c.in_ok-first.ensures.right }) c.in-Refuted.is
+    asked_to t.knows t.log t.learnt s e p (HasComeTo b b begin) (HasComeTo b b begin) (EndsNext p (AsksNext c.args.a b c.args.limit p) b NoMore)
+    (λ lines h. tt)
+    (subst (λ (bs : List Below). Continues t.knows t.log t.learnt s e (AreAsked p (HasComeTo b b bs) (HasComeTo b b bs))) bounds
+    (asks_refuted t.knows t.log t.learnt s e p p b b c.deref.result.now c.in_ok-first.field-0
+    (record { same = refl; once = under_once b c.args.limit c.deref.result.now bounds; right = c.in_ok-first.ensures.right; apart = g.met.O.Oracle.apart e })
+    c.in-Refuted.is
     c.in_ok-first.ensures.lines))
 
 pub returns-clause-lines : goal.returns-clause-lines
@@ -99,11 +102,13 @@ returns-clause-lines g c = let o = g.O.Oracle in let t = g.O.LogTeller in
     let begin = under b c.args.limit in
     let Just : List Below → Type 0 = λ xs. xs ≡ begin in
     let next = AsksNext c.args.a b c.args.limit p in
-    asked_to t.knows t.log t.learnt s e p b begin (StopsUnder p Just b stop) (EndsNext p next b (Stopped stop))
+    asked_to t.knows t.log t.learnt s e p (HasComeTo b b begin) (StopsUnder p Just b stop) (EndsNext p next b (Stopped stop))
     (λ lines h. stops_as p Just next b stop lines (λ bs x. inl x) h)
-    (subst (λ (bs : List Below). Continues t.knows t.log t.learnt s e (AreAsked p b bs (StopsUnder p (λ (xs : List Below). xs ≡ bs) b stop))) bounds
-    (asks_stopped t.knows t.log t.learnt s e p p b c.deref.result.now c.in_ok-first.field-0 stop
-    (record { same = refl; once = under_once b c.args.limit c.deref.result.now bounds; right = c.in_ok-first.ensures.right }) c.in-Stopped.is
+    (subst (λ (bs : List Below). Continues t.knows t.log t.learnt s e (AreAsked p (HasComeTo b b bs) (StopsUnder p (λ (xs : List Below). xs ≡ bs) b stop)))
+    bounds
+    (asks_stopped t.knows t.log t.learnt s e p p b b c.deref.result.now c.in_ok-first.field-0 stop
+    (record { same = refl; once = under_once b c.args.limit c.deref.result.now bounds; right = c.in_ok-first.ensures.right; apart = g.met.O.Oracle.apart e })
+    c.in-Stopped.is
     c.in_ok-first.ensures.lines))
 
 pub returns-in-Found-clause-next : goal.returns-in-Found-clause-next
@@ -121,16 +126,24 @@ returns-in-Found-clause-lines g c = let o = g.O.Oracle in let teller = g.O.LogTe
     let limit = c.args.limit in
     let bounds = c.deref.ensures.value ∙ c.in_ok-bounds.ensures in
     let begin = under b limit in
-    let before : Continues teller.knows teller.log teller.learnt s t (AreAsked p b begin (HasComeDown b begin)) =
-    subst (λ (bs : List Below). Continues teller.knows teller.log teller.learnt s t (AreAsked p b bs (HasComeDown b bs))) bounds
-    (asks_found teller.knows teller.log teller.learnt s t p p b c.deref.result.now c.in_ok-first.field-0 c.in-Found.first
-    (record { same = refl; once = under_once b limit c.deref.result.now bounds; right = c.in_ok-first.ensures.right }) c.in-Found.is
-    c.in_ok-first.ensures.lines) in
+    let a = c.args.a in
+    let first = c.in-Found.first in
+    let u = value_of (values_of first) a in
+    let beside : AreBeside a begin = under_beside a b limit begin refl c.requires.apart in
+    let before : Continues teller.knows teller.log teller.learnt s t (AreAsked p (HasComeTo b b begin) (HasComeTo b a (lowered begin a first))) =
+    asked_to teller.knows teller.log teller.learnt s t p (HasComeTo b b begin) (HasFound b b begin) (HasComeTo b a (lowered begin a first))
+    (λ lines h. found_to b b a begin (lowered begin a first) lines (no_less_with b begin (below_limit a u ∷ []))
+    (λ more left. behind_with b a begin u more left) (not_behind_with b a begin u beside) h)
+    (subst (λ (bs : List Below). Continues teller.knows teller.log teller.learnt s t (AreAsked p (HasComeTo b b bs) (HasFound b b bs))) bounds
+    (asks_found teller.knows teller.log teller.learnt s t p p b b c.deref.result.now c.in_ok-first.field-0 first
+    (record { same = refl; once = under_once b limit c.deref.result.now bounds; right = c.in_ok-first.ensures.right; apart = g.met.O.Oracle.apart t })
+    c.in-Found.is c.in_ok-first.ensures.lines)) in
     IfOk-weaker c.pair_from.result
-    (λ r. Continues teller.knows teller.log teller.learnt t e (AreAsked (o.task t) b begin (EndsNext (o.task t) (AsksNext c.args.a b limit (o.task t)) b r)))
-    (λ r. Continues teller.knows teller.log teller.learnt s e (AreAsked p b begin (EndsNext p (AsksNext c.args.a b limit p) b r)))
-    (λ r h. asked_then teller.knows teller.log teller.learnt s t e (o.task t) p b begin begin (λ x. EndsNext x (AsksNext c.args.a b limit x) b r)
-    c.in_ok-first.ensures.task before h)
+    (λ r. Continues teller.knows teller.log teller.learnt t e
+    (AreAsked (o.task t) (HasComeTo b a (lowered begin a first)) (EndsNext (o.task t) (AsksNext a b limit (o.task t)) b r)))
+    (λ r. Continues teller.knows teller.log teller.learnt s e (AreAsked p (HasComeTo b b begin) (EndsNext p (AsksNext a b limit p) b r)))
+    (λ r h. asked_then teller.knows teller.log teller.learnt s t e (o.task t) p (HasComeTo b b begin) (HasComeTo b a (lowered begin a first))
+    (λ x. EndsNext x (AsksNext a b limit x) b r) c.in_ok-first.ensures.task before h)
     c.pair_from.ensures.lines
 
 pub returns-in_err-bounds-clause-leaves : goal.returns-in_err-bounds-clause-leaves

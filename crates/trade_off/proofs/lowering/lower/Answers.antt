@@ -8,7 +8,7 @@ use Rattle.search_least.proofs.RunLemmas.{built_all, found_less, found_lawful}
 use Rattle.refute_log.proofs.StepLemmas.{known_after}
 use Rattle.trade_off.proofs.AskLemmas.{refuted_none, least_from, least_zero, found_meets, once_with, asked_none, lowers_found, lowers_refuted}
 use Rattle.trade_off.proofs.AskLemmas.{lowers_stopped, lowers_down, laws_back}
-use Rattle.trade_off.specs.Least.{lowered, HasComeDown}
+use Rattle.trade_off.specs.Least.{lowered, HasComeTo}
 use Rattle.trade_off.proofs.LeftLemmas.{asked_here, asked_later}
 use Rattle.trade_off.proofs.lowering.lower.Goals as goal
 use Rattle.outside_io.proofs.Results.{on_err_anyway}
@@ -31,7 +31,7 @@ loop-value-init g c = let o = g.O.Oracle in let t = g.O.LogTeller in
       no_more = omega (arith, is);
       later = g.met.O.Oracle.later_same c.args.oracle.now;
       faults = omega arith;
-      lines = λ m. asked_none t.knows t.log t.learnt c.args.oracle.now p m (lowered c.args.held.now c.args.c c.args.first);
+      lines = λ m. asked_none t.knows t.log t.learnt c.args.oracle.now p (HasComeTo m c.args.c (lowered c.args.held.now c.args.c c.args.first));
     }
 
 pub ask-requires-clause-there : goal.ask-requires-clause-there
@@ -84,7 +84,8 @@ loop-value-preserved g c = let o = g.O.Oracle in let t = g.O.LogTeller in
             same = c.loop-value.invariant.task;
             once = once_with c.args.held.now c.deref.result.now c.args.c c.loop-value.value bounds c.requires.beside;
             right = c.in_ok-d.ensures.right;
-          }) (bounds ∙ ap (λ n. c.args.held.now ++ below_limit c.args.c n ∷ []) c.loop-value.invariant.value) c.in-Found.is
+            apart = g.met.O.Oracle.apart e;
+          }) (bounds ∙ ap (λ n. c.args.held.now ++ below_limit c.args.c n ∷ []) c.loop-value.invariant.value) c.in-Found.is c.requires.beside
           (let value = c.loop-value.invariant.value in omega (arith, is, lt, value)) (c.loop-value.invariant.lines m) c.in_ok-d.ensures.lines;
     }
 
@@ -138,6 +139,7 @@ returns-in-Refuted-clause-lines g c = let o = g.O.Oracle in let t = g.O.LogTelle
       same = c.loop-value.invariant.task;
       once = once_with c.args.held.now c.deref.result.now c.args.c c.loop-value.value bounds c.requires.beside;
       right = c.in_ok-d.ensures.right;
+      apart = g.met.O.Oracle.apart c.ask.new.self;
     }) (bounds ∙ ap (λ n. c.args.held.now ++ below_limit c.args.c n ∷ []) c.loop-value.invariant.value) c.in-Refuted.is (c.loop-value.invariant.lines m)
     c.in_ok-d.ensures.lines
 
@@ -152,6 +154,7 @@ returns-in-Stopped-clause-lines g c = let o = g.O.Oracle in let t = g.O.LogTelle
       same = c.loop-value.invariant.task;
       once = once_with c.args.held.now c.deref.result.now c.args.c c.loop-value.value bounds c.requires.beside;
       right = c.in_ok-d.ensures.right;
+      apart = g.met.O.Oracle.apart c.ask.new.self;
     }) (bounds ∙ ap (λ n. c.args.held.now ++ below_limit c.args.c n ∷ []) c.loop-value.invariant.value) c.in-Stopped.is c.loop-value.invariant.lawful
     c.loop-value.invariant.met (c.loop-value.invariant.lines m) c.in_ok-d.ensures.lines
 
@@ -162,14 +165,16 @@ returns-clause-lines g c = let o = g.O.Oracle in let t = g.O.LogTeller in
 
 pub returns-in_err-bounds-clause-leaves : goal.returns-in_err-bounds-clause-leaves
 returns-in_err-bounds-clause-leaves g c = let o = g.O.Oracle in let t = g.O.LogTeller in
-    on_err_anyway _ _ (asked_here t.knows t.log t.learnt c.args.oracle.now c.loop-value.oracle (o.task c.loop-value.oracle) (o.task c.args.oracle.now) c.args.c
-    (lowered c.args.held.now c.args.c c.args.first) (HasComeDown c.args.c (lowered c.args.held.now c.args.c c.loop-value.least))
+    on_err_anyway _ _ (asked_here t.knows t.log t.learnt c.args.oracle.now c.loop-value.oracle (o.task c.loop-value.oracle) (o.task c.args.oracle.now)
+    (HasComeTo c.args.c c.args.c (lowered c.args.held.now c.args.c c.args.first))
+    (HasComeTo c.args.c c.args.c (lowered c.args.held.now c.args.c c.loop-value.least))
     (c.loop-value.invariant.lines c.args.c) (g.met.O.Oracle.within c.loop-value.oracle) c.loop-value.invariant.task
     (g.O.LogTeller.derives c.loop-value.oracle) (g.met.O.Oracle.one_reading c.loop-value.oracle))
 
 pub returns-in_err-d-clause-leaves : goal.returns-in_err-d-clause-leaves
 returns-in_err-d-clause-leaves g c = let o = g.O.Oracle in let t = g.O.LogTeller in
     on_err_anyway _ _ (asked_later t.knows t.log t.learnt c.args.oracle.now c.loop-value.oracle c.ask.new.self (o.task c.loop-value.oracle)
-    (o.task c.args.oracle.now) c.args.c
-    (lowered c.args.held.now c.args.c c.args.first) (HasComeDown c.args.c (lowered c.args.held.now c.args.c c.loop-value.least))
+    (o.task c.args.oracle.now)
+    (HasComeTo c.args.c c.args.c (lowered c.args.held.now c.args.c c.args.first))
+    (HasComeTo c.args.c c.args.c (lowered c.args.held.now c.args.c c.loop-value.least))
     (c.loop-value.invariant.lines c.args.c) (g.met.O.Oracle.within c.loop-value.oracle) c.loop-value.invariant.task c.in_err-d.ensures.leaves)
