@@ -26,7 +26,7 @@ use Rattle.search_least.proofs.QuestionLemmas.{ends_in, no_clauses_both, asks_no
 use Rattle.search_least.proofs.RunLemmas.{Laws}
 use Rattle.search_least.specs.Placed.{AreUnderBounds}
 use Rattle.search_least.proofs.PlacedLemmas.{asked_under_bounds}
-use Rattle.trade_off.specs.Least.{IsLeastUnder, NoneMeets, AreBeside, lowered, LowersUnder, AskNoLess, HasComeDown, MayComeBehind, NoneIsFound, HasComeTo}
+use Rattle.trade_off.specs.Least.{IsLeastUnder, NoneMeets, AreBeside, lowered, LowersUnder, AskNoLess, HasComeDown, MayComeBehind, NoneIsFound, HaveComeTo}
 use Rattle.trade_off.specs.Least.{StopsUnder, EndsLowered, AreAsked}
 use Rattle.trade_off.proofs.LimitLemmas.{no_less_lowered, behind_itself, behind_lowered, not_behind_lowered, come_down, down_asked, found_fewer, found_asked}
 use Rattle.trade_off.proofs.LimitLemmas.{found_refuted, found_stopped, answers_other}
@@ -173,11 +173,11 @@ pub record HasFound (c d : Criterion) (bounds : List Below) (lines : Lines) : Ty
 -- a drawing was found so, or the questions stay at its bounds, or it stopped in it
 abbrev EndsReply : Task → (c d : Criterion) → List Below → Reply → Lines → Type 0
 EndsReply p c d bounds (Found x) lines = HasFound c d bounds lines
-EndsReply p c d bounds Refuted lines = HasComeTo c d bounds lines
+EndsReply p c d bounds Refuted lines = HaveComeTo c d bounds lines
 EndsReply p c d bounds (Stopped stop) lines = StopsUnder p (λ (bs : List Below). bs ≡ bounds) c stop lines
 
 reply_ends : (p : Task) (c d : Criterion) (lines : Lines) (bounds : List Below) (reply : Reply) (more : Lines) → AreApart (lines ++ more) →
-    IsReply p lines bounds reply more → HasComeTo c d bounds lines → EndsReply p c d bounds reply (lines ++ more)
+    IsReply p lines bounds reply more → HaveComeTo c d bounds lines → EndsReply p c d bounds reply (lines ++ more)
 reply_ends p c d lines bounds (Found x) more apart h come = record {
   down = down_asked p c lines bounds (Found x) more h come.down;
   fresh = found_asked p (MayComeBehind c d bounds) lines bounds (Found x) x more refl h come.fresh;
@@ -214,10 +214,10 @@ pub record IsOneAsked (q p : Task) (bounds : List Below) (reply : Reply) (known 
 asks : {S : Type 0} (knows log : S → Lines → Type 0) (count : S → ℕ) (a e : S) (q p : Task) (c d : Criterion) (bounds : List Below) (reply : Reply) →
     IsOneAsked q p bounds reply (knows e) →
     Continues knows log count a e (λ lines more. IsReply q lines bounds reply more) →
-    Continues knows log count a e (AreAsked p (HasComeTo c d bounds) (EndsReply p c d bounds reply))
+    Continues knows log count a e (AreAsked p (HaveComeTo c d bounds) (EndsReply p c d bounds reply))
 asks knows log count a e q p c d bounds reply one asked =
-    subst (λ (x : Task). Continues knows log count a e (AreAsked x (HasComeTo c d bounds) (EndsReply x c d bounds reply))) one.same
-    (becomes knows log count a e (λ lines more. IsReply q lines bounds reply more) (AreAsked q (HasComeTo c d bounds) (EndsReply q c d bounds reply)) asked
+    subst (λ (x : Task). Continues knows log count a e (AreAsked x (HaveComeTo c d bounds) (EndsReply x c d bounds reply))) one.same
+    (becomes knows log count a e (λ lines more. IsReply q lines bounds reply more) (AreAsked q (HaveComeTo c d bounds) (EndsReply q c d bounds reply)) asked
     (λ lines xs ka ke h. record {
       none = reply_clauses q lines bounds reply xs h;
       placed = asked_under_bounds q lines bounds reply xs one.once one.right h;
@@ -227,35 +227,35 @@ asks knows log count a e q p c d bounds reply one asked =
 pub asks_found : {S : Type 0} (knows log : S → Lines → Type 0) (count : S → ℕ) (a e : S) (q p : Task) (c d : Criterion) (bounds : List Below) (reply : Reply)
     (x : Drawing) → IsOneAsked q p bounds reply (knows e) → reply ≡ Found x →
     Continues knows log count a e (λ lines more. IsReply q lines bounds reply more) →
-    Continues knows log count a e (AreAsked p (HasComeTo c d bounds) (HasFound c d bounds))
+    Continues knows log count a e (AreAsked p (HaveComeTo c d bounds) (HasFound c d bounds))
 asks_found knows log count a e q p c d bounds reply x one was asked =
-    asked_to knows log count a e p (HasComeTo c d bounds) (EndsReply p c d bounds (Found x)) (HasFound c d bounds) (λ lines h. h)
-    (subst (λ (r : Reply). Continues knows log count a e (AreAsked p (HasComeTo c d bounds) (EndsReply p c d bounds r))) was
+    asked_to knows log count a e p (HaveComeTo c d bounds) (EndsReply p c d bounds (Found x)) (HasFound c d bounds) (λ lines h. h)
+    (subst (λ (r : Reply). Continues knows log count a e (AreAsked p (HaveComeTo c d bounds) (EndsReply p c d bounds r))) was
     (asks knows log count a e q p c d bounds reply one asked))
 
 pub asks_refuted : {S : Type 0} (knows log : S → Lines → Type 0) (count : S → ℕ) (a e : S) (q p : Task) (c d : Criterion) (bounds : List Below)
     (reply : Reply) → IsOneAsked q p bounds reply (knows e) → reply ≡ Refuted →
     Continues knows log count a e (λ lines more. IsReply q lines bounds reply more) →
-    Continues knows log count a e (AreAsked p (HasComeTo c d bounds) (HasComeTo c d bounds))
+    Continues knows log count a e (AreAsked p (HaveComeTo c d bounds) (HaveComeTo c d bounds))
 asks_refuted knows log count a e q p c d bounds reply one was asked =
-    asked_to knows log count a e p (HasComeTo c d bounds) (EndsReply p c d bounds Refuted) (HasComeTo c d bounds) (λ lines h. h)
-    (subst (λ (r : Reply). Continues knows log count a e (AreAsked p (HasComeTo c d bounds) (EndsReply p c d bounds r))) was
+    asked_to knows log count a e p (HaveComeTo c d bounds) (EndsReply p c d bounds Refuted) (HaveComeTo c d bounds) (λ lines h. h)
+    (subst (λ (r : Reply). Continues knows log count a e (AreAsked p (HaveComeTo c d bounds) (EndsReply p c d bounds r))) was
     (asks knows log count a e q p c d bounds reply one asked))
 
 pub asks_stopped : {S : Type 0} (knows log : S → Lines → Type 0) (count : S → ℕ) (a e : S) (q p : Task) (c d : Criterion) (bounds : List Below)
     (reply : Reply) (stop : Stop) → IsOneAsked q p bounds reply (knows e) → reply ≡ Stopped stop →
     Continues knows log count a e (λ lines more. IsReply q lines bounds reply more) →
-    Continues knows log count a e (AreAsked p (HasComeTo c d bounds) (StopsUnder p (λ (bs : List Below). bs ≡ bounds) c stop))
+    Continues knows log count a e (AreAsked p (HaveComeTo c d bounds) (StopsUnder p (λ (bs : List Below). bs ≡ bounds) c stop))
 asks_stopped knows log count a e q p c d bounds reply stop one was asked =
-    asked_to knows log count a e p (HasComeTo c d bounds) (EndsReply p c d bounds (Stopped stop)) (StopsUnder p (λ (bs : List Below). bs ≡ bounds) c stop)
+    asked_to knows log count a e p (HaveComeTo c d bounds) (EndsReply p c d bounds (Stopped stop)) (StopsUnder p (λ (bs : List Below). bs ≡ bounds) c stop)
     (λ lines h. h)
-    (subst (λ (r : Reply). Continues knows log count a e (AreAsked p (HasComeTo c d bounds) (EndsReply p c d bounds r))) was
+    (subst (λ (r : Reply). Continues knows log count a e (AreAsked p (HaveComeTo c d bounds) (EndsReply p c d bounds r))) was
     (asks knows log count a e q p c d bounds reply one asked))
 
 -- behind a drawing that was found: to bounds that ask for no less, and behind which these don't come
 pub found_to : (c d f : Criterion) (bounds others : List Below) (lines : Lines) → AskNoLess c bounds others →
     ((more : List Below) → MayComeBehind c f others more → MayComeBehind c d bounds more) → (MayComeBehind c f others bounds → ⊥) →
-    HasFound c d bounds lines → HasComeTo c f others lines
+    HasFound c d bounds lines → HaveComeTo c f others lines
 found_to c d f bounds others lines less behind never h = record {
   down = come_down c bounds others lines less h.down;
   fresh = found_fewer (λ bs. MayComeBehind c d bounds bs × (bs ≢ bounds)) (MayComeBehind c f others) lines
@@ -267,25 +267,25 @@ found_to c d f bounds others lines less behind never h = record {
 -- a question and its answer, behind those of a lowered criterion
 lowers_on : {S : Type 0} (knows log : S → Lines → Type 0) (count : S → ℕ) (a b e : S) (p : Task) (m : Criterion) (held : List Below) (c : Criterion)
     (first least : Drawing) (bounds : List Below) (EndsSo : List Below → Lines → Type 0) → bounds ≡ lowered held c least →
-    Continues knows log count a b (AreAsked p (HasComeTo m c (lowered held c first)) (HasComeTo m c (lowered held c least))) →
-    Continues knows log count b e (AreAsked p (HasComeTo m c bounds) (EndsSo bounds)) →
-    Continues knows log count a e (AreAsked p (HasComeTo m c (lowered held c first)) (EndsSo (lowered held c least)))
+    Continues knows log count a b (AreAsked p (HaveComeTo m c (lowered held c first)) (HaveComeTo m c (lowered held c least))) →
+    Continues knows log count b e (AreAsked p (HaveComeTo m c bounds) (EndsSo bounds)) →
+    Continues knows log count a e (AreAsked p (HaveComeTo m c (lowered held c first)) (EndsSo (lowered held c least)))
 lowers_on knows log count a b e p m held c first least bounds EndsSo is run asked =
     let now = lowered held c least in
-    asked_then knows log count a b e p p (HasComeTo m c (lowered held c first)) (HasComeTo m c now) (λ x. EndsSo now) refl run
-    (subst (λ (bs : List Below). Continues knows log count b e (AreAsked p (HasComeTo m c bs) (EndsSo bs))) is asked)
+    asked_then knows log count a b e p p (HaveComeTo m c (lowered held c first)) (HaveComeTo m c now) (λ x. EndsSo now) refl run
+    (subst (λ (bs : List Below). Continues knows log count b e (AreAsked p (HaveComeTo m c bs) (EndsSo bs))) is asked)
 
 pub lowers_found : {S : Type 0} (knows log : S → Lines → Type 0) (count : S → ℕ) (a b e : S) (q p : Task) (m : Criterion) (held : List Below) (c : Criterion)
     (first least d : Drawing) (bounds : List Below) (reply : Reply) → IsOneAsked q p bounds reply (knows e) → bounds ≡ lowered held c least →
     reply ≡ Found d → AreBeside c held → value_of (values_of d) c < value_of (values_of least) c →
-    Continues knows log count a b (AreAsked p (HasComeTo m c (lowered held c first)) (HasComeTo m c (lowered held c least))) →
+    Continues knows log count a b (AreAsked p (HaveComeTo m c (lowered held c first)) (HaveComeTo m c (lowered held c least))) →
     Continues knows log count b e (λ lines more. IsReply q lines bounds reply more) →
-    Continues knows log count a e (AreAsked p (HasComeTo m c (lowered held c first)) (HasComeTo m c (lowered held c d)))
+    Continues knows log count a e (AreAsked p (HaveComeTo m c (lowered held c first)) (HaveComeTo m c (lowered held c d)))
 lowers_found knows log count a b e q p m held c first least d bounds reply one is was beside lt run asked =
     let u = value_of (values_of least) c in
     let w = value_of (values_of d) c in
     let le : w ≤ u = omega (arith, lt) in
-    asked_to knows log count a e p (HasComeTo m c (lowered held c first)) (HasFound m c (lowered held c least)) (HasComeTo m c (lowered held c d))
+    asked_to knows log count a e p (HaveComeTo m c (lowered held c first)) (HasFound m c (lowered held c least)) (HaveComeTo m c (lowered held c d))
     (λ lines h. found_to m c c (lowered held c least) (lowered held c d) lines (no_less_lowered m held c least d le)
     (λ more left. behind_lowered m c held u w more le left) (not_behind_lowered m c held u w beside lt) h)
     (lowers_on knows log count a b e p m held c first least bounds (HasFound m c) is run
@@ -294,32 +294,32 @@ lowers_found knows log count a b e q p m held c first least d bounds reply one i
 -- nothing is left to be less
 pub lowers_down : {S : Type 0} (knows log : S → Lines → Type 0) (count : S → ℕ) (a e : S) (p : Task) (m : Criterion) (held : List Below) (c : Criterion)
     (first least : Drawing) →
-    Continues knows log count a e (AreAsked p (HasComeTo m c (lowered held c first)) (HasComeTo m c (lowered held c least))) →
-    Continues knows log count a e (AreAsked p (HasComeTo m c (lowered held c first)) (EndsLowered p held c m least None))
+    Continues knows log count a e (AreAsked p (HaveComeTo m c (lowered held c first)) (HaveComeTo m c (lowered held c least))) →
+    Continues knows log count a e (AreAsked p (HaveComeTo m c (lowered held c first)) (EndsLowered p held c m least None))
 lowers_down knows log count a e p m held c first least run =
-    asked_to knows log count a e p (HasComeTo m c (lowered held c first)) (HasComeTo m c (lowered held c least)) (EndsLowered p held c m least None)
+    asked_to knows log count a e p (HaveComeTo m c (lowered held c first)) (HaveComeTo m c (lowered held c least)) (EndsLowered p held c m least None)
     (λ lines h. h) run
 
 pub lowers_refuted : {S : Type 0} (knows log : S → Lines → Type 0) (count : S → ℕ) (a b e : S) (q p : Task) (m : Criterion) (held : List Below)
     (c : Criterion) (first least : Drawing) (bounds : List Below) (reply : Reply) → IsOneAsked q p bounds reply (knows e) →
     bounds ≡ lowered held c least → reply ≡ Refuted →
-    Continues knows log count a b (AreAsked p (HasComeTo m c (lowered held c first)) (HasComeTo m c (lowered held c least))) →
+    Continues knows log count a b (AreAsked p (HaveComeTo m c (lowered held c first)) (HaveComeTo m c (lowered held c least))) →
     Continues knows log count b e (λ lines more. IsReply q lines bounds reply more) →
-    Continues knows log count a e (AreAsked p (HasComeTo m c (lowered held c first)) (EndsLowered p held c m least None))
+    Continues knows log count a e (AreAsked p (HaveComeTo m c (lowered held c first)) (EndsLowered p held c m least None))
 lowers_refuted knows log count a b e q p m held c first least bounds reply one is was run asked =
     lowers_down knows log count a e p m held c first least
-    (lowers_on knows log count a b e p m held c first least bounds (HasComeTo m c) is run
+    (lowers_on knows log count a b e p m held c first least bounds (HaveComeTo m c) is run
     (asks_refuted knows log count b e q p m c bounds reply one was asked))
 
 pub lowers_stopped : {S : Type 0} (knows log : S → Lines → Type 0) (count : S → ℕ) (a b e : S) (q p : Task) (m : Criterion) (held : List Below)
     (c : Criterion) (first least : Drawing) (bounds : List Below) (reply : Reply) (stop : Stop) → IsOneAsked q p bounds reply (knows e) →
     bounds ≡ lowered held c least → reply ≡ Stopped stop → IsLawful p least → AreMet (values_of least) held →
-    Continues knows log count a b (AreAsked p (HasComeTo m c (lowered held c first)) (HasComeTo m c (lowered held c least))) →
+    Continues knows log count a b (AreAsked p (HaveComeTo m c (lowered held c first)) (HaveComeTo m c (lowered held c least))) →
     Continues knows log count b e (λ lines more. IsReply q lines bounds reply more) →
-    Continues knows log count a e (AreAsked p (HasComeTo m c (lowered held c first)) (EndsLowered p held c m least (Some stop)))
+    Continues knows log count a e (AreAsked p (HaveComeTo m c (lowered held c first)) (EndsLowered p held c m least (Some stop)))
 lowers_stopped knows log count a b e q p m held c first least bounds reply stop one is was lawful met run asked =
     let Just : List Below → Type 0 = λ bs. bs ≡ lowered held c least in
-    asked_to knows log count a e p (HasComeTo m c (lowered held c first)) (StopsUnder p Just m stop) (EndsLowered p held c m least (Some stop))
+    asked_to knows log count a e p (HaveComeTo m c (lowered held c first)) (StopsUnder p Just m stop) (EndsLowered p held c m least (Some stop))
     (λ lines h. stops_as p Just (LowersUnder held c p) m stop lines (λ bs same. (least, lawful, met, same)) h)
     (lowers_on knows log count a b e p m held c first least bounds (λ xs. StopsUnder p (λ (bs : List Below). bs ≡ xs) m stop) is run
     (asks_stopped knows log count b e q p m c bounds reply stop one was asked))

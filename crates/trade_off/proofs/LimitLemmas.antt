@@ -24,7 +24,7 @@ use Rattle.search_least.specs.Placed.{EachBehind}
 use Rattle.search_least.proofs.QuestionLemmas.{negated_longer, query_stays}
 use Rattle.search_least.proofs.BehindLemmas.{behind_unended, behind_ended}
 use Rattle.trade_off.specs.Least.{AreBeside, lowered, HasNoGreater, AskNoLess, IsNoLess, HasComeDown, AsksLess, MayComeBehind, IsFoundBeside, NoneIsFound}
-use Rattle.trade_off.specs.Least.{HasComeTo, AnswersOther}
+use Rattle.trade_off.specs.Least.{HaveComeTo, AnswersOther}
 use Rattle.trade_off.specs.Next.{IsUnder, under}
 
 -- ---- bounds that ask for no less
@@ -310,7 +310,7 @@ answers_other Such lines bounds query apart such negated none = λ i line at. by
 -- ---- questions come to lower bounds
 
 pub come_to : (c d f : Criterion) (bounds others : List Below) (lines : Lines) → AskNoLess c bounds others →
-    ((more : List Below) → MayComeBehind c f others more → MayComeBehind c d bounds more) → HasComeTo c d bounds lines → HasComeTo c f others lines
+    ((more : List Below) → MayComeBehind c f others more → MayComeBehind c d bounds more) → HaveComeTo c d bounds lines → HaveComeTo c f others lines
 come_to c d f bounds others lines less behind h = record {
   down = come_down c bounds others lines less h.down;
   fresh = found_fewer (MayComeBehind c d bounds) (MayComeBehind c f others) lines behind h.fresh;

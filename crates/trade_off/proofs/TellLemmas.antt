@@ -26,7 +26,7 @@ use Rattle.trade_off.specs.declared.outcome.FrontEnd.{FrontEnd}
 use Rattle.trade_off.specs.declared.outcome.FrontEnd.TheVariants.{Whole, Empty, Conflicts, Room}
 use Rattle.search_least.specs.Placed.{EachBehind, IsUnderBounds, AreUnderBounds}
 use Rattle.search_least.proofs.PlacedLemmas.{TakesClauses, sums_anywhere, first_anywhere, clauses_under_bounds}
-use Rattle.trade_off.specs.Least.{IsNoLess, MayComeBehind, IsFoundBeside, HasComeTo, AreAsked}
+use Rattle.trade_off.specs.Least.{IsNoLess, MayComeBehind, IsFoundBeside, HaveComeTo, AreAsked}
 use Rattle.trade_off.specs.Outcome.{front_lines, HasNoRoomToAsk, IsFrontCause, IsFrontLog, IsBuiltFront, EndsFront}
 use Rattle.trade_off.specs.Front.{Pairs}
 
@@ -157,7 +157,7 @@ second_built p a b AllOfThem lines xs ys is one two =
       subst (AreUnderBounds p) (append_assoc (first_lines p) (first_sum p a) (second_sum p a b) ∙ sym whole)
           (second_placed (IsUnderBounds p) p a b (clauses_under_bounds p)),
       ap clause_lines whole ∙ told_both p a b,
-      subst (HasComeTo b b []) (append_assoc (first_lines p) (first_sum p a) (second_sum p a b) ∙ sym whole) (record {
+      subst (HaveComeTo b b []) (append_assoc (first_lines p) (first_sum p a) (second_sum p a b) ∙ sym whole) (record {
         down = second_placed (IsNoLess b []) p a b (no_queries b);
         fresh = second_placed (IsFoundBeside (MayComeBehind b b [])) p a b (no_models (MayComeBehind b b []));
       }),
@@ -253,15 +253,15 @@ cause_of p a b pairs Room lines told h = inr (told, h.0, h.1)
 pub tells_front : {S : Type 0} (knows log : S → Lines → Type 0) (count : S → ℕ) (s t e : S) (q p : Task) (a b : Criterion) (pairs : Pairs) (r : Built)
     (ending : FrontEnd) → q ≡ p → r ≡ AllOfThem → FrontLaws knows e p → knows s (first_lines p) →
     Continues knows log count s t (λ lines more. lines ≡ first_lines p → IsBuiltFront p a b r (lines ++ more)) →
-    Continues knows log count t e (AreAsked q (HasComeTo b b []) (EndsFront q a b pairs ending)) →
+    Continues knows log count t e (AreAsked q (HaveComeTo b b []) (EndsFront q a b pairs ending)) →
     ToldBehind (knows e) (log s) (log e) (count s) (count e) (first_lines p) (λ more. IsFrontLog p a b pairs ending (first_lines p ++ more))
 tells_front knows log count s t e q p a b pairs r ending same was laws start f g =
     let from = first_lines p in
-    let h : Continues knows log count t e (AreAsked p (HasComeTo b b []) (EndsFront p a b pairs ending)) = subst
-    (λ (x : Task). Continues knows log count t e (AreAsked x (HasComeTo b b []) (EndsFront x a b pairs ending))) same g in
+    let h : Continues knows log count t e (AreAsked p (HaveComeTo b b []) (EndsFront p a b pairs ending)) = subst
+    (λ (x : Task). Continues knows log count t e (AreAsked x (HaveComeTo b b []) (EndsFront x a b pairs ending))) same g in
     let both : Continues knows log count s e (λ lines more. lines ≡ from → IsFrontLog p a b pairs ending (lines ++ more)) =
     goes_on knows log count s t e (λ lines more. lines ≡ from → IsBuiltFront p a b r (lines ++ more))
-    (AreAsked p (HasComeTo b b []) (EndsFront p a b pairs ending))
+    (AreAsked p (HaveComeTo b b []) (EndsFront p a b pairs ending))
     (λ lines more. lines ≡ from → IsFrontLog p a b pairs ending (lines ++ more)) f h
     (λ lines xs ys ks kt ke one two is.
     let built : IsBuiltFront p a b AllOfThem (lines ++ xs) = subst (λ (x : Built). IsBuiltFront p a b x (lines ++ xs)) was (one is) in

@@ -78,7 +78,7 @@ NoneIsFound Such lines = EachBehind (IsFoundBeside Such) lines
 
 -- the questions have come to these bounds: the limits of c have come down to them, and no query that may come behind
 -- them has a Model line
-pub record HasComeTo (c d : Criterion) (bounds : List Below) (lines : Lines) : Type 0 where
+pub record HaveComeTo (c d : Criterion) (bounds : List Below) (lines : Lines) : Type 0 where
   pub down : HasComeDown c bounds lines
   pub fresh : NoneIsFound (MayComeBehind c d bounds) lines
 
@@ -105,7 +105,7 @@ StopsUnder p Such c stop lines = IsCause p.budget p.room stop lines × AsksUnder
 -- how the least value of c is asked for: the questions have come to the bounds behind the last drawing, or the search
 -- stopped in such a question
 abbrev pub EndsLowered : Task → List Below → (c m : Criterion) → Drawing → Option Stop → Lines → Type 0
-EndsLowered p held c m d None lines = HasComeTo m c (lowered held c d) lines
+EndsLowered p held c m d None lines = HaveComeTo m c (lowered held c d) lines
 EndsLowered p held c m d (Some stop) lines = StopsUnder p (LowersUnder held c p) m stop lines
 
 -- questions under bounds, and their answers: they tell no clauses of the formula; and where it began so, they end so

@@ -20,7 +20,7 @@ use Rattle.search_least.specs.Placed.{AreUnderBounds}
 use Rattle.trade_off.specs.declared.outcome.FrontEnd.{FrontEnd}
 use Rattle.trade_off.specs.declared.outcome.FrontEnd.TheVariants.{Whole, Empty, Conflicts, Room}
 use Rattle.trade_off.specs.Front.{Pairs, IsWholeFront, IsFrontUpTo}
-use Rattle.trade_off.specs.Least.{HasComeTo, AsksUnder}
+use Rattle.trade_off.specs.Least.{HaveComeTo, AsksUnder}
 use Rattle.trade_off.specs.Next.{AsksNext, limit_behind}
 
 -- what these pairs with this end say of the drawings
@@ -45,9 +45,9 @@ HasNoRoomToAsk p a b pairs lines = CapsPass p.encoding (a ∷ b ∷ []) lines p.
     × (clause_lines lines ≡ lines)
 
 -- why it ended so: with the whole or without a drawing all of these lines were told; else as many clauses were learnt
--- as the budget allows, and the last query is open; or these lines have no room, before the first question; or one more
--- clause has none behind them all. In a question the latest query asks for the pair behind those that are printed, none
--- before it asks for less of b, and no Model line answers the same query
+-- as the budget allows, and the latest query is open; or these lines have no room, before the first question; or one
+-- more clause has none behind them all. In a question the latest query asks for the pair behind those that are printed,
+-- none before it asks for less of b, and no Model line answers the same query
 abbrev pub IsFrontCause : Task → Criterion → Criterion → Pairs → FrontEnd → Lines → Type 0
 IsFrontCause p a b pairs Whole lines = clause_lines lines ≡ front_lines p a b
 IsFrontCause p a b pairs Empty lines = clause_lines lines ≡ front_lines p a b
@@ -98,6 +98,6 @@ EndsFront p a b pairs ending lines = MatchOption (stop_behind ending) ⊤ (λ st
 -- all of the lines were told, and no question yet; or the first of them alone, and all have no room
 abbrev pub IsBuiltFront : Task → Criterion → Criterion → Built → Lines → Type 0
 IsBuiltFront p a b AllOfThem lines =
-    AreUnderBounds p lines × (clause_lines lines ≡ front_lines p a b) × HasComeTo b b [] lines
+    AreUnderBounds p lines × (clause_lines lines ≡ front_lines p a b) × HaveComeTo b b [] lines
 IsBuiltFront p a b NoRoom lines =
     AreUnderBounds p lines × BeginsLines (clause_lines lines) (front_lines p a b) × HasNoRoomToAsk p a b [] lines

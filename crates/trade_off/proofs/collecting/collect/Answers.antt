@@ -8,7 +8,7 @@ use Rattle.trade_off.specs.declared.collecting.Next.TheVariants.{Pair, NoMore}
 use Rattle.trade_off.specs.Least.{AreAsked}
 use Rattle.trade_off.specs.Next.{IsNextPair, under, AsksNext, EndsNext, limit_behind}
 use Rattle.trade_off.specs.Outcome.{IsRightFront, EndsFront}
-use Rattle.trade_off.specs.Least.{HasComeTo}
+use Rattle.trade_off.specs.Least.{HaveComeTo}
 use Rattle.trade_off.specs.declared.outcome.FrontEnd.TheVariants.{Empty}
 use Rattle.trade_off.proofs.AskLemmas.{asked_then, asked_to}
 use Rattle.trade_off.proofs.FrontLemmas.{right_empty, right_stopped_first, stopped_front, next_is}
@@ -42,12 +42,12 @@ returns-in-Pair-clause-lines g c = let o = g.O.Oracle in let t = g.O.LogTeller i
     let b = c.next_pair.new.oracle in
     let e = c.further_pairs.new.oracle in
     let p = o.task a in
-    let limit = HasComeTo c.args.b c.args.b (under c.args.b (Some c.in-Pair.second)) in
-    let begin = HasComeTo c.args.b c.args.b [] in
+    let limit = HaveComeTo c.args.b c.args.b (under c.args.b (Some c.in-Pair.second)) in
+    let begin = HaveComeTo c.args.b c.args.b [] in
     let before : Continues t.knows t.log t.learnt a b (AreAsked p begin limit) =
     asked_to t.knows t.log t.learnt a b p begin (EndsNext p (AsksNext c.args.a c.args.b None p) c.args.b (Pair c.in-Pair.first c.in-Pair.second))
     limit (λ lines h. h)
-    (subst (λ (x : Next). Continues t.knows t.log t.learnt a b (AreAsked p (HasComeTo c.args.b c.args.b [])
+    (subst (λ (x : Next). Continues t.knows t.log t.learnt a b (AreAsked p (HaveComeTo c.args.b c.args.b [])
     (EndsNext p (AsksNext c.args.a c.args.b None p) c.args.b x))) c.in-Pair.is c.in_ok-first.ensures.lines) in
     IfOk-weaker c.further_pairs.result
     (λ r. Continues t.knows t.log t.learnt b e (AreAsked (o.task b) limit (EndsFront (o.task b) c.args.a c.args.b r.pairs r.ending)))
@@ -67,9 +67,9 @@ returns-in-NoMore-clause-lines g c = let o = g.O.Oracle in let t = g.O.LogTeller
     let a = c.args.oracle.now in
     let e = c.next_pair.new.oracle in
     let p = o.task a in
-    asked_to t.knows t.log t.learnt a e p (HasComeTo c.args.b c.args.b []) (EndsNext p (AsksNext c.args.a c.args.b None p) c.args.b NoMore)
+    asked_to t.knows t.log t.learnt a e p (HaveComeTo c.args.b c.args.b []) (EndsNext p (AsksNext c.args.a c.args.b None p) c.args.b NoMore)
     (EndsFront p c.args.a c.args.b c.new.result Empty) (λ lines h. tt)
-    (subst (λ (x : Next). Continues t.knows t.log t.learnt a e (AreAsked p (HasComeTo c.args.b c.args.b [])
+    (subst (λ (x : Next). Continues t.knows t.log t.learnt a e (AreAsked p (HaveComeTo c.args.b c.args.b [])
     (EndsNext p (AsksNext c.args.a c.args.b None p) c.args.b x))) c.in-NoMore.is c.in_ok-first.ensures.lines)
 
 pub returns-in-Stopped-clause-right : goal.returns-in-Stopped-clause-right
@@ -82,10 +82,10 @@ returns-in-Stopped-clause-lines g c = let o = g.O.Oracle in let t = g.O.LogTelle
     let a = c.args.oracle.now in
     let e = c.next_pair.new.oracle in
     let p = o.task a in
-    stopped_front t.knows t.log t.learnt a e p c.args.a c.args.b (HasComeTo c.args.b c.args.b []) c.new-in-Stopped.result None c.in-Stopped.stop
+    stopped_front t.knows t.log t.learnt a e p c.args.a c.args.b (HaveComeTo c.args.b c.args.b []) c.new-in-Stopped.result None c.in-Stopped.stop
     c.stopped_by.result
     (ap limit_behind c.new-in-Stopped.ensures) c.stopped_by.ensures
-    (subst (λ (x : Next). Continues t.knows t.log t.learnt a e (AreAsked p (HasComeTo c.args.b c.args.b [])
+    (subst (λ (x : Next). Continues t.knows t.log t.learnt a e (AreAsked p (HaveComeTo c.args.b c.args.b [])
     (EndsNext p (AsksNext c.args.a c.args.b None p) c.args.b x))) c.in-Stopped.is c.in_ok-first.ensures.lines)
 
 pub returns-in_err-first-clause-leaves : goal.returns-in_err-first-clause-leaves
@@ -95,6 +95,6 @@ returns-in_err-first-clause-leaves g c = let o = g.O.Oracle in
 pub returns-in-Pair-clause-leaves : goal.returns-in-Pair-clause-leaves
 returns-in-Pair-clause-leaves g c = let o = g.O.Oracle in let t = g.O.LogTeller in
     on_err_weaker c.further_pairs.result _ _ (asked_later t.knows t.log t.learnt c.args.oracle.now c.next_pair.new.oracle c.further_pairs.new.oracle
-    (o.task c.next_pair.new.oracle) (o.task c.args.oracle.now) (HasComeTo c.args.b c.args.b [])
+    (o.task c.next_pair.new.oracle) (o.task c.args.oracle.now) (HaveComeTo c.args.b c.args.b [])
     (EndsNext (o.task c.args.oracle.now) (AsksNext c.args.a c.args.b None (o.task c.args.oracle.now)) c.args.b c.in_ok-first.field-0)
     c.in_ok-first.ensures.lines (g.met.O.Oracle.within c.next_pair.new.oracle) c.in_ok-first.ensures.task) c.further_pairs.ensures.leaves

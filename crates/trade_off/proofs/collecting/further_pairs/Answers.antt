@@ -7,7 +7,7 @@ use Rattle.trade_off.specs.declared.collecting.Next.TheVariants.{Pair, NoMore, S
 use Rattle.trade_off.specs.declared.outcome.FrontEnd.TheVariants.{Whole}
 use Rattle.trade_off.specs.Outcome.{EndsFront}
 use Rattle.trade_off.specs.Front.{Pairs, IsAttained}
-use Rattle.trade_off.specs.Least.{HasComeTo, AreAsked}
+use Rattle.trade_off.specs.Least.{HaveComeTo, AreAsked}
 use Rattle.trade_off.specs.Next.{IsNextPair, IsSoFar, under, AsksNext, EndsNext, limit_after, limit_behind}
 use Rattle.std.proofs.lemmas.Grind.{fold-append}
 use Rattle.trade_off.proofs.AskLemmas.{asked_none, asked_then, asked_to}
@@ -34,7 +34,7 @@ loop-limit-init g c = let o = g.O.Oracle in let t = g.O.LogTeller in
       within = attained_within p c.args.a c.args.b c.args.first c.args.second c.requires.pair.attained;
       later = g.met.O.Oracle.later_same c.args.oracle.now;
       faults = omega arith;
-      lines = asked_none t.knows t.log t.learnt c.args.oracle.now p (HasComeTo c.args.b c.args.b (under c.args.b (Some c.args.second)));
+      lines = asked_none t.knows t.log t.learnt c.args.oracle.now p (HaveComeTo c.args.b c.args.b (under c.args.b (Some c.args.second)));
     }
 
 pub next_pair-requires-clause-first : goal.next_pair-requires-clause-first
@@ -75,14 +75,14 @@ loop-limit-preserved g c = let o = g.O.Oracle in let t = g.O.LogTeller in
       within = attained_within p c.args.a c.args.b c.in-Pair.n c.in-Pair.m pair.attained;
       later = g.met.O.Oracle.later_more a b e c.loop-limit.invariant.later c.next_pair.ensures.later;
       faults = (let m = c.loop-limit.invariant.faults in let n = c.next_pair.ensures.faults in omega arith);
-      lines = asked_to t.knows t.log t.learnt a e p (HasComeTo c.args.b c.args.b (under c.args.b (Some c.args.second)))
+      lines = asked_to t.knows t.log t.learnt a e p (HaveComeTo c.args.b c.args.b (under c.args.b (Some c.args.second)))
           (EndsNext p (AsksNext c.args.a c.args.b (Some limit) p) c.args.b (Pair c.in-Pair.n c.in-Pair.m))
-          (HasComeTo c.args.b c.args.b (under c.args.b (Some c.in-Pair.m))) (λ lines h. h)
-          (asked_then t.knows t.log t.learnt a b e (o.task b) p (HasComeTo c.args.b c.args.b (under c.args.b (Some c.args.second)))
-          (HasComeTo c.args.b c.args.b (under c.args.b (Some limit)))
+          (HaveComeTo c.args.b c.args.b (under c.args.b (Some c.in-Pair.m))) (λ lines h. h)
+          (asked_then t.knows t.log t.learnt a b e (o.task b) p (HaveComeTo c.args.b c.args.b (under c.args.b (Some c.args.second)))
+          (HaveComeTo c.args.b c.args.b (under c.args.b (Some limit)))
           (λ x. EndsNext x (AsksNext c.args.a c.args.b (Some limit) x) c.args.b (Pair c.in-Pair.n c.in-Pair.m)) c.loop-limit.invariant.task
           c.loop-limit.invariant.lines
-          (subst (λ (r : Next). Continues t.knows t.log t.learnt b e (AreAsked (o.task b) (HasComeTo c.args.b c.args.b (under c.args.b (Some limit)))
+          (subst (λ (r : Next). Continues t.knows t.log t.learnt b e (AreAsked (o.task b) (HaveComeTo c.args.b c.args.b (under c.args.b (Some limit)))
           (EndsNext (o.task b) (AsksNext c.args.a c.args.b (Some limit) (o.task b)) c.args.b r))) c.in-Pair.is c.in_ok-n.ensures.lines));
     }
 
@@ -102,12 +102,12 @@ returns-in-NoMore-clause-lines g c = let o = g.O.Oracle in let t = g.O.LogTeller
     let e = c.next_pair.new.oracle in
     let p = o.task a in
     let limit = c.loop-limit.limit in
-    let first = HasComeTo c.args.b c.args.b (under c.args.b (Some c.args.second)) in
+    let first = HaveComeTo c.args.b c.args.b (under c.args.b (Some c.args.second)) in
     asked_to t.knows t.log t.learnt a e p first (EndsNext p (AsksNext c.args.a c.args.b (Some limit) p) c.args.b NoMore)
     (EndsFront p c.args.a c.args.b c.loop-limit.pairs Whole) (λ lines h. tt)
-    (asked_then t.knows t.log t.learnt a b e (o.task b) p first (HasComeTo c.args.b c.args.b (under c.args.b (Some limit)))
+    (asked_then t.knows t.log t.learnt a b e (o.task b) p first (HaveComeTo c.args.b c.args.b (under c.args.b (Some limit)))
     (λ x. EndsNext x (AsksNext c.args.a c.args.b (Some limit) x) c.args.b NoMore) c.loop-limit.invariant.task c.loop-limit.invariant.lines
-    (subst (λ (r : Next). Continues t.knows t.log t.learnt b e (AreAsked (o.task b) (HasComeTo c.args.b c.args.b (under c.args.b (Some limit)))
+    (subst (λ (r : Next). Continues t.knows t.log t.learnt b e (AreAsked (o.task b) (HaveComeTo c.args.b c.args.b (under c.args.b (Some limit)))
     (EndsNext (o.task b) (AsksNext c.args.a c.args.b (Some limit) (o.task b)) c.args.b r))) c.in-NoMore.is c.in_ok-n.ensures.lines))
 
 pub returns-in-Stopped-clause-right : goal.returns-in-Stopped-clause-right
@@ -122,13 +122,13 @@ returns-in-Stopped-clause-lines g c = let o = g.O.Oracle in let t = g.O.LogTelle
     let e = c.next_pair.new.oracle in
     let p = o.task a in
     let limit = c.loop-limit.limit in
-    let first = HasComeTo c.args.b c.args.b (under c.args.b (Some c.args.second)) in
+    let first = HaveComeTo c.args.b c.args.b (under c.args.b (Some c.args.second)) in
     stopped_front t.knows t.log t.learnt a e p c.args.a c.args.b first c.loop-limit.pairs (Some limit) c.in-Stopped.stop c.stopped_by.result
     c.loop-limit.invariant.behind c.stopped_by.ensures
-    (asked_then t.knows t.log t.learnt a b e (o.task b) p first (HasComeTo c.args.b c.args.b (under c.args.b (Some limit)))
+    (asked_then t.knows t.log t.learnt a b e (o.task b) p first (HaveComeTo c.args.b c.args.b (under c.args.b (Some limit)))
     (λ x. EndsNext x (AsksNext c.args.a c.args.b (Some limit) x) c.args.b (Stopped c.in-Stopped.stop)) c.loop-limit.invariant.task
     c.loop-limit.invariant.lines
-    (subst (λ (r : Next). Continues t.knows t.log t.learnt b e (AreAsked (o.task b) (HasComeTo c.args.b c.args.b (under c.args.b (Some limit)))
+    (subst (λ (r : Next). Continues t.knows t.log t.learnt b e (AreAsked (o.task b) (HaveComeTo c.args.b c.args.b (under c.args.b (Some limit)))
     (EndsNext (o.task b) (AsksNext c.args.a c.args.b (Some limit) (o.task b)) c.args.b r))) c.in-Stopped.is c.in_ok-n.ensures.lines))
 
 pub returns-clause-right : goal.returns-clause-right
@@ -140,8 +140,8 @@ pub returns-clause-lines : goal.returns-clause-lines
 returns-clause-lines g c = let o = g.O.Oracle in let t = g.O.LogTeller in
     let a = c.args.oracle.now in
     let p = o.task a in
-    asked_to t.knows t.log t.learnt a c.loop-limit.oracle p (HasComeTo c.args.b c.args.b (under c.args.b (Some c.args.second)))
-    (HasComeTo c.args.b c.args.b (under c.args.b (Some c.loop-limit.limit))) (EndsFront p c.args.a c.args.b c.loop-limit.pairs Whole) (λ lines h. tt)
+    asked_to t.knows t.log t.learnt a c.loop-limit.oracle p (HaveComeTo c.args.b c.args.b (under c.args.b (Some c.args.second)))
+    (HaveComeTo c.args.b c.args.b (under c.args.b (Some c.loop-limit.limit))) (EndsFront p c.args.a c.args.b c.loop-limit.pairs Whole) (λ lines h. tt)
     c.loop-limit.invariant.lines
 
 pub returns-in_err-push-clause-leaves : goal.returns-in_err-push-clause-leaves
@@ -152,18 +152,18 @@ returns-in_err-push-clause-leaves g c = let t = g.O.LogTeller in
 pub returns-in_err-n-clause-leaves : goal.returns-in_err-n-clause-leaves
 returns-in_err-n-clause-leaves g c = let o = g.O.Oracle in let t = g.O.LogTeller in
     on_err_anyway _ _ (asked_later t.knows t.log t.learnt c.args.oracle.now c.loop-limit.oracle c.next_pair.new.oracle
-    (o.task c.loop-limit.oracle) (o.task c.args.oracle.now) (HasComeTo c.args.b c.args.b (under c.args.b (Some c.args.second)))
-    (HasComeTo c.args.b c.args.b (under c.args.b (Some c.loop-limit.limit))) c.loop-limit.invariant.lines (g.met.O.Oracle.within c.loop-limit.oracle)
+    (o.task c.loop-limit.oracle) (o.task c.args.oracle.now) (HaveComeTo c.args.b c.args.b (under c.args.b (Some c.args.second)))
+    (HaveComeTo c.args.b c.args.b (under c.args.b (Some c.loop-limit.limit))) c.loop-limit.invariant.lines (g.met.O.Oracle.within c.loop-limit.oracle)
     c.loop-limit.invariant.task c.in_err-n.ensures.leaves)
 
 pub returns-in_err-push-in-Pair-clause-leaves : goal.returns-in_err-push-in-Pair-clause-leaves
 returns-in_err-push-in-Pair-clause-leaves g c = let o = g.O.Oracle in let t = g.O.LogTeller in
     on_err_anyway _ _ (asked_later t.knows t.log t.learnt c.args.oracle.now c.loop-limit.oracle c.next_pair.new.oracle
-    (o.task c.loop-limit.oracle) (o.task c.args.oracle.now) (HasComeTo c.args.b c.args.b (under c.args.b (Some c.args.second)))
-    (HasComeTo c.args.b c.args.b (under c.args.b (Some c.loop-limit.limit))) c.loop-limit.invariant.lines
+    (o.task c.loop-limit.oracle) (o.task c.args.oracle.now) (HaveComeTo c.args.b c.args.b (under c.args.b (Some c.args.second)))
+    (HaveComeTo c.args.b c.args.b (under c.args.b (Some c.loop-limit.limit))) c.loop-limit.invariant.lines
     (g.met.O.Oracle.within c.loop-limit.oracle) c.loop-limit.invariant.task
     (asked_here t.knows t.log t.learnt c.loop-limit.oracle c.next_pair.new.oracle (o.task c.next_pair.new.oracle) (o.task c.loop-limit.oracle)
-    (HasComeTo c.args.b c.args.b (under c.args.b (Some c.loop-limit.limit)))
+    (HaveComeTo c.args.b c.args.b (under c.args.b (Some c.loop-limit.limit)))
     (EndsNext (o.task c.loop-limit.oracle) (AsksNext c.args.a c.args.b (Some c.loop-limit.limit) (o.task c.loop-limit.oracle)) c.args.b c.in_ok-n.field-0)
     c.in_ok-n.ensures.lines (g.met.O.Oracle.within c.next_pair.new.oracle) c.in_ok-n.ensures.task
     (g.O.LogTeller.derives c.next_pair.new.oracle) (g.met.O.Oracle.one_reading c.next_pair.new.oracle)))

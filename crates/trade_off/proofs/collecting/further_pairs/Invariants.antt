@@ -2,7 +2,7 @@ use Rattle.std.proofs.Common.{◌≡◌, ◌≤◌}
 use Rattle.std.specs.Prelude.{Some}
 use Rattle.search_least.specs.Task.{IsLawful, greatest_of}
 use Rattle.refute_log.specs.Steps.{Continues, KnowsSome}
-use Rattle.trade_off.specs.Least.{HasComeTo, AreAsked}
+use Rattle.trade_off.specs.Least.{HaveComeTo, AreAsked}
 use Rattle.trade_off.specs.Next.{IsSoFar, under, limit_behind}
 use Rattle.trade_off.proofs.collecting.further_pairs.Given as goal
 
@@ -18,7 +18,7 @@ invariant-loop-limit g l = let o = g.O.Oracle in let t = g.O.LogTeller in record
   later : t.is_later l.fn.oracle l.oracle;
   faults : t.faults l.fn.oracle ≤ t.faults l.oracle;
   lines : Continues t.knows t.log t.learnt l.fn.oracle l.oracle
-      (AreAsked (o.task l.fn.oracle) (HasComeTo l.b l.b (under l.b (Some l.fn.second))) (HasComeTo l.b l.b (under l.b (Some l.limit))));
+      (AreAsked (o.task l.fn.oracle) (HaveComeTo l.b l.b (under l.b (Some l.fn.second))) (HaveComeTo l.b l.b (under l.b (Some l.limit))));
 }
 
 abbrev pub decreases-loop-limit : goal.decreases-loop-limit

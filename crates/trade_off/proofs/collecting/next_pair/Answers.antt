@@ -7,7 +7,7 @@ use Rattle.search_least.specs.Asked.{below_limit, AreMet, IsReply}
 use Rattle.search_least.specs.Task.{Task, IsLawful, greatest_of}
 use Rattle.refute_log.specs.Steps.{Continues}
 use Rattle.trade_off.specs.declared.collecting.Next.TheVariants.{NoMore, Stopped}
-use Rattle.trade_off.specs.Least.{AreBeside, lowered, HasComeTo, StopsUnder, AreAsked}
+use Rattle.trade_off.specs.Least.{AreBeside, lowered, HaveComeTo, StopsUnder, AreAsked}
 use Rattle.trade_off.specs.Next.{under, IsNext, AsksNext, EndsNext}
 use Rattle.refute_log.proofs.StepLemmas.{known_after, on_err_weaker, leaves_same}
 use Rattle.trade_off.proofs.AskLemmas.{asked_then, asked_to, stops_as, HasFound, asks_found, asks_refuted, asks_stopped, found_to, refuted_none, laws_back}
@@ -83,9 +83,9 @@ returns-in-Refuted-clause-lines g c = let o = g.O.Oracle in let t = g.O.LogTelle
     let b = c.args.b in
     let bounds = c.deref.ensures.value ∙ c.in_ok-bounds.ensures in
     let begin = under b c.args.limit in
-    asked_to t.knows t.log t.learnt s e p (HasComeTo b b begin) (HasComeTo b b begin) (EndsNext p (AsksNext c.args.a b c.args.limit p) b NoMore)
+    asked_to t.knows t.log t.learnt s e p (HaveComeTo b b begin) (HaveComeTo b b begin) (EndsNext p (AsksNext c.args.a b c.args.limit p) b NoMore)
     (λ lines h. tt)
-    (subst (λ (bs : List Below). Continues t.knows t.log t.learnt s e (AreAsked p (HasComeTo b b bs) (HasComeTo b b bs))) bounds
+    (subst (λ (bs : List Below). Continues t.knows t.log t.learnt s e (AreAsked p (HaveComeTo b b bs) (HaveComeTo b b bs))) bounds
     (asks_refuted t.knows t.log t.learnt s e p p b b c.deref.result.now c.in_ok-first.field-0
     (record { same = refl; once = under_once b c.args.limit c.deref.result.now bounds; right = c.in_ok-first.ensures.right; apart = g.met.O.Oracle.apart e })
     c.in-Refuted.is
@@ -102,9 +102,9 @@ returns-clause-lines g c = let o = g.O.Oracle in let t = g.O.LogTeller in
     let begin = under b c.args.limit in
     let Just : List Below → Type 0 = λ xs. xs ≡ begin in
     let next = AsksNext c.args.a b c.args.limit p in
-    asked_to t.knows t.log t.learnt s e p (HasComeTo b b begin) (StopsUnder p Just b stop) (EndsNext p next b (Stopped stop))
+    asked_to t.knows t.log t.learnt s e p (HaveComeTo b b begin) (StopsUnder p Just b stop) (EndsNext p next b (Stopped stop))
     (λ lines h. stops_as p Just next b stop lines (λ bs x. inl x) h)
-    (subst (λ (bs : List Below). Continues t.knows t.log t.learnt s e (AreAsked p (HasComeTo b b bs) (StopsUnder p (λ (xs : List Below). xs ≡ bs) b stop)))
+    (subst (λ (bs : List Below). Continues t.knows t.log t.learnt s e (AreAsked p (HaveComeTo b b bs) (StopsUnder p (λ (xs : List Below). xs ≡ bs) b stop)))
     bounds
     (asks_stopped t.knows t.log t.learnt s e p p b b c.deref.result.now c.in_ok-first.field-0 stop
     (record { same = refl; once = under_once b c.args.limit c.deref.result.now bounds; right = c.in_ok-first.ensures.right; apart = g.met.O.Oracle.apart e })
@@ -130,19 +130,19 @@ returns-in-Found-clause-lines g c = let o = g.O.Oracle in let teller = g.O.LogTe
     let first = c.in-Found.first in
     let u = value_of (values_of first) a in
     let beside : AreBeside a begin = under_beside a b limit begin refl c.requires.apart in
-    let before : Continues teller.knows teller.log teller.learnt s t (AreAsked p (HasComeTo b b begin) (HasComeTo b a (lowered begin a first))) =
-    asked_to teller.knows teller.log teller.learnt s t p (HasComeTo b b begin) (HasFound b b begin) (HasComeTo b a (lowered begin a first))
+    let before : Continues teller.knows teller.log teller.learnt s t (AreAsked p (HaveComeTo b b begin) (HaveComeTo b a (lowered begin a first))) =
+    asked_to teller.knows teller.log teller.learnt s t p (HaveComeTo b b begin) (HasFound b b begin) (HaveComeTo b a (lowered begin a first))
     (λ lines h. found_to b b a begin (lowered begin a first) lines (no_less_with b begin (below_limit a u ∷ []))
     (λ more left. behind_with b a begin u more left) (not_behind_with b a begin u beside) h)
-    (subst (λ (bs : List Below). Continues teller.knows teller.log teller.learnt s t (AreAsked p (HasComeTo b b bs) (HasFound b b bs))) bounds
+    (subst (λ (bs : List Below). Continues teller.knows teller.log teller.learnt s t (AreAsked p (HaveComeTo b b bs) (HasFound b b bs))) bounds
     (asks_found teller.knows teller.log teller.learnt s t p p b b c.deref.result.now c.in_ok-first.field-0 first
     (record { same = refl; once = under_once b limit c.deref.result.now bounds; right = c.in_ok-first.ensures.right; apart = g.met.O.Oracle.apart t })
     c.in-Found.is c.in_ok-first.ensures.lines)) in
     IfOk-weaker c.pair_from.result
     (λ r. Continues teller.knows teller.log teller.learnt t e
-    (AreAsked (o.task t) (HasComeTo b a (lowered begin a first)) (EndsNext (o.task t) (AsksNext a b limit (o.task t)) b r)))
-    (λ r. Continues teller.knows teller.log teller.learnt s e (AreAsked p (HasComeTo b b begin) (EndsNext p (AsksNext a b limit p) b r)))
-    (λ r h. asked_then teller.knows teller.log teller.learnt s t e (o.task t) p (HasComeTo b b begin) (HasComeTo b a (lowered begin a first))
+    (AreAsked (o.task t) (HaveComeTo b a (lowered begin a first)) (EndsNext (o.task t) (AsksNext a b limit (o.task t)) b r)))
+    (λ r. Continues teller.knows teller.log teller.learnt s e (AreAsked p (HaveComeTo b b begin) (EndsNext p (AsksNext a b limit p) b r)))
+    (λ r h. asked_then teller.knows teller.log teller.learnt s t e (o.task t) p (HaveComeTo b b begin) (HaveComeTo b a (lowered begin a first))
     (λ x. EndsNext x (AsksNext a b limit x) b r) c.in_ok-first.ensures.task before h)
     c.pair_from.ensures.lines
 

@@ -8,7 +8,7 @@ use Rattle.search_least.specs.Asked.{AreMet}
 use Rattle.search_least.specs.Task.{Task, IsLawful, greatest_of}
 use Rattle.refute_log.specs.Steps.{Continues}
 use Rattle.trade_off.specs.declared.collecting.Next.TheVariants.{Stopped}
-use Rattle.trade_off.specs.Least.{IsLeastUnder, lowered, LowersUnder, HasComeTo, EndsLowered, AreAsked}
+use Rattle.trade_off.specs.Least.{IsLeastUnder, lowered, LowersUnder, HaveComeTo, EndsLowered, AreAsked}
 use Rattle.trade_off.specs.Next.{IsUnder, IsNext, IsSecondOf, under, HasLeastFirst, AsksSecond, AsksNext, EndsNext}
 use Rattle.trade_off.proofs.LimitLemmas.{no_less_other, no_less_under, behind_under, come_to}
 use Rattle.trade_off.proofs.AskLemmas.{asked_then, asked_to, stops_as}
@@ -56,11 +56,11 @@ returns-in-Some-clause-lines g c = let o = g.O.Oracle in let t = g.O.LogTeller i
     let next = AsksNext a b c.args.limit p in
     let held : bounds ≡ under b c.args.limit = c.deref.ensures.value ∙ c.in_ok-held.ensures in
     let start = lowered (under b c.args.limit) a c.args.first in
-    asked_to t.knows t.log t.learnt s e p (HasComeTo b a start) (EndsLowered p bounds a b least (Some stop)) (EndsNext p next b (Stopped stop))
+    asked_to t.knows t.log t.learnt s e p (HaveComeTo b a start) (EndsLowered p bounds a b least (Some stop)) (EndsNext p next b (Stopped stop))
     (λ lines h. stops_as p (LowersUnder bounds a p) next b stop lines (λ bs x. inr (inl (subst (λ (hs : List Below). LowersUnder hs a p bs) held x))) h)
-    (subst (λ (hs : List Below). Continues t.knows t.log t.learnt s e (AreAsked p (HasComeTo b a (lowered hs a c.args.first))
+    (subst (λ (hs : List Below). Continues t.knows t.log t.learnt s e (AreAsked p (HaveComeTo b a (lowered hs a c.args.first))
     (EndsLowered p bounds a b least (Some stop)))) held
-    (subst (λ (x : Option Stop). Continues t.knows t.log t.learnt s e (AreAsked p (HasComeTo b a (lowered bounds a c.args.first))
+    (subst (λ (x : Option Stop). Continues t.knows t.log t.learnt s e (AreAsked p (HaveComeTo b a (lowered bounds a c.args.first))
     (EndsLowered p bounds a b least x))) c.in-Some.is (c.in_ok-lowered.ensures.lines b)))
 
 pub returns-clause-lines : goal.returns-clause-lines
@@ -73,9 +73,9 @@ returns-clause-lines g c = let o = g.O.Oracle in let teller = g.O.LogTeller in
     let b = c.args.b in
     let bounds = c.deref.result.now in
     let d = c.in_ok-lowered.lowered.least in
-    let begin = HasComeTo b a (lowered (under b c.args.limit) a c.args.first) in
+    let begin = HaveComeTo b a (lowered (under b c.args.limit) a c.args.first) in
     let n = value_of (values_of d) b in
-    let mid = HasComeTo b b (under b (Some n)) in
+    let mid = HaveComeTo b b (under b (Some n)) in
     let next = AsksNext a b c.args.limit p in
     let held : bounds ≡ under b c.args.limit = c.deref.ensures.value ∙ c.in_ok-held.ensures in
     let met : AreMet (values_of d) (under b c.args.limit) = subst (AreMet (values_of d)) held c.in_ok-lowered.ensures.met in
@@ -91,9 +91,9 @@ returns-clause-lines g c = let o = g.O.Oracle in let teller = g.O.LogTeller in
     (λ lines h. come_to b a b (lowered (under b c.args.limit) a d) (under b (Some n)) lines
     (no_less_other b (under b c.args.limit) a d (under b (Some n)) apart (no_less_under b c.args.limit n low))
     (λ more left. behind_under b a c.args.limit (value_of (values_of d) a) n more apart low left) h)
-    (subst (λ (hs : List Below). Continues teller.knows teller.log teller.learnt s t (AreAsked p (HasComeTo b a (lowered hs a c.args.first))
+    (subst (λ (hs : List Below). Continues teller.knows teller.log teller.learnt s t (AreAsked p (HaveComeTo b a (lowered hs a c.args.first))
     (EndsLowered p hs a b d None))) held
-    (subst (λ (x : Option Stop). Continues teller.knows teller.log teller.learnt s t (AreAsked p (HasComeTo b a (lowered bounds a c.args.first))
+    (subst (λ (x : Option Stop). Continues teller.knows teller.log teller.learnt s t (AreAsked p (HaveComeTo b a (lowered bounds a c.args.first))
     (EndsLowered p bounds a b d x))) c.in-None.is (c.in_ok-lowered.ensures.lines b))) in
     IfOk-weaker c.second_from.result
     (λ r. Continues teller.knows teller.log teller.learnt t e (AreAsked (o.task t) mid (EndsNext (o.task t) (AsksSecond a b d (o.task t)) b r)))
@@ -126,7 +126,7 @@ returns-in_err-lowered-clause-leaves g c = let o = g.O.Oracle in
 pub returns-clause-leaves : goal.returns-clause-leaves
 returns-clause-leaves g c = let o = g.O.Oracle in let t = g.O.LogTeller in
     on_err_weaker c.second_from.result _ _ (asked_later t.knows t.log t.learnt c.args.oracle.now c.lower.new.oracle c.second_from.new.oracle
-    (o.task c.lower.new.oracle) (o.task c.args.oracle.now) (HasComeTo c.args.b c.args.a (lowered c.deref.result.now c.args.a c.args.first))
+    (o.task c.lower.new.oracle) (o.task c.args.oracle.now) (HaveComeTo c.args.b c.args.a (lowered c.deref.result.now c.args.a c.args.first))
     (EndsLowered (o.task c.args.oracle.now) c.deref.result.now c.args.a c.args.b c.in_ok-lowered.lowered.least c.in_ok-lowered.lowered.stop)
     (c.in_ok-lowered.ensures.lines c.args.b) (g.met.O.Oracle.within c.lower.new.oracle) c.in_ok-lowered.ensures.task)
     c.second_from.ensures.leaves

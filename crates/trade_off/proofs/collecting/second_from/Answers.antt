@@ -8,7 +8,7 @@ use Rattle.refute_log.specs.Steps.{Continues}
 use Rattle.search_least.specs.declared.oracle.Below.{Below}
 use Rattle.search_least.specs.Task.{greatest_of}
 use Rattle.trade_off.specs.declared.collecting.Next.TheVariants.{Pair, Stopped}
-use Rattle.trade_off.specs.Least.{AreBeside, lowered, LowersUnder, HasComeTo, EndsLowered, AreAsked}
+use Rattle.trade_off.specs.Least.{AreBeside, lowered, LowersUnder, HaveComeTo, EndsLowered, AreAsked}
 use Rattle.trade_off.specs.Next.{under, AsksSecond, EndsNext}
 use Rattle.trade_off.proofs.LimitLemmas.{no_less_last, no_less_alone, behind_last, behind_alone, come_to}
 use Rattle.trade_off.proofs.AskLemmas.{asked_as, stops_as}
@@ -48,12 +48,12 @@ returns-in-Some-clause-lines g c = let o = g.O.Oracle in let t = g.O.LogTeller i
     ∙ ap (λ n. hold c.args.a n (greatest_of p c.args.a)) first in
     let start = lowered bounds b c.args.least in
     let first_is = under b (Some (value_of (values_of c.args.least) b)) in
-    asked_as t.knows t.log t.learnt s e p (HasComeTo b b first_is) (HasComeTo b b start) (EndsLowered p bounds b b least (Some stop))
+    asked_as t.knows t.log t.learnt s e p (HaveComeTo b b first_is) (HaveComeTo b b start) (EndsLowered p bounds b b least (Some stop))
     (EndsNext p (AsksSecond c.args.a b c.args.least p) b (Stopped stop))
     (λ lines h. come_to b b b first_is start lines (no_less_last b bounds c.args.least) (λ more left. behind_last b bounds c.args.least more left) h)
     (λ lines h. stops_as p (LowersUnder bounds b p) (AsksSecond c.args.a b c.args.least p) b stop lines
     (λ bs x. subst (λ (hs : List Below). LowersUnder hs b p bs) held x) h)
-    (subst (λ (x : Option Stop). Continues t.knows t.log t.learnt s e (AreAsked p (HasComeTo b b start) (EndsLowered p bounds b b least x)))
+    (subst (λ (x : Option Stop). Continues t.knows t.log t.learnt s e (AreAsked p (HaveComeTo b b start) (EndsLowered p bounds b b least x)))
     c.in-Some.is (c.in_ok-lowered.ensures.lines b))
 
 pub returns-clause-lines : goal.returns-clause-lines
@@ -70,12 +70,12 @@ returns-clause-lines g c = let o = g.O.Oracle in let t = g.O.LogTeller in
     let beside : AreBeside b bounds = hold_beside b c.args.a c.of-first.result c.greatest-most.result bounds
     (c.deref.ensures.value ∙ c.in_ok-held.ensures) c.requires.apart in
     let first_is = under b (Some (value_of (values_of c.args.least) b)) in
-    asked_as t.knows t.log t.learnt s e p (HasComeTo b b first_is) (HasComeTo b b first) (EndsLowered p bounds b b least None)
+    asked_as t.knows t.log t.learnt s e p (HaveComeTo b b first_is) (HaveComeTo b b first) (EndsLowered p bounds b b least None)
     (EndsNext p (AsksSecond c.args.a b c.args.least p) b (Pair c.of-first.result m))
     (λ lines h. come_to b b b first_is first lines (no_less_last b bounds c.args.least) (λ more left. behind_last b bounds c.args.least more left) h)
     (λ lines h. come_to b b b (lowered bounds b least) (under b (Some m)) lines (no_less_alone b bounds least m second beside)
     (λ more left. behind_alone b bounds least m more second beside left) h)
-    (subst (λ (x : Option Stop). Continues t.knows t.log t.learnt s e (AreAsked p (HasComeTo b b first) (EndsLowered p bounds b b least x))) c.in-None.is
+    (subst (λ (x : Option Stop). Continues t.knows t.log t.learnt s e (AreAsked p (HaveComeTo b b first) (EndsLowered p bounds b b least x))) c.in-None.is
     (c.in_ok-lowered.ensures.lines b))
 
 pub returns-clause-next : goal.returns-clause-next

@@ -8,7 +8,7 @@ use Rattle.search_least.proofs.RunLemmas.{built_all, found_less, found_lawful}
 use Rattle.refute_log.proofs.StepLemmas.{known_after}
 use Rattle.trade_off.proofs.AskLemmas.{refuted_none, least_from, least_zero, found_meets, once_with, asked_none, lowers_found, lowers_refuted}
 use Rattle.trade_off.proofs.AskLemmas.{lowers_stopped, lowers_down, laws_back}
-use Rattle.trade_off.specs.Least.{lowered, HasComeTo}
+use Rattle.trade_off.specs.Least.{lowered, HaveComeTo}
 use Rattle.trade_off.proofs.LeftLemmas.{asked_here, asked_later}
 use Rattle.trade_off.proofs.lowering.lower.Goals as goal
 use Rattle.outside_io.proofs.Results.{on_err_anyway}
@@ -31,7 +31,7 @@ loop-value-init g c = let o = g.O.Oracle in let t = g.O.LogTeller in
       no_more = omega (arith, is);
       later = g.met.O.Oracle.later_same c.args.oracle.now;
       faults = omega arith;
-      lines = λ m. asked_none t.knows t.log t.learnt c.args.oracle.now p (HasComeTo m c.args.c (lowered c.args.held.now c.args.c c.args.first));
+      lines = λ m. asked_none t.knows t.log t.learnt c.args.oracle.now p (HaveComeTo m c.args.c (lowered c.args.held.now c.args.c c.args.first));
     }
 
 pub ask-requires-clause-there : goal.ask-requires-clause-there
@@ -166,8 +166,8 @@ returns-clause-lines g c = let o = g.O.Oracle in let t = g.O.LogTeller in
 pub returns-in_err-bounds-clause-leaves : goal.returns-in_err-bounds-clause-leaves
 returns-in_err-bounds-clause-leaves g c = let o = g.O.Oracle in let t = g.O.LogTeller in
     on_err_anyway _ _ (asked_here t.knows t.log t.learnt c.args.oracle.now c.loop-value.oracle (o.task c.loop-value.oracle) (o.task c.args.oracle.now)
-    (HasComeTo c.args.c c.args.c (lowered c.args.held.now c.args.c c.args.first))
-    (HasComeTo c.args.c c.args.c (lowered c.args.held.now c.args.c c.loop-value.least))
+    (HaveComeTo c.args.c c.args.c (lowered c.args.held.now c.args.c c.args.first))
+    (HaveComeTo c.args.c c.args.c (lowered c.args.held.now c.args.c c.loop-value.least))
     (c.loop-value.invariant.lines c.args.c) (g.met.O.Oracle.within c.loop-value.oracle) c.loop-value.invariant.task
     (g.O.LogTeller.derives c.loop-value.oracle) (g.met.O.Oracle.one_reading c.loop-value.oracle))
 
@@ -175,6 +175,6 @@ pub returns-in_err-d-clause-leaves : goal.returns-in_err-d-clause-leaves
 returns-in_err-d-clause-leaves g c = let o = g.O.Oracle in let t = g.O.LogTeller in
     on_err_anyway _ _ (asked_later t.knows t.log t.learnt c.args.oracle.now c.loop-value.oracle c.ask.new.self (o.task c.loop-value.oracle)
     (o.task c.args.oracle.now)
-    (HasComeTo c.args.c c.args.c (lowered c.args.held.now c.args.c c.args.first))
-    (HasComeTo c.args.c c.args.c (lowered c.args.held.now c.args.c c.loop-value.least))
+    (HaveComeTo c.args.c c.args.c (lowered c.args.held.now c.args.c c.args.first))
+    (HaveComeTo c.args.c c.args.c (lowered c.args.held.now c.args.c c.loop-value.least))
     (c.loop-value.invariant.lines c.args.c) (g.met.O.Oracle.within c.loop-value.oracle) c.loop-value.invariant.task c.in_err-d.ensures.leaves)

@@ -4,7 +4,7 @@ use Rattle.plan_core.specs.Values.{values_of, value_of}
 use Rattle.search_least.specs.Task.{IsLawful, greatest_of}
 use Rattle.search_least.specs.Asked.{AreMet}
 use Rattle.refute_log.specs.Steps.{Continues, KnowsSome}
-use Rattle.trade_off.specs.Least.{lowered, HasComeTo, AreAsked}
+use Rattle.trade_off.specs.Least.{lowered, HaveComeTo, AreAsked}
 use Rattle.trade_off.proofs.lowering.lower.Given as goal
 
 abbrev pub invariant-loop-value : goal.invariant-loop-value
@@ -21,7 +21,7 @@ invariant-loop-value g l = let o = g.O.Oracle in let t = g.O.LogTeller in record
   later : t.is_later l.fn.oracle l.oracle;
   faults : t.faults l.fn.oracle ≤ t.faults l.oracle;
   lines : (m : Criterion) → Continues t.knows t.log t.learnt l.fn.oracle l.oracle
-      (AreAsked (o.task l.fn.oracle) (HasComeTo m l.c (lowered l.held l.c l.fn.first)) (HasComeTo m l.c (lowered l.held l.c l.least)));
+      (AreAsked (o.task l.fn.oracle) (HaveComeTo m l.c (lowered l.held l.c l.fn.first)) (HaveComeTo m l.c (lowered l.held l.c l.least)));
 }
 
 abbrev pub decreases-loop-value : goal.decreases-loop-value

@@ -6,7 +6,7 @@ use Rattle.search_least.specs.Outcome.{first_lines}
 use Rattle.search_least.proofs.LeftLemmas.{IsSpentWithin}
 use Rattle.refute_log.specs.Steps.{ToldBehind, Continues, Leaves}
 use Rattle.trade_off.specs.Front.{IsFrontUpTo}
-use Rattle.trade_off.specs.Least.{HasComeTo, AreAsked}
+use Rattle.trade_off.specs.Least.{HaveComeTo, AreAsked}
 use Rattle.trade_off.specs.Outcome.{IsRightFront, IsFrontLog, IsBuiltFront, EndsFront}
 use Rattle.refute_log.proofs.StepLemmas.{known_after, on_err_weaker}
 use Rattle.trade_off.proofs.FrontLemmas.{up_to_none}
@@ -67,7 +67,7 @@ returns-in-Whole-clause-lines g c = let o = g.O.Oracle in let teller = g.O.LogTe
     let e = c.collect.new.oracle in
     let p = o.task s in
     IfOk-weaker c.collect.result
-    (λ r. Continues teller.knows teller.log teller.learnt t e (AreAsked (o.task t) (HasComeTo c.args.b c.args.b [])
+    (λ r. Continues teller.knows teller.log teller.learnt t e (AreAsked (o.task t) (HaveComeTo c.args.b c.args.b [])
     (EndsFront (o.task t) c.args.a c.args.b r.pairs r.ending)))
     (λ r. ToldBehind (teller.knows e) (teller.log s) (teller.log e) (teller.learnt s) (teller.learnt e) (first_lines p)
     (λ more. IsFrontLog p c.args.a c.args.b r.pairs r.ending (first_lines p ++ more)))
