@@ -287,7 +287,7 @@ pub left_none : (y : Layout) (budget : ℕ) (log : Lines → Type 0) → ((a b :
 left_none y budget log one none lines is = subst (IsWhyLeft y budget) (one [] lines none is) (record {
   derives = derives_none;
   begins = (formula_lines y, refl);
-  few = counted_within budget [] (omega arith);
+  within = counted_within budget [] (omega arith);
 })
 
 -- an error in the formula's clauses
@@ -299,7 +299,7 @@ left_begun y budget room laws f old l0 l1 has blank_is h none lines told =
     record {
       derives = left.derives;
       begins = (left.begins.0, ap (map Formula) (sym has.clauses) ∙ left.begins.1 ∙ ap (λ (ls : Lines). ls ++ left.begins.0) (sym left.gives));
-      few = few_left 0 budget [] lines (omega arith) (omega arith) left.few;
+      within = few_left 0 budget [] lines (omega arith) (omega arith) left.few;
     }
 
 -- an error behind them
@@ -321,7 +321,7 @@ left_later y budget room laws f old mid l0 l1 l2 n0 n1 has blank_is t goes h non
         sym knows.told_are ∙ sym (append-nil (clause_lines start)) ∙ ap (λ (ls : Lines). clause_lines start ++ ls) (sym nothing) ∙ sym left.gives
             ∙ sym (append-nil (clause_lines lines)),
       );
-      few = few_left budget budget start lines (omega arith) (subst (λ n. n ≤ budget) knows.learnt_are knows.spent) left.few;
+      within = few_left budget budget start lines (omega arith) (subst (λ n. n ≤ budget) knows.learnt_are knows.spent) left.few;
     }
   where
     nothing_begins : (front rest : Lines) → [] ≡ front ++ rest → front ≡ []

@@ -52,9 +52,10 @@ abbrev pub KeepsNoneBack : Layout → Lines → Type 0
 KeepsNoneBack y lines = (Contains lines ModelLine → ⊥)
     ⊎ ((d : Drawing) → Lawful y.graph (is_above y.order) y.grid d → ⊥)
 
--- why it answered so: the whole formula was told, and without a drawing or an explanation as many clauses were learnt
--- as the budget allows, and the last question is open, or there is no room for one more clause; then the last question
--- has no answer, and no lawful drawing is kept back; or there is no room for the formula, and nothing was told
+-- why it answered so. With a drawing or an explanation the whole formula was told. So it was where the search stopped
+-- in a question: the latest query has no answer, and no lawful drawing is kept back. As many clauses were learnt as the
+-- budget allows, and the latest query is open; or one more clause has no room. Where the formula has no room, nothing
+-- was told
 abbrev pub IsWhyCause : Layout → (budget room : ℕ) → Why → Lines → Type 0
 IsWhyCause y budget room (Exists d) lines = clause_lines lines ≡ formula_lines y
 IsWhyCause y budget room (Laws names without) lines = clause_lines lines ≡ formula_lines y
@@ -79,7 +80,7 @@ pub record IsWhyLog (y : Layout) (budget room : ℕ) (w : Why) (lines : Lines) :
 pub record IsWhyLeft (y : Layout) (budget : ℕ) (lines : Lines) : Type 0 where
   pub derives : Derives lines
   pub begins : BeginsLines (clause_lines lines) (formula_lines y)
-  pub few : learnt_count lines ≤ budget
+  pub within : learnt_count lines ≤ budget
 
 -- the places of an explanation are those of so many laws
 abbrev pub HasLawPlaces : (count : ℕ) → Outcome → Type 0

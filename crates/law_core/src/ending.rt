@@ -21,7 +21,7 @@ pub enum Why {
         /// A loose drawing for each of them, which meets all the others.
         without: DrawingList,
     },
-    /// As many clauses were learnt as the budget allows, and the last question is open.
+    /// As many clauses were learnt as the budget allows, and the latest query is open.
     Spent,
     /// The formula has no room, or one more clause has none.
     Room,

@@ -2,6 +2,7 @@
 use crate::asking::{WhyKnown, ask};
 use cdcl_core::Solver;
 use refute_log::LogSink;
+use search_least::LogTeller;
 use search_why::{LawOracle, Reply, WhyFault};
 
 /// What is asked: all of it is lent.
@@ -12,12 +13,9 @@ pub(crate) struct WhySearch<'k, 's, 'l, 'a, L: LogSink> {
     pub(crate) log: &'l mut L,
 }
 
-impl<'k, 's, 'l, 'a, L: LogSink> LawOracle for WhySearch<'k, 's, 'l, 'a, L> {
-    ghost use Rattle.std.specs.Prelude.{◌≡◌, ◌≤◌};
-    ghost use Rattle.std.proofs.Common.{refl, ◌∙◌, subst};
-    ghost use Rattle.law_core.specs.Search.{task_with, IsReadyWith, KnowsWith};
-
-    ghost task = { λ s. task_with s.known.now };
+impl<'k, 's, 'l, 'a, L: LogSink> LogTeller for WhySearch<'k, 's, 'l, 'a, L> {
+    ghost use Rattle.std.specs.Prelude.{◌≡◌};
+    ghost use Rattle.law_core.specs.Search.{IsReadyWith, KnowsWith};
 
     ghost ready = { λ s. IsReadyWith s.known.now s.solver.now };
 
@@ -32,6 +30,18 @@ impl<'k, 's, 'l, 'a, L: LogSink> LawOracle for WhySearch<'k, 's, 'l, 'a, L> {
     ghost is_later = { λ s t. (t.solver.ghost_name ≡ s.solver.ghost_name)
         × (t.log.ghost_name ≡ s.log.ghost_name) × L.is_later s.log.now t.log.now };
 
+    ghost derives = { λ s lines k. k.belongs.derives };
+
+    ghost due = { λ s lines k. k.belongs.due };
+}
+
+impl<'k, 's, 'l, 'a, L: LogSink> LawOracle for WhySearch<'k, 's, 'l, 'a, L> {
+    ghost use Rattle.std.specs.Prelude.{◌≤◌};
+    ghost use Rattle.std.proofs.Common.{refl, ◌∙◌, subst};
+    ghost use Rattle.law_core.specs.Search.{task_with};
+
+    ghost task = { λ s. task_with s.known.now };
+
     fn laws(&self) -> u32 {
         self.known.selecting.len() as u32
     }
@@ -39,10 +49,6 @@ impl<'k, 's, 'l, 'a, L: LogSink> LawOracle for WhySearch<'k, 's, 'l, 'a, L> {
     fn ask(&mut self, wanted: &[u32]) -> Result<Reply, WhyFault> {
         ask(self.known, self.solver, self.log, wanted)
     }
-
-    ghost derives = { λ s lines k. k.belongs.derives };
-
-    ghost due = { λ s lines k. k.belongs.due };
 
     ghost gives = { λ s lines k. k.told_are };
 

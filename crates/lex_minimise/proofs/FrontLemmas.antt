@@ -43,9 +43,9 @@ front_passes y budget room a b (inr h) =
 
 pub no_room_front : (y : Layout) (budget room : ℕ) (a b : Criterion) (pairs : Pairs) →
     (VARS < formula_size y.graph (is_above y.order) (is_overlap y.order) y.grid) ⊎
-    (room < words_of (formula_clauses y.graph (is_above y.order) (is_overlap y.order) y.grid)) →
+    (room < words_of (formula_clauses y.graph (is_above y.order) (is_overlap y.order) y.grid)) → pairs ≡ [] →
     IsFrontLog (task_of y budget room) a b pairs Room []
-no_room_front y budget room a b pairs full =
+no_room_front y budget room a b pairs full none =
     let p = task_of y budget room in
     let end : IsUnfoundEnd p (a ∷ b ∷ []) 0 RoomFull [] = no_room_end y budget room (a ∷ b ∷ []) full in
     let s = end.searched in
@@ -58,5 +58,5 @@ no_room_front y budget room a b pairs full =
       fits = s.fits;
       within = s.within;
       placed = behind_none (IsUnderBounds p);
-      cause = inl (front_passes y budget room a b full);
+      cause = inl (front_passes y budget room a b full, none, refl);
     }

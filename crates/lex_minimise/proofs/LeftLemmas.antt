@@ -15,7 +15,7 @@ use Rattle.refute_log.specs.Told.{Lines, AddsAll, TellsNoMore}
 use Rattle.refute_log.specs.Log.{facts_of, clause_lines, learnt, learnt_count, BeginsLines, Derives}
 use Rattle.refute_log.specs.Steps.{ToldBehind, GoesOn, StillDerives, GivesNoMore, Leaves}
 use Rattle.refute_log.proofs.LogLemmas.{derives_none, derives_more}
-use Rattle.refute_log.proofs.StepLemmas.{leaves_more, leaves_known, leaves_most, leaves_then, clause_lines_append, count_more}
+use Rattle.refute_log.proofs.StepLemmas.{leaves_more, leaves_known, leaves_then, clause_lines_append, count_more}
 use Rattle.refute_log.proofs.StepLemmas.{counted_within, few_kept, few_within, few_counted, few_left}
 use Rattle.refute_log.specs.Expected.{bound_lines, sum_lines, sums, expected_lines}
 use Rattle.drawing_cnf.specs.Encoding.{Encoding, encoded_vars}
@@ -190,19 +190,18 @@ pub build_left : (old new : Encoding) (told ts : List Bound) (budget spend room 
     (l0 l1 : Lines → Type 0) → 1 ≤ cap → IsReady old told budget room k → HasGrown old new (bound c old.formula.vars cap) →
     b ≡ bound c old.formula.vars cap → ts ≡ told → spend ≡ budget → size ≡ room →
     Leaves 0 (lines_of_bound new.graph (encoded_vars new) new.grid b) (KnowsLines (layout_of new) ts spend size k) l0 l1 →
-    Leaves budget (sum_lines (problem_of (layout_of old)) k.vars c cap) (KnowsLines (layout_of old) told budget room k) l0 l1
+    Leaves 0 (sum_lines (problem_of (layout_of old)) k.vars c cap) (KnowsLines (layout_of old) told budget room k) l0 l1
 build_left old new told ts budget spend room size k c cap b l0 l1 positive ready g is_bound is_told is_budget is_room h =
     let a = bound c old.formula.vars cap in
     let same : lines_of_bound old.graph (drawing_vars old.graph old.grid) old.grid a ≡ sum_lines (problem_of (layout_of old)) k.vars c cap =
     ap (λ n. lines_of_bound old.graph (drawing_vars old.graph old.grid) old.grid (bound c n cap)) (sym ready.vars)
     ∙ sym (sum_is_bound old.graph (is_above old.order) (is_overlap old.order) old.grid k.vars c cap positive) in
-    leaves_most 0 budget (sum_lines (problem_of (layout_of old)) k.vars c cap) (KnowsLines (layout_of old) told budget room k) l0 l1 (omega arith)
-    (subst (λ (ls : Lines). Leaves 0 ls (KnowsLines (layout_of old) told budget room k) l0 l1) same
+    subst (λ (ls : Lines). Leaves 0 ls (KnowsLines (layout_of old) told budget room k) l0 l1) same
     (subst (λ (y : Layout). Leaves 0 (lines_of_bound y.graph (drawing_vars y.graph y.grid) y.grid a) (KnowsLines y told budget room k) l0 l1) g.layout
     (subst (λ (x : Bound). Leaves 0 (lines_of_bound new.graph (encoded_vars new) new.grid x) (KnowsLines (layout_of new) told budget room k) l0 l1) is_bound
     (subst (λ (xs : List Bound). Leaves 0 (lines_of_bound new.graph (encoded_vars new) new.grid b) (KnowsLines (layout_of new) xs budget room k) l0 l1) is_told
     (subst (λ n. Leaves 0 (lines_of_bound new.graph (encoded_vars new) new.grid b) (KnowsLines (layout_of new) ts n room k) l0 l1) is_budget
-    (subst (λ n. Leaves 0 (lines_of_bound new.graph (encoded_vars new) new.grid b) (KnowsLines (layout_of new) ts spend n k) l0 l1) is_room h))))))
+    (subst (λ n. Leaves 0 (lines_of_bound new.graph (encoded_vars new) new.grid b) (KnowsLines (layout_of new) ts spend n k) l0 l1) is_room h)))))
 
 -- ---- a question
 
@@ -260,7 +259,7 @@ front_unbegun y budget room a b log one none lines is =
     subst (IsFrontLeft p a b) (one [] lines none is) (record {
       derives = derives_none;
       begins = (front_lines p a b, refl);
-      few = counted_within budget [] (omega arith);
+      within = counted_within budget [] (omega arith);
     })
 
 -- an error in the formula's clauses
@@ -270,7 +269,7 @@ pub front_begun : (y : Layout) (budget room : ℕ) (a b : Criterion) (e : Encodi
 front_begun y budget room a b e f old l0 l1 first is blank_is h none lines told =
     let p = task_of y budget room in
     let left = formula_left y budget room (front_lines p a b) (front_rest p a b) e f old l0 l1 first is blank_is refl h none lines told in
-    record { derives = left.0; begins = left.1; few = left.2 }
+    record { derives = left.0; begins = left.1; within = left.2 }
 
 -- ---- the search for least values
 
@@ -286,9 +285,9 @@ values_unbegun y budget room order log one none lines is =
     subst (IsLeastLeft p order) (one [] lines none is) (record {
       derives = derives_none;
       cap = λ c. 0;
-      within = λ c. omega arith;
+      capped = λ c. omega arith;
       begins = (first_lines p, unbounded p order);
-      few = counted_within budget [] (omega arith);
+      within = counted_within budget [] (omega arith);
     })
 
 -- an error in the formula's clauses
@@ -300,4 +299,4 @@ values_begun y budget room order e f old l0 l1 first is blank_is h none lines to
     let p = task_of y budget room in
     let left = formula_left y budget room (expected_lines p.encoding order (λ c. 0)) [] e f old l0 l1 first is blank_is
     (unbounded p order ∙ sym (append-nil (first_lines p))) h none lines told in
-    record { derives = left.0; cap = λ c. 0; within = λ c. omega arith; begins = left.1; few = left.2 }
+    record { derives = left.0; cap = λ c. 0; capped = λ c. omega arith; begins = left.1; within = left.2 }

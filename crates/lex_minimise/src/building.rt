@@ -145,8 +145,7 @@ pub(crate) fn build<L: LogSink>(
     ensures lines { IfOk result (λ b. GoesOn (KnowsWith known.old solver.old) (KnowsWith known.new solver.new)
         (L.tells log.old) (L.tells log.new) (L.learnt log.old) (L.learnt log.new)
         (IsBuild (task_with known.old) solver.old.vars c cap b)) }
-    ensures leaves { let p = task_with known.old in
-        OnErr result (Leaves p.budget (sum_lines p.encoding solver.old.vars c cap)
+    ensures leaves { OnErr result (Leaves 0 (sum_lines (task_with known.old).encoding solver.old.vars c cap)
         (KnowsWith known.old solver.old) (L.tells log.old) (L.tells log.new)) }
     ensures later { L.is_later log.old log.new }
     ensures faults { L.faults log.old ≤ L.faults log.new }

@@ -113,7 +113,8 @@ pub fn front_with<L: LogSink>(
 /// both criteria's clauses with all their bounds, the questions, what is learnt, and the answers. After an error a log
 /// that had no line derives, its Formula and Bound lines are the first of those, and it has no more Learnt lines than
 /// the budget allows. With `Conflicts`, or `Room` behind a question, the latest one has no answer, and asks for the
-/// pair behind those that are there.
+/// pair behind those that are there; no Model line answers the same one. With `Room` before the first question there is
+/// no pair.
 pub fn front<L: LogSink>(
     alloc: Global,
     g: &PortGraph,

@@ -6,7 +6,7 @@ use drawing_cnf::{Bounds, Encoded, greatest};
 use plan_core::Criterion;
 use plan_geometry::Drawing;
 use refute_log::LogSink;
-use search_least::{Below, Built, MinFault, Oracle, Reply};
+use search_least::{Below, Built, LogTeller, MinFault, Oracle, Reply};
 use std::alloc::Global;
 
 /// What a search keeps beside the solver and the log.
@@ -31,13 +31,9 @@ pub(crate) struct Search<'k, 's, 'l, 'a, L: LogSink> {
     pub(crate) log: &'l mut L,
 }
 
-impl<'k, 's, 'l, 'a, L: LogSink> Oracle for Search<'k, 's, 'l, 'a, L> {
-    ghost use Rattle.std.specs.Prelude.{◌≡◌, ◌≤◌};
-    ghost use Rattle.std.proofs.Common.{refl, ◌∙◌, subst};
-    ghost use Rattle.lex_minimise.specs.Known.{caps_of};
-    ghost use Rattle.lex_minimise.specs.Search.{task_with, IsReadyWith, KnowsWith};
-
-    ghost task = { λ s. task_with s.known.now };
+impl<'k, 's, 'l, 'a, L: LogSink> LogTeller for Search<'k, 's, 'l, 'a, L> {
+    ghost use Rattle.std.specs.Prelude.{◌≡◌};
+    ghost use Rattle.lex_minimise.specs.Search.{IsReadyWith, KnowsWith};
 
     ghost ready = { λ s. IsReadyWith s.known.now s.solver.now };
 
@@ -51,6 +47,19 @@ impl<'k, 's, 'l, 'a, L: LogSink> Oracle for Search<'k, 's, 'l, 'a, L> {
 
     ghost is_later = { λ s t. (t.known.ghost_name ≡ s.known.ghost_name) × (t.solver.ghost_name ≡ s.solver.ghost_name)
         × (t.log.ghost_name ≡ s.log.ghost_name) × L.is_later s.log.now t.log.now };
+
+    ghost derives = { λ s lines k. k.belongs.derives };
+
+    ghost due = { λ s lines k. k.belongs.due };
+}
+
+impl<'k, 's, 'l, 'a, L: LogSink> Oracle for Search<'k, 's, 'l, 'a, L> {
+    ghost use Rattle.std.specs.Prelude.{◌≤◌};
+    ghost use Rattle.std.proofs.Common.{refl, ◌∙◌, subst};
+    ghost use Rattle.lex_minimise.specs.Known.{caps_of};
+    ghost use Rattle.lex_minimise.specs.Search.{task_with};
+
+    ghost task = { λ s. task_with s.known.now };
 
     ghost caps = { λ s. caps_of s.known.now.told.items };
 
@@ -71,10 +80,6 @@ impl<'k, 's, 'l, 'a, L: LogSink> Oracle for Search<'k, 's, 'l, 'a, L> {
     ghost covers = { λ s lines k. k.covers };
 
     ghost formed = { λ s lines k. k.belongs.formed };
-
-    ghost derives = { λ s lines k. k.belongs.derives };
-
-    ghost due = { λ s lines k. k.belongs.due };
 
     ghost fits = { λ s lines k. k.fits };
 

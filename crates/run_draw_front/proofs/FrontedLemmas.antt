@@ -50,7 +50,7 @@ told_front_left grid a b budget asked g o pairs ending told old new same log one
     subst (IsLeftOfFront asked g o) (one told lines (adds [] none) is) (left_of_parts grid a b budget asked g o told same (record {
       derives = log.derives;
       begins = log.begins;
-      few = counted_within budget told log.within;
+      within = counted_within budget told log.within;
     }))
 
 -- nothing was told

@@ -36,7 +36,7 @@ outcome_left p order outcome lines ended =
     record {
       derives = searched.derives;
       cap = caps (greatest_of p) lines;
-      within = λ c. let e : min (length (bound_vars c lines)) (greatest_of p c) ≡ caps (greatest_of p) lines c = refl in omega (arith, e);
+      capped = λ c. let e : min (length (bound_vars c lines)) (greatest_of p c) ≡ caps (greatest_of p) lines c = refl in omega (arith, e);
       begins = searched.front;
-      few = counted_within p.budget lines searched.within;
+      within = counted_within p.budget lines searched.within;
     }

@@ -96,7 +96,7 @@ abbrev pub HasSettled : Graph → Job → Lines → Option Drawing → ℕ → T
 HasSettled g asked lines found settled =
     Settled (limit_of g asked.grid) lines asked.order (values_found found) settled
 
--- the lines have as many learnt clauses as the search may learn, and the last query is open
+-- the lines have as many learnt clauses as the search may learn, and the latest query is open
 abbrev pub HasSpentAll : Job → Lines → Type 0
 HasSpentAll asked lines = (length (flat_map learnt lines) ≡ asked.budget) × Open lines
 

@@ -109,9 +109,9 @@ impl<'a> Searching for BestSearch<'a> {
     ghost left_none = { λ s. record {
       derives = derives_none;
       cap = λ _. 0;
-      within = λ c. omega arith;
+      capped = λ c. omega arith;
       begins = (_, refl);
-      few = omega arith;
+      within = omega arith;
     } };
 }
 

@@ -106,7 +106,7 @@ told_why_left grid budget asked g o w told old new same log one adds none lines 
     (left_of_parts grid budget asked g o told same (record {
       derives = log.derives;
       begins = log.begins;
-      few = counted_within budget told log.within;
+      within = counted_within budget told log.within;
     }))
 
 -- nothing was told

@@ -147,13 +147,13 @@ pub moved_left : (y : Layout) (former : Former) (budget room : ℕ) (o : Fewest)
 moved_left y former budget room o lines (inl log) = record {
   derives = log.derives;
   begins = ([], sym log.told ∙ sym (append-nil (clause_lines lines)));
-  few = counted_within budget lines log.within;
+  within = counted_within budget lines log.within;
 }
 moved_left y former budget room o lines (inr none) =
     subst (IsMovedLeft y former budget) (sym none.1) (record {
       derives = derives_none;
       begins = (map Formula (formula_of y former), refl);
-      few = counted_within budget [] (omega arith);
+      within = counted_within budget [] (omega arith);
     })
 
 -- lines of the search for what was read are such of redraw

@@ -90,7 +90,7 @@ impl<'a> Searching for MovedSearch<'a> {
         }
     }
 
-    ghost left_none = { λ s. record { derives = derives_none; begins = (_, refl); few = omega arith } };
+    ghost left_none = { λ s. record { derives = derives_none; begins = (_, refl); within = omega arith } };
 }
 
 /// The search for what is asked, its lines given to the file that is named for them or else to the trace.

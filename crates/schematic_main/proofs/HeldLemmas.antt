@@ -88,7 +88,7 @@ front_holds {S} tells count old new input met asked r one left answer untold =
     let traced : Lines → Type 0 = told_to {Self = S} tells count old new in
     searched_holds tells old new input met (IsFrontAnswer asked traced) (IsLeftOfFront asked) r one
     (λ g o status text a none lines is. subst (λ (ls : Lines). IsLeftOfFront asked g o ls) (one a.lines lines (a.told.behind [] none) is)
-    (record { derives = a.log.derives; begins = a.log.begins; few = counted_within _ a.lines a.log.within })) left answer untold
+    (record { derives = a.log.derives; begins = a.log.begins; within = counted_within _ a.lines a.log.within })) left answer untold
 
 pub explain_holds : {S : Type 0} (tells : S → Lines → Type 0) (count : S → ℕ) (old new : S) (input : List ℕ) (met : Met) (asked : ExplainJob)
     (r : Result Reply Cut) → ((a b : Lines) → tells new a → tells new b → a ≡ b) →
@@ -102,4 +102,4 @@ explain_holds {S} tells count old new input met asked r one left answer untold =
     let traced : Lines → Type 0 = told_to {Self = S} tells count old new in
     searched_holds tells old new input met (IsExplainAnswer asked traced) (IsLeftOfExplain asked) r one
     (λ g o status text a none lines is. subst (λ (ls : Lines). IsLeftOfExplain asked g o ls) (one a.lines lines (a.told.behind [] none) is)
-    (record { derives = a.log.derives; begins = a.log.begins; few = counted_within _ a.lines a.log.within })) left answer untold
+    (record { derives = a.log.derives; begins = a.log.begins; within = counted_within _ a.lines a.log.within })) left answer untold

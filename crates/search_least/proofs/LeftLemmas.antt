@@ -48,13 +48,13 @@ left_over p order cap now xs lines told within before is spent left =
     record {
       derives = left.derives;
       cap = now;
-      within = within;
+      capped = within;
       begins = (
         rest,
         is ∙ ap (λ (ls : Lines). ls ++ xs) (sym before) ∙ ap (λ (ls : Lines). clause_lines lines ++ ls) left.begins.1
             ∙ sym (append_assoc (clause_lines lines) left.front rest) ∙ ap (λ (ls : Lines). ls ++ rest) (sym left.gives),
       );
-      few = few_left p.budget p.budget lines told (omega arith) spent left.few;
+      within = few_left p.budget p.budget lines told (omega arith) spent left.few;
     }
 
 -- the lines that are known have no more Learnt lines than the budget allows
@@ -100,9 +100,9 @@ left_whole : (p : Task) (order : List Criterion) (cap : Criterion → ℕ) (line
 left_whole p order cap lines derives within is spent = record {
   derives = derives;
   cap = cap;
-  within = within;
+  capped = within;
   begins = ([], sym is ∙ sym (append-nil (clause_lines lines)));
-  few = counted_within p.budget lines spent;
+  within = counted_within p.budget lines spent;
 }
 
 -- an error that tells nothing, once the place's least value is found or the search stopped

@@ -104,9 +104,9 @@ IsOutcome p order (Room best settled) lines = IsStoppedEnd p order settled RoomF
 pub record IsLeastLeft (p : Task) (order : List Criterion) (lines : Lines) : Type 0 where
   pub derives : Derives lines
   pub cap : Criterion → ℕ
-  pub within : (c : Criterion) → cap c ≤ greatest_of p c
+  pub capped : (c : Criterion) → cap c ≤ greatest_of p c
   pub begins : BeginsLines (clause_lines lines) (expected_lines p.encoding order cap)
-  pub few : learnt_count lines ≤ p.budget
+  pub within : learnt_count lines ≤ p.budget
 
 -- the outcome of a search that stopped
 abbrev pub stopped_with : Stop → Option Drawing → ℕ → Outcome

@@ -42,7 +42,7 @@ pub left_none : (y : Layout) (former : Former) (budget : ℕ) (log : Lines → T
 left_none y former budget log one none lines is = subst (IsMovedLeft y former budget) (one [] lines none is) (record {
   derives = derives_none;
   begins = (map Formula (formula_of y former), refl);
-  few = counted_within budget [] (omega arith);
+  within = counted_within budget [] (omega arith);
 })
 
 -- an error in the formula's clauses
@@ -60,7 +60,7 @@ left_begun e former budget room a f old l0 l1 whole none is counting blank_is h 
         ap (map Formula) (sym (both_are e former room a f whole none is counting)) ∙ left.begins.1
             ∙ ap (λ (ls : Lines). ls ++ left.begins.0) (sym left.gives),
       );
-      few = few_left 0 budget [] lines (omega arith) (omega arith) left.few;
+      within = few_left 0 budget [] lines (omega arith) (omega arith) left.few;
     }
 
 -- an error behind them
@@ -84,7 +84,7 @@ left_later e former budget room a f old mid l0 l1 l2 n0 n1 whole none is countin
         sym knows.told_are ∙ sym (append-nil (clause_lines start)) ∙ ap (λ (ls : Lines). clause_lines start ++ ls) (sym nothing) ∙ sym left.gives
             ∙ sym (append-nil (clause_lines lines)),
       );
-      few = few_left budget budget start lines (omega arith) (subst (λ n. n ≤ budget) knows.learnt_are knows.spent) left.few;
+      within = few_left budget budget start lines (omega arith) (subst (λ n. n ≤ budget) knows.learnt_are knows.spent) left.few;
     }
   where
     nothing_begins : (front rest : Lines) → [] ≡ front ++ rest → front ≡ []

@@ -38,7 +38,7 @@ IsMovedEnd y former budget room o lines =
 pub record IsMovedLeft (y : Layout) (former : Former) (budget : ℕ) (lines : Lines) : Type 0 where
   pub derives : Derives lines
   pub begins : BeginsLines (clause_lines lines) (map Formula (formula_of y former))
-  pub few : learnt_count lines ≤ budget
+  pub within : learnt_count lines ≤ budget
 
 -- the list has each node's integers
 abbrev pub AreNodes : Encoding → List NodeVars → ℕ → Type 0

@@ -4,7 +4,7 @@ use crate::counted::count_moved;
 use cdcl_core::Solver;
 use plan_geometry::Drawing;
 use refute_log::LogSink;
-use search_least::{Answer, CountOracle, MinFault};
+use search_least::{Answer, CountOracle, LogTeller, MinFault};
 
 /// What is asked: all of it is lent.
 #[derive(Drop)]
@@ -14,14 +14,9 @@ pub(crate) struct MovedSearch<'k, 's, 'l, 'a, L: LogSink> {
     pub(crate) log: &'l mut L,
 }
 
-impl<'k, 's, 'l, 'a, L: LogSink> CountOracle for MovedSearch<'k, 's, 'l, 'a, L> {
-    ghost use Rattle.std.specs.Prelude.{◌≡◌, ◌≤◌};
-    ghost use Rattle.std.proofs.Common.{refl, ◌∙◌, subst};
-    ghost use Rattle.plan_core.specs.Drawing.{place};
-    ghost use Rattle.drawing_cnf.proofs.VariableLemmas.{moved_within};
-    ghost use Rattle.search_moved.specs.Search.{task_with, IsReadyWith, KnowsWith};
-
-    ghost task = { λ s. task_with s.known.now };
+impl<'k, 's, 'l, 'a, L: LogSink> LogTeller for MovedSearch<'k, 's, 'l, 'a, L> {
+    ghost use Rattle.std.specs.Prelude.{◌≡◌};
+    ghost use Rattle.search_moved.specs.Search.{IsReadyWith, KnowsWith};
 
     ghost ready = { λ s. IsReadyWith s.known.now s.solver.now };
 
@@ -36,6 +31,20 @@ impl<'k, 's, 'l, 'a, L: LogSink> CountOracle for MovedSearch<'k, 's, 'l, 'a, L> 
     ghost is_later = { λ s t. (t.solver.ghost_name ≡ s.solver.ghost_name)
         × (t.log.ghost_name ≡ s.log.ghost_name) × L.is_later s.log.now t.log.now };
 
+    ghost derives = { λ s lines k. k.belongs.derives };
+
+    ghost due = { λ s lines k. k.belongs.due };
+}
+
+impl<'k, 's, 'l, 'a, L: LogSink> CountOracle for MovedSearch<'k, 's, 'l, 'a, L> {
+    ghost use Rattle.std.specs.Prelude.{◌≤◌};
+    ghost use Rattle.std.proofs.Common.{refl, ◌∙◌, subst};
+    ghost use Rattle.plan_core.specs.Drawing.{place};
+    ghost use Rattle.drawing_cnf.proofs.VariableLemmas.{moved_within};
+    ghost use Rattle.search_moved.specs.Search.{task_with};
+
+    ghost task = { λ s. task_with s.known.now };
+
     fn count(&self, d: &Drawing) -> u32 {
         count_moved(d, self.known.former)
     }
@@ -44,19 +53,15 @@ impl<'k, 's, 'l, 'a, L: LogSink> CountOracle for MovedSearch<'k, 's, 'l, 'a, L> 
         ask(self.known, self.solver, self.log, limit)
     }
 
-    ghost within = { λ s d one. moved_within s.known.now.former.now (place d) };
+    ghost limited = { λ s d one. moved_within s.known.now.former.now (place d) };
 
     ghost covers = { λ s lines k. k.covers };
 
     ghost formed = { λ s lines k. k.belongs.formed };
 
-    ghost derives = { λ s lines k. k.belongs.derives };
-
-    ghost due = { λ s lines k. k.belongs.due };
-
     ghost fits = { λ s lines k. k.fits };
 
-    ghost spent = { λ s lines k. subst (λ n. n ≤ s.known.now.budget) k.learnt_are k.spent };
+    ghost within = { λ s lines k. subst (λ n. n ≤ s.known.now.budget) k.learnt_are k.spent };
 
     ghost later_same = { λ s. (refl, refl, L.later_same s.log.now) };
 

@@ -1,5 +1,5 @@
 // What is asked: the drawings' clauses, a solver and a log, as one thing.
-ghost use Rattle.std.specs.Prelude.{◌≡◌, ◌≤◌, [], ℕ, OnOk, OnErr, IfOk, IsErrOf, length, map, flat_map};
+ghost use Rattle.std.specs.Prelude.{◌≡◌, ◌≤◌, [], OnOk, OnErr, IfOk, IsErrOf, length, map, flat_map};
 ghost use Rattle.outside_io.specs.Counts.{Rose};
 ghost use Rattle.refute_log.specs.Told.{Lines};
 ghost use Rattle.refute_log.specs.declared.line.LogLine.TheVariants.{Formula};
@@ -12,6 +12,7 @@ use crate::WhyFault;
 use plan_core::Items;
 use plan_geometry::Drawing;
 use refute_log::Stop;
+use search_least::LogTeller;
 
 /// The answer to a question.
 #[derive(Drop)]
@@ -26,66 +27,44 @@ pub enum Reply {
 
 /// The clauses of loose drawings with laws to choose in a solver, and a log that takes every line. After an error it
 /// isn't used further.
-pub trait LawOracle {
+pub trait LawOracle: LogTeller {
     /// What is searched.
     ghost task: { Self → Task };
 
-    /// It can be asked.
-    ghost ready: { Self → Type 0 };
-
-    /// The lines that the log took since the start: they belong to the solver and to the clauses.
-    ghost knows: { Self → Lines → Type 0 };
-
-    /// The log says that these are its lines.
-    ghost log: { Self → Lines → Type 0 };
-
-    /// How many Learnt lines the log took.
-    ghost learnt: { Self → ℕ };
-
-    /// How many faults the log had.
-    ghost faults: { Self → ℕ };
-
-    /// The second's log is a later state of the first's.
-    ghost is_later: { Self → Self → Type 0 };
-
     /// How many laws there are to choose.
     fn laws(&self) -> u32
-        requires { ready self.now }
+        requires { Self.ready self.now }
         ensures { result ≡ length (task self.now).laws };
 
     /// Asks for a loose drawing that meets the laws at these places.
     fn ask(&mut self, wanted: &[u32]) -> Result<Reply, WhyFault>
-        requires ready { ready self.old }
+        requires ready { Self.ready self.old }
         requires places { AreLawPlaces (task self.old) wanted.now }
         ensures right { IfOk result (IsRightReply (task self.old) wanted.now) }
-        ensures lines { IfOk result (λ r. Continues knows log learnt self.old self.new (λ lines more.
+        ensures lines { IfOk result (λ r. Continues Self.knows Self.log Self.learnt self.old self.new (λ lines more.
             TellsReply (task self.old) r lines more)) }
-        ensures leaves { OnErr result (Leaves (task self.old).budget [] (knows self.old) (log self.old)
-            (log self.new)) }
-        ensures ready { OnOk result (ready self.new) }
+        ensures leaves { OnErr result (Leaves (task self.old).budget [] (Self.knows self.old) (Self.log self.old)
+            (Self.log self.new)) }
+        ensures ready { OnOk result (Self.ready self.new) }
         ensures task { task self.new ≡ task self.old }
-        ensures later { is_later self.old self.new }
-        ensures faults { faults self.old ≤ faults self.new }
-        ensures cause { IsErrOf result WhyFault.Log → Rose (faults self.old) (faults self.new) };
-
-    /// The lines that are known derive.
-    ghost derives: { (s : Self) (lines : Lines) → knows s lines → Derives lines };
-
-    /// Each Learnt line of them comes where the latest query is open.
-    ghost due: { (s : Self) (lines : Lines) → knows s lines → Due lines };
+        ensures later { Self.is_later self.old self.new }
+        ensures faults { Self.faults self.old ≤ Self.faults self.new }
+        ensures cause { IsErrOf result WhyFault.Log → Rose (Self.faults self.old) (Self.faults self.new) };
 
     /// Their Formula lines are the task's clauses, and they have no Bound line.
-    ghost gives: { (s : Self) (lines : Lines) → knows s lines → clause_lines lines ≡ map Formula (task s).clauses };
+    ghost gives: { (s : Self) (lines : Lines) → Self.knows s lines → clause_lines lines
+        ≡ map Formula (task s).clauses };
 
     /// There are no more Learnt lines than the budget allows.
-    ghost within: { (s : Self) (lines : Lines) → knows s lines → length (flat_map learnt_of lines) ≤ (task s).budget };
+    ghost within: { (s : Self) (lines : Lines) → Self.knows s lines → length (flat_map learnt_of lines)
+        ≤ (task s).budget };
 
     /// A log has one list of lines at most.
-    ghost one_reading: { (s : Self) (a b : Lines) → log s a → log s b → a ≡ b };
+    ghost one_reading: { (s : Self) (a b : Lines) → Self.log s a → Self.log s b → a ≡ b };
 
     /// Each state is a later state of itself.
-    ghost later_same: { (s : Self) → is_later s s };
+    ghost later_same: { (s : Self) → Self.is_later s s };
 
     /// What is later than a later state is later.
-    ghost later_more: { (a b c : Self) → is_later a b → is_later b c → is_later a c };
+    ghost later_more: { (a b c : Self) → Self.is_later a b → Self.is_later b c → Self.is_later a c };
 }

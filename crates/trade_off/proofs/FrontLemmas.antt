@@ -1,6 +1,6 @@
 -- The front as it is found, pair by pair.
 use Rattle.std.proofs.Common.{◌≡◌, ℕ, ◌<◌, ◌≤◌, ◌⊎◌, [], ◌∷◌, ◌++◌, refl, sym, ◌∙◌, ap, subst, inl, inr, arith}
-use Rattle.std.specs.Prelude.{List, AllPairs, Contains, Some, None, Option, MatchOption, ⊤}
+use Rattle.std.specs.Prelude.{AllPairs, Contains, Some, None, Option, MatchOption, ⊤}
 use Rattle.std.proofs.lemmas.List.Elements.{All-nil, All-cons, All-push, All-contains, Contains-append_left, Contains-push}
 use Rattle.std.proofs.lemmas.List.Quantifiers.{all_pairs_push}
 use Rattle.plan_core.specs.declared.criterion.Criterion.{Criterion}
@@ -16,7 +16,6 @@ use Rattle.trade_off.specs.declared.collecting.Next.TheVariants.{Stopped}
 use Rattle.trade_off.specs.declared.outcome.FrontEnd.{FrontEnd}
 use Rattle.trade_off.specs.declared.outcome.FrontEnd.TheVariants.{Whole, Empty}
 use Rattle.trade_off.specs.Front.{Pairs, IsAttained, IsOnFront, AreOnFront, IsWholeFront, IsFrontUpTo}
-use Rattle.search_least.specs.declared.oracle.Below.{Below}
 use Rattle.search_least.specs.Task.{Task}
 use Rattle.trade_off.specs.Least.{StopsUnder, AreAsked}
 use Rattle.trade_off.specs.Next.{IsUnder, IsNextPair, IsNext, IsSoFar, AsksNext, EndsNext, limit_behind}
@@ -160,12 +159,12 @@ front_ends p a b pairs limit stop ending lines behind is h =
     subst (λ (x : Option Stop). MatchOption x ⊤ (λ k. IsCause p.budget p.room k lines × AsksBehind p a b pairs lines)) (sym (stopped_behind stop ending is))
     (subst (λ (k : Option ℕ). StopsUnder p (AsksNext a b k p) b stop lines) (sym behind) h)
 
-pub stopped_front : {S : Type 0} (knows log : S → Lines → Type 0) (count : S → ℕ) (s e : S) (p : Task) (a b : Criterion) (first : List Below) (pairs : Pairs)
-    (limit : Option ℕ) (stop : Stop) (ending : FrontEnd) → limit_behind pairs ≡ limit → ending ≡ stopped_by stop →
-    Continues knows log count s e (AreAsked p b first (EndsNext p (AsksNext a b limit p) b (Stopped stop))) →
-    Continues knows log count s e (AreAsked p b first (EndsFront p a b pairs ending))
-stopped_front knows log count s e p a b first pairs limit stop ending behind is run =
-    asked_to knows log count s e p b first (EndsNext p (AsksNext a b limit p) b (Stopped stop)) (EndsFront p a b pairs ending)
+pub stopped_front : {S : Type 0} (knows log : S → Lines → Type 0) (count : S → ℕ) (s e : S) (p : Task) (a b : Criterion)
+    (BeginsSo : Lines → Type 0) (pairs : Pairs) (limit : Option ℕ) (stop : Stop) (ending : FrontEnd) → limit_behind pairs ≡ limit → ending ≡ stopped_by stop →
+    Continues knows log count s e (AreAsked p BeginsSo (EndsNext p (AsksNext a b limit p) b (Stopped stop))) →
+    Continues knows log count s e (AreAsked p BeginsSo (EndsFront p a b pairs ending))
+stopped_front knows log count s e p a b BeginsSo pairs limit stop ending behind is run =
+    asked_to knows log count s e p BeginsSo (EndsNext p (AsksNext a b limit p) b (Stopped stop)) (EndsFront p a b pairs ending)
     (λ lines h. front_ends p a b pairs limit stop ending lines behind is h) run
 
 pub right_whole : (L : Drawing → Type 0) (a b : Criterion) (limit : ℕ) (pairs : Pairs) → IsSoFar L a b limit pairs →

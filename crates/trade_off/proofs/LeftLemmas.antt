@@ -4,7 +4,7 @@ use Rattle.plan_core.specs.declared.criterion.Criterion.{Criterion}
 use Rattle.refute_log.specs.Told.{Lines}
 use Rattle.refute_log.specs.Log.{Derives, clause_lines}
 use Rattle.refute_log.specs.Steps.{ToldBehind, Continues, Leaves}
-use Rattle.refute_log.proofs.StepLemmas.{leaves_later, leaves_same, few_left}
+use Rattle.refute_log.proofs.StepLemmas.{leaves_later, leaves_most, leaves_same, few_left}
 use Rattle.refute_log.specs.Expected.{sum_lines, sum_vars_of, sums}
 use Rattle.search_least.specs.declared.oracle.Below.{Below}
 use Rattle.search_least.specs.declared.oracle.Reply.{Reply}
@@ -27,19 +27,17 @@ spent_still q p known same within = subst (λ (x : Task). IsSpentWithin x known)
 -- ---- questions tell no clauses
 
 -- an error behind questions: in a later call, or in one that tells nothing
-pub asked_later : {S : Type 0} (knows log : S → Lines → Type 0) (count : S → ℕ) (a b e : S) (q p : Task) (c : Criterion) (first : List Below)
-    (EndsSo : Lines → Type 0) →
-    Continues knows log count a b (AreAsked p c first EndsSo) → IsSpentWithin q (knows b) → q ≡ p → Leaves q.budget [] (knows b) (log b) (log e) →
+pub asked_later : {S : Type 0} (knows log : S → Lines → Type 0) (count : S → ℕ) (a b e : S) (q p : Task) (BeginsSo EndsSo : Lines → Type 0) →
+    Continues knows log count a b (AreAsked p BeginsSo EndsSo) → IsSpentWithin q (knows b) → q ≡ p → Leaves q.budget [] (knows b) (log b) (log e) →
     Leaves p.budget [] (knows a) (log a) (log e)
-asked_later knows log count a b e q p c first EndsSo run within same after =
-    leaves_later knows log count a b e (AreAsked p c first EndsSo) [] [] run (λ lines more h. h.none) within (ap (λ (x : Task). x.budget) same) after
+asked_later knows log count a b e q p BeginsSo EndsSo run within same after =
+    leaves_later knows log count a b e (AreAsked p BeginsSo EndsSo) [] [] run (λ lines more h. h.none) within (ap (λ (x : Task). x.budget) same) after
 
-pub asked_here : {S : Type 0} (knows log : S → Lines → Type 0) (count : S → ℕ) (a b : S) (q p : Task) (c : Criterion) (first : List Below)
-    (EndsSo : Lines → Type 0) →
-    Continues knows log count a b (AreAsked p c first EndsSo) → IsSpentWithin q (knows b) → q ≡ p → ((lines : Lines) → knows b lines → Derives lines) →
+pub asked_here : {S : Type 0} (knows log : S → Lines → Type 0) (count : S → ℕ) (a b : S) (q p : Task) (BeginsSo EndsSo : Lines → Type 0) →
+    Continues knows log count a b (AreAsked p BeginsSo EndsSo) → IsSpentWithin q (knows b) → q ≡ p → ((lines : Lines) → knows b lines → Derives lines) →
     ((x y : Lines) → log b x → log b y → x ≡ y) → Leaves p.budget [] (knows a) (log a) (log b)
-asked_here knows log count a b q p c first EndsSo run within same derives one =
-    asked_later knows log count a b b q p c first EndsSo run within same (leaves_same (knows b) (log b) derives one)
+asked_here knows log count a b q p BeginsSo EndsSo run within same derives one =
+    asked_later knows log count a b b q p BeginsSo EndsSo run within same (leaves_same (knows b) (log b) derives one)
 
 pub replied_later : {S : Type 0} (knows log : S → Lines → Type 0) (count : S → ℕ) (a b e : S) (q p : Task) (bounds : List Below) (reply : Reply) →
     Continues knows log count a b (λ lines more. IsReply p lines bounds reply more) → IsSpentWithin q (knows b) → q ≡ p →
@@ -54,14 +52,15 @@ pub both_left : {S : Type 0} (knows log : S → Lines → Type 0) (count : S →
     q ≡ p → first ≡ AllOfThem →
     many ≡ vars + sum_vars_of p.encoding vars a (greatest_of p a) →
     Continues knows log count s t (λ lines more. IsBuild p vars a (greatest_of p a) first lines more) →
-    IsSpentWithin q (knows t) → Leaves q.budget (sum_lines q.encoding many b (greatest_of q b)) (knows t) (log t) (log e) →
+    IsSpentWithin q (knows t) → Leaves 0 (sum_lines q.encoding many b (greatest_of q b)) (knows t) (log t) (log e) →
     Leaves p.budget (sums p.encoding vars (a ∷ b ∷ []) (greatest_of p)) (knows s) (log s) (log e)
 both_left knows log count s t e q p a b vars many first same was size f within h =
     let xs = sum_lines p.encoding vars a (greatest_of p a) in
     let ys = sum_lines p.encoding (vars + sum_vars_of p.encoding vars a (greatest_of p a)) b (greatest_of p b) in
     let second : Leaves p.budget ys (knows t) (log t) (log e) =
     subst (λ v. Leaves p.budget (sum_lines p.encoding v b (greatest_of p b)) (knows t) (log t) (log e)) size
-    (subst (λ (x : Task). Leaves x.budget (sum_lines x.encoding many b (greatest_of x b)) (knows t) (log t) (log e)) same h) in
+    (subst (λ (x : Task). Leaves x.budget (sum_lines x.encoding many b (greatest_of x b)) (knows t) (log t) (log e)) same
+    (leaves_most 0 q.budget (sum_lines q.encoding many b (greatest_of q b)) (knows t) (log t) (log e) (omega arith) h)) in
     subst (λ (zs : Lines). Leaves p.budget (xs ++ zs) (knows s) (log s) (log e)) (sym (append-nil ys))
     (leaves_later knows log count s t e (λ lines more. IsBuild p vars a (greatest_of p a) first lines more) xs ys f
     (λ lines more r. ap clause_lines (subst (λ (x : Built). IsBuild p vars a (greatest_of p a) x lines more) was r)
@@ -85,7 +84,7 @@ build_left knows log s e p a b vars start known spent h = λ told lines is.
             ∙ sym (append_assoc (first_lines p) left.front rest)
             ∙ ap (λ (ls : Lines). ls ++ rest) (ap (λ (ls : Lines). ls ++ left.front) (sym (formulas_are_clauses p.encoding.clauses)) ∙ sym left.gives),
       );
-      few = few_left p.budget p.budget (first_lines p) lines (omega arith) (spent (first_lines p) known) left.few;
+      within = few_left p.budget p.budget (first_lines p) lines (omega arith) (spent (first_lines p) known) left.few;
     }
 
 pub collect_left : {S : Type 0} (knows log : S → Lines → Type 0) (count : S → ℕ) (s t e : S) (p : Task) (a b : Criterion) (r : Built) → r ≡ AllOfThem →
@@ -108,5 +107,5 @@ collect_left knows log count s t e p a b r was known run spent h = λ told lines
             ∙ sym (append_assoc (front_lines p a b) left.front rest)
             ∙ ap (λ (ls : Lines). ls ++ rest) (ap (λ (ls : Lines). ls ++ left.front) (sym whole) ∙ sym left.gives),
       );
-      few = few_left p.budget p.budget now lines (omega arith) (spent now first.knows) left.few;
+      within = few_left p.budget p.budget now lines (omega arith) (spent now first.knows) left.few;
     }

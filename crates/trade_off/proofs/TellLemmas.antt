@@ -1,5 +1,5 @@
 -- The lines of a search for the front.
-use Rattle.std.proofs.Common.{◌≡◌, ◌≢◌, ℕ, ◌+◌, ◌<◌, ◌≤◌, Bool, true, false, cond, [], ◌∷◌, ◌++◌, length, refl, sym, ◌∙◌, ap, subst, inl, inr, arith}
+use Rattle.std.proofs.Common.{◌≡◌, ◌≢◌, ℕ, ◌+◌, ◌<◌, ◌≤◌, Bool, true, false, cond, List, [], ◌∷◌, ◌++◌, length, refl, sym, ◌∙◌, ap, subst, inl, inr, arith}
 use Rattle.std.proofs.Common.{append-nil, append_assoc}
 use Rattle.std.specs.Prelude.{flat_map}
 use Rattle.std.proofs.lemmas.Grind.{flat_map-append}
@@ -13,6 +13,7 @@ use Rattle.refute_log.specs.Bounds.{CoversDrawings}
 use Rattle.refute_log.specs.Expected.{sum_lines, sum_vars_of, with_cap, same_criterion}
 use Rattle.refute_log.specs.Full.{CapsPass}
 use Rattle.refute_log.proofs.ExpectedLemmas.{same_tells, with_cap_here, with_cap_other}
+use Rattle.search_least.specs.declared.oracle.Below.{Below}
 use Rattle.search_least.specs.declared.oracle.Built.{Built}
 use Rattle.search_least.specs.declared.oracle.Built.TheVariants.{Whole as AllOfThem, NoRoom}
 use Rattle.search_least.specs.Task.{Task, greatest_of}
@@ -25,8 +26,8 @@ use Rattle.trade_off.specs.declared.outcome.FrontEnd.{FrontEnd}
 use Rattle.trade_off.specs.declared.outcome.FrontEnd.TheVariants.{Whole, Empty, Conflicts, Room}
 use Rattle.search_least.specs.Placed.{EachBehind, IsUnderBounds, AreUnderBounds}
 use Rattle.search_least.proofs.PlacedLemmas.{TakesClauses, sums_anywhere, first_anywhere, clauses_under_bounds}
-use Rattle.trade_off.specs.Least.{IsNoLess, HasComeDown, AreAsked}
-use Rattle.trade_off.specs.Outcome.{front_lines, IsFrontCause, IsFrontLog, IsBuiltFront, EndsFront}
+use Rattle.trade_off.specs.Least.{IsNoLess, MayComeBehind, IsFoundBeside, HaveComeTo, AreAsked}
+use Rattle.trade_off.specs.Outcome.{front_lines, HasNoRoomToAsk, IsFrontCause, IsFrontLog, IsBuiltFront, EndsFront}
 use Rattle.trade_off.specs.Front.{Pairs}
 
 -- ---- the lines of both criteria
@@ -105,6 +106,9 @@ second_placed IsSo p a b takes = sums_anywhere IsSo (first_lines p ++ first_sum 
 no_queries : (c : Criterion) → TakesClauses (IsNoLess c [])
 no_queries c = record { formula = λ before k. tt; bound = λ before d n x. tt }
 
+no_models : (Such : List Below → Type 0) → TakesClauses (IsFoundBeside Such)
+no_models Such = record { formula = λ before k. tt; bound = λ before d n x. tt }
+
 -- ---- both are told, or a front of them
 
 begins_first : (p : Task) (a b : Criterion) (lines : Lines) → lines ≡ first_lines p → BeginsLines (clause_lines lines) (front_lines p a b)
@@ -137,8 +141,11 @@ no_room_for_first knows log count s e p a b vars r was start goes =
     let whole : lines ++ xs ≡ first_lines p = same ∙ is in (
       subst (AreUnderBounds p) (sym whole) (first_anywhere (IsUnderBounds p) p (clauses_under_bounds p)),
       begins_first p a b (lines ++ xs) whole,
-      first_passes p a b (lines ++ xs) whole
-          (subst (SumPasses p p.encoding.vars a (greatest_of p a)) (sym same) got.1),
+      (
+        first_passes p a b (lines ++ xs) whole (subst (SumPasses p p.encoding.vars a (greatest_of p a)) (sym same) got.1),
+        refl,
+        ap clause_lines whole ∙ clauses_of_first p ∙ sym whole,
+      ),
     ))
 
 second_built : (p : Task) (a b : Criterion) (r : Built) (lines xs ys : Lines) → lines ≡ first_lines p → xs ≡ first_sum p a →
@@ -150,8 +157,10 @@ second_built p a b AllOfThem lines xs ys is one two =
       subst (AreUnderBounds p) (append_assoc (first_lines p) (first_sum p a) (second_sum p a b) ∙ sym whole)
           (second_placed (IsUnderBounds p) p a b (clauses_under_bounds p)),
       ap clause_lines whole ∙ told_both p a b,
-      subst (HasComeDown b []) (append_assoc (first_lines p) (first_sum p a) (second_sum p a b) ∙ sym whole)
-          (second_placed (IsNoLess b []) p a b (no_queries b)),
+      subst (HaveComeTo b b []) (append_assoc (first_lines p) (first_sum p a) (second_sum p a b) ∙ sym whole) (record {
+        down = second_placed (IsNoLess b []) p a b (no_queries b);
+        fresh = second_placed (IsFoundBeside (MayComeBehind b b [])) p a b (no_models (MayComeBehind b b []));
+      }),
     )
 second_built p a b NoRoom lines xs ys is one two =
     let same : lines ++ (xs ++ ys) ≡ lines ++ xs = ap (λ (ls : Lines). lines ++ (xs ++ ls)) two.0 ∙ ap (λ (ls : Lines). lines ++ ls) (append-nil xs) in
@@ -159,8 +168,11 @@ second_built p a b NoRoom lines xs ys is one two =
     ∙ ap (λ (ls : Lines). first_lines p ++ ls) one in (
       subst (AreUnderBounds p) (sym whole) (first_placed (IsUnderBounds p) p a (clauses_under_bounds p)),
       begins_second p a b (lines ++ (xs ++ ys)) whole,
-      second_passes p a b (lines ++ (xs ++ ys)) whole
-          (subst (SumPasses p (second_vars p a) b (greatest_of p b)) (sym same) two.1),
+      (
+        second_passes p a b (lines ++ (xs ++ ys)) whole (subst (SumPasses p (second_vars p a) b (greatest_of p b)) (sym same) two.1),
+        refl,
+        ap clause_lines whole ∙ told_first p a ∙ sym whole,
+      ),
     )
 
 pub both_built : {S : Type 0} (knows log : S → Lines → Type 0) (count : S → ℕ) (s t e : S) (q p : Task) (a b : Criterion) (vars many : ℕ) (first r : Built) →
@@ -211,10 +223,10 @@ front_log knows s p a b pairs ending lines laws k begins placed cause = record {
 }
 
 pub tells_no_room : {S : Type 0} (knows log : S → Lines → Type 0) (count : S → ℕ) (s e : S) (p : Task) (a b : Criterion) (pairs : Pairs) (r : Built) →
-    r ≡ NoRoom → FrontLaws knows e p → knows s (first_lines p) →
+    r ≡ NoRoom → pairs ≡ [] → FrontLaws knows e p → knows s (first_lines p) →
     Continues knows log count s e (λ lines more. lines ≡ first_lines p → IsBuiltFront p a b r (lines ++ more)) →
     ToldBehind (knows e) (log s) (log e) (count s) (count e) (first_lines p) (λ more. IsFrontLog p a b pairs Room (first_lines p ++ more))
-tells_no_room knows log count s e p a b pairs r was laws start goes =
+tells_no_room knows log count s e p a b pairs r was none laws start goes =
     let t : ToldBehind (knows e) (log s) (log e) (count s) (count e) (first_lines p)
     (λ more. first_lines p ≡ first_lines p → IsBuiltFront p a b r (first_lines p ++ more)) = goes (first_lines p) start in
     let got : IsBuiltFront p a b NoRoom (first_lines p ++ t.more) = subst (λ (x : Built). IsBuiltFront p a b x (first_lines p ++ t.more)) was (t.does refl) in
@@ -224,7 +236,7 @@ tells_no_room knows log count s e p a b pairs r was laws start goes =
       told = t.told;
       counted = t.counted;
       does = front_log knows e p a b pairs Room (first_lines p ++ t.more) laws t.knows
-          got.1 got.0 (inl got.2);
+          got.1 got.0 (inl (subst (λ (ps : Pairs). HasNoRoomToAsk p a b ps (first_lines p ++ t.more)) (sym none) got.2));
     }
 
 told_still : (lines xs ys : Lines) → clause_lines ys ≡ [] → clause_lines (lines ++ (xs ++ ys)) ≡ clause_lines (lines ++ xs)
@@ -241,14 +253,15 @@ cause_of p a b pairs Room lines told h = inr (told, h.0, h.1)
 pub tells_front : {S : Type 0} (knows log : S → Lines → Type 0) (count : S → ℕ) (s t e : S) (q p : Task) (a b : Criterion) (pairs : Pairs) (r : Built)
     (ending : FrontEnd) → q ≡ p → r ≡ AllOfThem → FrontLaws knows e p → knows s (first_lines p) →
     Continues knows log count s t (λ lines more. lines ≡ first_lines p → IsBuiltFront p a b r (lines ++ more)) →
-    Continues knows log count t e (AreAsked q b [] (EndsFront q a b pairs ending)) →
+    Continues knows log count t e (AreAsked q (HaveComeTo b b []) (EndsFront q a b pairs ending)) →
     ToldBehind (knows e) (log s) (log e) (count s) (count e) (first_lines p) (λ more. IsFrontLog p a b pairs ending (first_lines p ++ more))
 tells_front knows log count s t e q p a b pairs r ending same was laws start f g =
     let from = first_lines p in
-    let h : Continues knows log count t e (AreAsked p b [] (EndsFront p a b pairs ending)) = subst
-    (λ (x : Task). Continues knows log count t e (AreAsked x b [] (EndsFront x a b pairs ending))) same g in
+    let h : Continues knows log count t e (AreAsked p (HaveComeTo b b []) (EndsFront p a b pairs ending)) = subst
+    (λ (x : Task). Continues knows log count t e (AreAsked x (HaveComeTo b b []) (EndsFront x a b pairs ending))) same g in
     let both : Continues knows log count s e (λ lines more. lines ≡ from → IsFrontLog p a b pairs ending (lines ++ more)) =
-    goes_on knows log count s t e (λ lines more. lines ≡ from → IsBuiltFront p a b r (lines ++ more)) (AreAsked p b [] (EndsFront p a b pairs ending))
+    goes_on knows log count s t e (λ lines more. lines ≡ from → IsBuiltFront p a b r (lines ++ more))
+    (AreAsked p (HaveComeTo b b []) (EndsFront p a b pairs ending))
     (λ lines more. lines ≡ from → IsFrontLog p a b pairs ending (lines ++ more)) f h
     (λ lines xs ys ks kt ke one two is.
     let built : IsBuiltFront p a b AllOfThem (lines ++ xs) = subst (λ (x : Built). IsBuiltFront p a b x (lines ++ xs)) was (one is) in

@@ -1,10 +1,10 @@
 -- The least value of one criterion among the drawings that meet some bounds.
-use Rattle.std.specs.Prelude.{◌≡◌, ◌≢◌, ◌≤◌, ⊤, List, [], ◌∷◌, ◌++◌, All, Contains, Option, None, Some}
+use Rattle.std.specs.Prelude.{◌≡◌, ◌≢◌, ◌≤◌, ◌<◌, ◌⊎◌, ⊤, List, [], ◌∷◌, ◌++◌, All, Contains, Option, None, Some}
 use Rattle.plan_core.specs.declared.criterion.Criterion.{Criterion}
 use Rattle.plan_core.specs.Drawing.{Drawing}
 use Rattle.plan_core.specs.Values.{values_of, value_of}
 use Rattle.refute_log.specs.declared.line.LogLine.{LogLine}
-use Rattle.refute_log.specs.declared.line.LogLine.TheVariants.{Query}
+use Rattle.refute_log.specs.declared.line.LogLine.TheVariants.{Query, Model}
 use Rattle.refute_log.specs.Told.{Lines}
 use Rattle.cnf_core.specs.Lit.{Literal}
 use Rattle.refute_log.specs.Log.{facts_of, clause_lines}
@@ -57,7 +57,38 @@ IsNoLess c others before line = ⊤
 abbrev pub HasComeDown : Criterion → List Below → Lines → Type 0
 HasComeDown c bounds lines = EachBehind (IsNoLess c bounds) lines
 
--- the latest query asks under such bounds, and none before it for less of this criterion
+-- the others have a bound of this criterion that is below each one of it
+abbrev pub AsksLess : Criterion → (bounds others : List Below) → Type 0
+AsksLess c bounds others = (y : Below) × Contains others y × (y.criterion ≡ c)
+    × All (λ x. x.criterion ≡ c → y.limit < x.limit) bounds
+
+-- the others may be asked for behind these bounds: they ask for less of c, or for no more of c and for no more of d
+abbrev pub MayComeBehind : (c d : Criterion) → (bounds others : List Below) → Type 0
+MayComeBehind c d bounds others = AsksLess c bounds others ⊎ (AskNoLess c bounds others × AskNoLess d bounds others)
+
+-- a Model line answers a query under bounds that aren't such
+abbrev pub IsFoundBeside : (List Below → Type 0) → Lines → LogLine → Type 0
+IsFoundBeside Such before Model = (query : List Literal) × ((facts_of before).query ≡ Some query)
+    × (bounds : List Below) × AreNegated before bounds query × (Such bounds → ⊥)
+IsFoundBeside Such before line = ⊤
+
+-- no query under such bounds has a Model line
+abbrev pub NoneIsFound : (List Below → Type 0) → Lines → Type 0
+NoneIsFound Such lines = EachBehind (IsFoundBeside Such) lines
+
+-- the questions have come to these bounds: the limits of c have come down to them, and no query that may come behind
+-- them has a Model line
+pub record HaveComeTo (c d : Criterion) (bounds : List Below) (lines : Lines) : Type 0 where
+  pub down : HasComeDown c bounds lines
+  pub fresh : NoneIsFound (MayComeBehind c d bounds) lines
+
+-- a Model line doesn't answer this query
+abbrev pub AnswersOther : List Literal → Lines → LogLine → Type 0
+AnswersOther query before Model = (facts_of before).query ≡ Some query → ⊥
+AnswersOther query before line = ⊤
+
+-- the latest query asks under such bounds, none before it asks for less of this criterion, and no Model line answers
+-- the same query
 pub record AsksUnder (Such : List Below → Type 0) (c : Criterion) (lines : Lines) : Type 0 where
   pub bounds : List Below
   pub such : Such bounds
@@ -65,21 +96,20 @@ pub record AsksUnder (Such : List Below → Type 0) (c : Criterion) (lines : Lin
   pub negated : AreNegated lines bounds query
   pub latest : (facts_of lines).query ≡ Some query
   pub down : HasComeDown c bounds lines
+  pub fresh : EachBehind (AnswersOther query) lines
 
 -- the search stopped for this cause, in a question under such bounds
 abbrev pub StopsUnder : Task → (List Below → Type 0) → Criterion → Stop → Lines → Type 0
 StopsUnder p Such c stop lines = IsCause p.budget p.room stop lines × AsksUnder Such c lines
 
--- how the least value of c is asked for: the limits of m have come down to the bounds behind the last drawing, or the
--- search stopped in such a question
+-- how the least value of c is asked for: the questions have come to the bounds behind the last drawing, or the search
+-- stopped in such a question
 abbrev pub EndsLowered : Task → List Below → (c m : Criterion) → Drawing → Option Stop → Lines → Type 0
-EndsLowered p held c m d None lines = HasComeDown m (lowered held c d) lines
+EndsLowered p held c m d None lines = HaveComeTo m c (lowered held c d) lines
 EndsLowered p held c m d (Some stop) lines = StopsUnder p (LowersUnder held c p) m stop lines
 
--- questions under bounds, and their answers: they tell no clauses of the formula; and where the limits of this
--- criterion had come down to the first bounds, they end so
-pub record AreAsked (p : Task) (c : Criterion) (first : List Below) (EndsSo : Lines → Type 0) (lines more : Lines)
-    : Type 0 where
+-- questions under bounds, and their answers: they tell no clauses of the formula; and where it began so, they end so
+pub record AreAsked (p : Task) (BeginsSo EndsSo : Lines → Type 0) (lines more : Lines) : Type 0 where
   pub none : clause_lines more ≡ []
   pub placed : AreUnderBounds p lines → AreUnderBounds p (lines ++ more)
-  pub ends : HasComeDown c first lines → EndsSo (lines ++ more)
+  pub ends : BeginsSo lines → EndsSo (lines ++ more)

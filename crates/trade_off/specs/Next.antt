@@ -11,7 +11,7 @@ use Rattle.search_least.specs.State.{hold}
 use Rattle.trade_off.specs.declared.collecting.Next.{Next}
 use Rattle.trade_off.specs.declared.collecting.Next.TheVariants.{Pair, NoMore, Stopped}
 use Rattle.trade_off.specs.Front.{Pairs, IsAttained, AreOnFront}
-use Rattle.trade_off.specs.Least.{IsLeastUnder, LowersUnder, HasComeDown, StopsUnder}
+use Rattle.trade_off.specs.Least.{IsLeastUnder, LowersUnder, HaveComeTo, StopsUnder}
 
 -- the number is below the limit, where there is one
 abbrev pub IsUnder : Option ℕ → ℕ → Type 0
@@ -80,10 +80,10 @@ abbrev pub AsksNext : Criterion → Criterion → Option ℕ → Task → List B
 AsksNext a b limit p bounds = (bounds ≡ under b limit) ⊎ LowersUnder (under b limit) a p bounds
     ⊎ ((d : Drawing) × HasLeastFirst p a b limit d × AsksSecond a b d p bounds)
 
--- how it is asked for: with a pair the limits of b have come down to its second number; or the search stopped in such a
+-- how it is asked for: with a pair the questions have come to its second number; or the search stopped in such a
 -- question
 abbrev pub EndsNext : Task → (List Below → Type 0) → Criterion → Next → Lines → Type 0
-EndsNext p Such b (Pair n m) lines = HasComeDown b (under b (Some m)) lines
+EndsNext p Such b (Pair n m) lines = HaveComeTo b b (under b (Some m)) lines
 EndsNext p Such b NoMore lines = ⊤
 EndsNext p Such b (Stopped stop) lines = StopsUnder p Such b stop lines
 

@@ -20,7 +20,7 @@ use Rattle.search_least.specs.Placed.{AreUnderBounds}
 use Rattle.trade_off.specs.declared.outcome.FrontEnd.{FrontEnd}
 use Rattle.trade_off.specs.declared.outcome.FrontEnd.TheVariants.{Whole, Empty, Conflicts, Room}
 use Rattle.trade_off.specs.Front.{Pairs, IsWholeFront, IsFrontUpTo}
-use Rattle.trade_off.specs.Least.{HasComeDown, AsksUnder}
+use Rattle.trade_off.specs.Least.{HaveComeTo, AsksUnder}
 use Rattle.trade_off.specs.Next.{AsksNext, limit_behind}
 
 -- what these pairs with this end say of the drawings
@@ -34,19 +34,25 @@ IsRightFront IsOne a b pairs Room = IsFrontUpTo IsOne a b pairs
 abbrev pub front_lines : Task → Criterion → Criterion → Lines
 front_lines p a b = expected_lines p.encoding (a ∷ b ∷ []) (greatest_of p)
 
--- the latest query asks for the pair that comes next behind these, and none before it for less of b
+-- the latest query asks for the pair that comes next behind these; none before it asks for less of b, and no Model line
+-- answers the same query
 abbrev pub AsksBehind : Task → Criterion → Criterion → Pairs → Lines → Type 0
 AsksBehind p a b pairs lines = AsksUnder (AsksNext a b (limit_behind pairs) p) b lines
 
+-- before the first question: these lines have no room, there is no pair, and Formula and Bound lines alone were told
+abbrev pub HasNoRoomToAsk : Task → Criterion → Criterion → Pairs → Lines → Type 0
+HasNoRoomToAsk p a b pairs lines = CapsPass p.encoding (a ∷ b ∷ []) lines p.room (greatest_of p) × (pairs ≡ [])
+    × (clause_lines lines ≡ lines)
+
 -- why it ended so: with the whole or without a drawing all of these lines were told; else as many clauses were learnt
--- as the budget allows, and the last query is open; or these lines have no room beside what was learnt, or one more
--- clause has none behind them all. In a question it asks for the pair behind those that are printed, and none before it
--- asks for less of b
+-- as the budget allows, and the latest query is open; or these lines have no room, before the first question; or one
+-- more clause has none behind them all. In a question the latest query asks for the pair behind those that are printed,
+-- none before it asks for less of b, and no Model line answers the same query
 abbrev pub IsFrontCause : Task → Criterion → Criterion → Pairs → FrontEnd → Lines → Type 0
 IsFrontCause p a b pairs Whole lines = clause_lines lines ≡ front_lines p a b
 IsFrontCause p a b pairs Empty lines = clause_lines lines ≡ front_lines p a b
 IsFrontCause p a b pairs Conflicts lines = IsCause p.budget p.room BudgetSpent lines × AsksBehind p a b pairs lines
-IsFrontCause p a b pairs Room lines = CapsPass p.encoding (a ∷ b ∷ []) lines p.room (greatest_of p)
+IsFrontCause p a b pairs Room lines = HasNoRoomToAsk p a b pairs lines
     ⊎ ((clause_lines lines ≡ front_lines p a b) × IsCause p.budget p.room RoomFull lines × AsksBehind p a b pairs lines)
 
 -- the lines of a search for the front with these pairs and this end
@@ -70,7 +76,7 @@ IsFrontAfter p a b pairs ending more = IsFrontLog p a b pairs ending (first_line
 pub record IsFrontLeft (p : Task) (a b : Criterion) (lines : Lines) : Type 0 where
   pub derives : Derives lines
   pub begins : BeginsLines (clause_lines lines) (front_lines p a b)
-  pub few : learnt_count lines ≤ p.budget
+  pub within : learnt_count lines ≤ p.budget
 
 -- the end of a search that stopped
 abbrev pub stopped_by : Stop → FrontEnd
@@ -89,11 +95,9 @@ abbrev pub EndsFront : Task → Criterion → Criterion → Pairs → FrontEnd �
 EndsFront p a b pairs ending lines = MatchOption (stop_behind ending) ⊤ (λ stop.
     IsCause p.budget p.room stop lines × AsksBehind p a b pairs lines)
 
--- all of the lines were told, or the first of them, and all have no room; there is no question yet but under bounds,
--- and none has a bound of b
+-- all of the lines were told, and no question yet; or the first of them alone, and all have no room
 abbrev pub IsBuiltFront : Task → Criterion → Criterion → Built → Lines → Type 0
 IsBuiltFront p a b AllOfThem lines =
-    AreUnderBounds p lines × (clause_lines lines ≡ front_lines p a b) × HasComeDown b [] lines
+    AreUnderBounds p lines × (clause_lines lines ≡ front_lines p a b) × HaveComeTo b b [] lines
 IsBuiltFront p a b NoRoom lines =
-    AreUnderBounds p lines × BeginsLines (clause_lines lines) (front_lines p a b)
-    × CapsPass p.encoding (a ∷ b ∷ []) lines p.room (greatest_of p)
+    AreUnderBounds p lines × BeginsLines (clause_lines lines) (front_lines p a b) × HasNoRoomToAsk p a b [] lines

@@ -26,7 +26,7 @@ fn build_whole<O: Oracle>(oracle: &mut O, c: Criterion) -> Result<Built, MinFaul
     ensures lines { IfOk result (λ r. Continues O.knows O.log O.learnt oracle.old oracle.new (λ lines more.
         IsBuild (O.task oracle.old) (O.vars oracle.old) c (greatest_of (O.task oracle.old) c) r lines more)) }
     ensures leaves { let p = O.task oracle.old in
-        OnErr result (Leaves p.budget (sum_lines p.encoding (O.vars oracle.old) c (greatest_of p c))
+        OnErr result (Leaves 0 (sum_lines p.encoding (O.vars oracle.old) c (greatest_of p c))
         (O.knows oracle.old) (O.log oracle.old) (O.log oracle.new)) }
     ensures task { O.task oracle.new ≡ O.task oracle.old }
     ensures later { O.is_later oracle.old oracle.new }

@@ -7,7 +7,7 @@ ghost use Rattle.search_least.specs.Asked.{AreMet};
 ghost use Rattle.search_least.specs.Task.{IsLawful, greatest_of};
 ghost use Rattle.search_least.specs.State.{hold as hold_of};
 ghost use Rattle.refute_log.specs.Steps.{Continues, KnowsSome, Leaves};
-ghost use Rattle.trade_off.specs.Least.{IsLeastUnder, AreAsked};
+ghost use Rattle.trade_off.specs.Least.{IsLeastUnder, lowered, HaveComeTo, AreAsked};
 ghost use Rattle.trade_off.specs.Next.{IsUnder, under, IsNext, IsNextPair, IsSecondOf, IsSoFar};
 ghost use Rattle.trade_off.specs.Next.{AsksSecond, AsksNext, EndsNext};
 ghost use Rattle.trade_off.specs.Outcome.{IsRightFront, EndsFront};
@@ -86,7 +86,8 @@ fn second_from<O: Oracle>(
     ensures next { IfOk result (IsSecondOf (O.task oracle.old) a b least) }
     ensures lines { let p = O.task oracle.old in
         IfOk result (λ r. Continues O.knows O.log O.learnt oracle.old oracle.new
-        (AreAsked p b (under b (Some (value_of (values_of least) b))) (EndsNext p (AsksSecond a b least p) b r))) }
+        (AreAsked p (HaveComeTo b b (under b (Some (value_of (values_of least) b))))
+        (EndsNext p (AsksSecond a b least p) b r))) }
     ensures leaves { OnErr result (Leaves (O.task oracle.old).budget [] (O.knows oracle.old) (O.log oracle.old)
         (O.log oracle.new)) }
     ensures later { O.is_later oracle.old oracle.new }
@@ -128,7 +129,7 @@ fn pair_from<O: Oracle>(
     ensures next { IfOk result (IsNext (IsLawful (O.task oracle.old)) a b limit) }
     ensures lines { let p = O.task oracle.old in
         IfOk result (λ r. Continues O.knows O.log O.learnt oracle.old oracle.new
-        (AreAsked p b (under b limit) (EndsNext p (AsksNext a b limit p) b r))) }
+        (AreAsked p (HaveComeTo b a (lowered (under b limit) a first)) (EndsNext p (AsksNext a b limit p) b r))) }
     ensures leaves { OnErr result (Leaves (O.task oracle.old).budget [] (O.knows oracle.old) (O.log oracle.old)
         (O.log oracle.new)) }
     ensures later { O.is_later oracle.old oracle.new }
@@ -165,7 +166,7 @@ fn next_pair<O: Oracle>(
     ensures next { IfOk result (IsNext (IsLawful (O.task oracle.old)) a b limit) }
     ensures lines { let p = O.task oracle.old in
         IfOk result (λ r. Continues O.knows O.log O.learnt oracle.old oracle.new
-        (AreAsked p b (under b limit) (EndsNext p (AsksNext a b limit p) b r))) }
+        (AreAsked p (HaveComeTo b b (under b limit)) (EndsNext p (AsksNext a b limit p) b r))) }
     ensures leaves { OnErr result (Leaves (O.task oracle.old).budget [] (O.knows oracle.old) (O.log oracle.old)
         (O.log oracle.new)) }
     ensures later { O.is_later oracle.old oracle.new }
@@ -200,7 +201,7 @@ fn further_pairs<O: Oracle>(
     ensures right { IfOk result (λ r. IsRightFront (IsLawful (O.task oracle.old)) a b r.pairs r.ending) }
     ensures lines { let p = O.task oracle.old in
         IfOk result (λ r. Continues O.knows O.log O.learnt oracle.old oracle.new
-        (AreAsked p b (under b (Some second)) (EndsFront p a b r.pairs r.ending))) }
+        (AreAsked p (HaveComeTo b b (under b (Some second))) (EndsFront p a b r.pairs r.ending))) }
     ensures leaves { OnErr result (Leaves (O.task oracle.old).budget [] (O.knows oracle.old) (O.log oracle.old)
         (O.log oracle.new)) }
     ensures later { O.is_later oracle.old oracle.new }
@@ -253,7 +254,7 @@ pub(crate) fn collect<O: Oracle>(
     ensures right { IfOk result (λ r. IsRightFront (IsLawful (O.task oracle.old)) a b r.pairs r.ending) }
     ensures lines { let p = O.task oracle.old in
         IfOk result (λ r. Continues O.knows O.log O.learnt oracle.old oracle.new
-        (AreAsked p b [] (EndsFront p a b r.pairs r.ending))) }
+        (AreAsked p (HaveComeTo b b []) (EndsFront p a b r.pairs r.ending))) }
     ensures leaves { OnErr result (Leaves (O.task oracle.old).budget [] (O.knows oracle.old) (O.log oracle.old)
         (O.log oracle.new)) }
     ensures later { O.is_later oracle.old oracle.new }

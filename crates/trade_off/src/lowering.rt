@@ -6,7 +6,7 @@ ghost use Rattle.plan_core.specs.Values.{values_of, value_of};
 ghost use Rattle.search_least.specs.Asked.{below_limit, AreMet, IsWithinCap};
 ghost use Rattle.search_least.specs.Task.{IsLawful, greatest_of};
 ghost use Rattle.refute_log.specs.Steps.{Continues, KnowsSome, Leaves};
-ghost use Rattle.trade_off.specs.Least.{IsLeastUnder, AreBeside, lowered, EndsLowered, AreAsked};
+ghost use Rattle.trade_off.specs.Least.{IsLeastUnder, AreBeside, lowered, HaveComeTo, EndsLowered, AreAsked};
 
 use plan_core::{Criterion, OutOfMemory};
 use plan_geometry::{Drawing, values};
@@ -63,7 +63,7 @@ pub(crate) fn lower<O: Oracle>(
     ensures least { IfOk result (λ r. r.stop ≡ None → IsLeastUnder (O.task oracle.old) held.now c r.least) }
     ensures lines { let p = O.task oracle.old in
         IfOk result (λ r. (m : Measure) → Continues O.knows O.log O.learnt oracle.old oracle.new
-        (AreAsked p m (lowered held.now c first) (EndsLowered p held.now c m r.least r.stop))) }
+        (AreAsked p (HaveComeTo m c (lowered held.now c first)) (EndsLowered p held.now c m r.least r.stop))) }
     ensures leaves { OnErr result (Leaves (O.task oracle.old).budget [] (O.knows oracle.old) (O.log oracle.old)
         (O.log oracle.new)) }
     ensures later { O.is_later oracle.old oracle.new }

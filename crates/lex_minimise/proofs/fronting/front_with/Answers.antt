@@ -29,7 +29,7 @@ returns-in-Err-Room-clause-lines g c =
     let room = c.args.limits.now.room in
     nothing_told c.args.solver.now room (k.learnt c.args.log.now) (IsFrontLog (task_of y budget room) c.args.a c.args.b c.new.result Room)
     (k.tells c.args.log.now) c.requires.new (no_room_front y budget room c.args.a c.args.b c.new.result
-    (c.in-Err-Room.ensures.full (ap Err c.in-Err-Room.field-0-is)))
+    (c.in-Err-Room.ensures.full (ap Err c.in-Err-Room.field-0-is)) c.new.ensures)
 
 pub front_from-requires-clause-ready : goal.front_from-requires-clause-ready
 front_from-requires-clause-ready g c =

@@ -1,7 +1,8 @@
 use Rattle.std.proofs.Common.{◌≡◌, ◌+◌, refl, sym, ◌∙◌, subst, inl, arith, ℕ}
 use Rattle.plan_core.specs.declared.criterion.Criterion.{Criterion}
 use Rattle.plan_core.specs.Values.{values_of}
-use Rattle.refute_log.specs.Expected.{caps, sum_vars_of, with_cap}
+use Rattle.refute_log.specs.Expected.{caps, sum_lines, sum_vars_of, with_cap}
+use Rattle.refute_log.proofs.StepLemmas.{leaves_most}
 use Rattle.search_least.specs.declared.oracle.Built.{Built}
 use Rattle.search_least.specs.declared.oracle.Built.TheVariants.{Whole, NoRoom}
 use Rattle.search_least.specs.Task.{Task, greatest_of}
@@ -20,13 +21,13 @@ build-requires-clause-positive g c = let o = g.O.Oracle in
     let e = k.is in let l = k.positive in omega arith
 
 pub returns-in-NoRoom-clause-lines : goal.returns-in-NoRoom-clause-lines
-returns-in-NoRoom-clause-lines g c = let o = g.O.Oracle in
+returns-in-NoRoom-clause-lines g c = let o = g.O.Oracle in let t = g.O.LogTeller in
     let p = o.task c.args.oracle.now in
-    bounded_no_room o.knows o.log o.learnt c.args.oracle.now c.build.new.self p c.args.order.now c.args.i c.args.place c.args.held.now c.get-c.result c.args.cap
+    bounded_no_room t.knows t.log t.learnt c.args.oracle.now c.build.new.self p c.args.order.now c.args.i c.args.place c.args.held.now c.get-c.result c.args.cap
     c.args.best (o.caps c.args.oracle.now) (o.caps c.build.new.self) (o.vars c.args.oracle.now)
     c.requires.order c.get-c.ensures c.requires.counted (c.requires.cap c.get-c.result c.get-c.ensures) c.requires.first
     (λ lines m k. g.met.O.Oracle.counted c.args.oracle.now lines m k)
-    (subst (λ (b : Built). Continues o.knows o.log o.learnt c.args.oracle.now c.build.new.self
+    (subst (λ (b : Built). Continues t.knows t.log t.learnt c.args.oracle.now c.build.new.self
     (λ lines more. IsBuild p (o.vars c.args.oracle.now) c.get-c.result c.args.cap b lines more)) c.in-NoRoom.is c.in_ok-build.ensures.lines)
 
 pub returns-in_ok-lowered-in-Whole-clause-counted : goal.returns-in_ok-lowered-in-Whole-clause-counted
@@ -43,7 +44,7 @@ returns-in_ok-lowered-in-Whole-clause-counted g c = λ none. let o = g.O.Oracle 
     (counted_built p c.args.order.now c.args.i c.get-c.result c.args.cap f vars c.requires.order c.get-c.ensures c.requires.counted))
 
 pub returns-in_ok-lowered-in-Whole-clause-lines : goal.returns-in_ok-lowered-in-Whole-clause-lines
-returns-in_ok-lowered-in-Whole-clause-lines g c = let o = g.O.Oracle in
+returns-in_ok-lowered-in-Whole-clause-lines g c = let o = g.O.Oracle in let t = g.O.LogTeller in
     let a = c.args.oracle.now in
     let p = o.task a in
     let f = o.caps a in
@@ -52,12 +53,12 @@ returns-in_ok-lowered-in-Whole-clause-lines g c = let o = g.O.Oracle in
     (λ (b : Built). AreBuiltTo p f vars c.get-c.result c.args.cap b (o.caps c.build.new.self) (o.vars c.build.new.self)) c.in-Whole.is
     c.in_ok-build.ensures.built in
     let same : o.task c.lower.new.oracle ≡ p = c.in_ok-lowered-in-Whole.ensures.task ∙ c.in_ok-build.ensures.task in
-    bounded_whole o.knows o.log o.learnt a c.build.new.self c.lower.new.oracle (o.task c.build.new.self) p c.args.order.now c.args.i c.args.place
+    bounded_whole t.knows t.log t.learnt a c.build.new.self c.lower.new.oracle (o.task c.build.new.self) p c.args.order.now c.args.i c.args.place
     c.args.held.now c.get-c.result c.args.cap c.args.best c.in_ok-lowered-in-Whole.lowered.best c.in_ok-lowered-in-Whole.lowered.stop
     f (o.caps c.lower.new.oracle) vars c.requires.order c.get-c.ensures c.requires.counted (c.requires.cap c.get-c.result c.get-c.ensures) c.requires.first
     (c.in_ok-lowered-in-Whole.ensures.less c.get-c.result c.get-c.ensures) c.in_ok-build.ensures.task (c.in_ok-lowered-in-Whole.ensures.caps ∙ state.0)
     (λ lines m k. subst (λ (x : Task). caps (greatest_of x) lines m ≡ o.caps c.lower.new.oracle m) same (g.met.O.Oracle.counted c.lower.new.oracle lines m k))
-    (subst (λ (b : Built). Continues o.knows o.log o.learnt a c.build.new.self (λ lines more. IsBuild p vars c.get-c.result c.args.cap b lines more))
+    (subst (λ (b : Built). Continues t.knows t.log t.learnt a c.build.new.self (λ lines more. IsBuild p vars c.get-c.result c.args.cap b lines more))
     c.in-Whole.is c.in_ok-build.ensures.lines)
     c.in_ok-lowered-in-Whole.ensures.lines
 
@@ -97,16 +98,18 @@ returns-in_ok-lowered-in-Whole-clause-vars g c = let o = g.O.Oracle in
     (c.in_ok-lowered-in-Whole.ensures.caps ∙ state.0) (c.in_ok-lowered-in-Whole.ensures.vars ∙ state.1) built.vars_are
 
 pub returns-in_err-build-clause-left : goal.returns-in_err-build-clause-left
-returns-in_err-build-clause-left g c = let o = g.O.Oracle in
+returns-in_err-build-clause-left g c = let o = g.O.Oracle in let t = g.O.LogTeller in
     let a = c.args.oracle.now in
-    on_err_anyway _ _ (built_left (o.task a) c.args.order.now c.args.i c.get-c.result c.args.cap c.args.held.now c.args.best (o.caps a) (o.vars a) (o.knows a)
-    (o.log a) (o.log c.build.new.self) c.requires.order c.get-c.ensures (c.requires.cap c.get-c.result c.get-c.ensures) (g.met.O.Oracle.counted a)
-    (g.met.O.Oracle.within a) c.requires.counted c.in_err-build.ensures.leaves)
+    on_err_anyway _ _ (built_left (o.task a) c.args.order.now c.args.i c.get-c.result c.args.cap c.args.held.now c.args.best (o.caps a) (o.vars a) (t.knows a)
+    (t.log a) (t.log c.build.new.self) c.requires.order c.get-c.ensures (c.requires.cap c.get-c.result c.get-c.ensures) (g.met.O.Oracle.counted a)
+    (g.met.O.Oracle.within a) c.requires.counted
+    (let p = o.task a in leaves_most 0 p.budget (sum_lines p.encoding (o.vars a) c.get-c.result c.args.cap) (t.knows a) (t.log a) (t.log c.build.new.self)
+    (omega arith) c.in_err-build.ensures.leaves))
 
 pub returns-in_err-lowered-in-Whole-clause-left : goal.returns-in_err-lowered-in-Whole-clause-left
-returns-in_err-lowered-in-Whole-clause-left g c = let o = g.O.Oracle in
+returns-in_err-lowered-in-Whole-clause-left g c = let o = g.O.Oracle in let t = g.O.LogTeller in
     let a = c.args.oracle.now in
-    on_err_anyway _ _ (asked_left o.knows o.log o.learnt a c.build.new.self c.lower.new.oracle (o.task c.build.new.self) (o.task a) c.args.order.now
+    on_err_anyway _ _ (asked_left t.knows t.log t.learnt a c.build.new.self c.lower.new.oracle (o.task c.build.new.self) (o.task a) c.args.order.now
     c.args.i c.get-c.result c.args.cap
     c.args.held.now c.args.best (o.caps a) (o.vars a) c.in_ok-build.field-0
     c.requires.order c.get-c.ensures (c.requires.cap c.get-c.result c.get-c.ensures) (g.met.O.Oracle.counted a) (g.met.O.Oracle.within a) c.requires.counted

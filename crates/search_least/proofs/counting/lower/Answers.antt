@@ -10,18 +10,18 @@ use Rattle.search_least.proofs.FewestLemmas.{found_fact, fewest_from, fewest_zer
 use Rattle.search_least.proofs.counting.lower.Goals as goal
 
 pub loop-count-init : goal.loop-count-init
-loop-count-init g c = let q = g.Q.CountOracle in
+loop-count-init g c = let q = g.Q.CountOracle in let t = g.Q.LogTeller in
     let a = c.args.questions.now in
     record {
       count = c.count-count.ensures;
-      within = (let is = c.count-count.ensures in let le = g.met.Q.CountOracle.within a c.args.first c.requires.one in omega (arith, is, le));
+      within = (let is = c.count-count.ensures in let le = g.met.Q.CountOracle.limited a c.args.first c.requires.one in omega (arith, is, le));
       task = refl;
       ready = c.requires.ready;
       known = c.requires.known;
       one = c.requires.one;
       later = g.met.Q.CountOracle.later_same a;
       faults = omega arith;
-      lines = run_none q.knows q.log q.learnt a (q.task a) ((q.task a).count c.args.first) c.count-count.result c.count-count.ensures;
+      lines = run_none t.knows t.log t.learnt a (q.task a) ((q.task a).count c.args.first) c.count-count.result c.count-count.ensures;
     }
 
 pub ask-requires-clause-limit : goal.ask-requires-clause-limit
@@ -43,7 +43,7 @@ loop-count-smaller g c = let q = g.Q.CountOracle in
     omega (arith, is, lt)
 
 pub loop-count-preserved : goal.loop-count-preserved
-loop-count-preserved g c = let q = g.Q.CountOracle in
+loop-count-preserved g c = let q = g.Q.CountOracle in let t = g.Q.LogTeller in
     let a = c.args.questions.now in
     let b = c.loop-count.questions in
     let e = c.ask.new.self in
@@ -54,15 +54,15 @@ loop-count-preserved g c = let q = g.Q.CountOracle in
     ∙ ap (λ (x : CountTask). x.count c.in-Found.d) same in
     record {
       count = is;
-      within = (let le = g.met.Q.CountOracle.within a c.in-Found.d one in omega (arith, is, le));
+      within = (let le = g.met.Q.CountOracle.limited a c.in-Found.d one in omega (arith, is, le));
       task = same;
       ready = c.in_ok-d.ensures.ready;
-      known = known_after q.knows q.log q.learnt b e (λ lines more. IsAnswer (q.task b) lines (Some c.loop-count.count) c.in_ok-d.field-0 more)
+      known = known_after t.knows t.log t.learnt b e (λ lines more. IsAnswer (q.task b) lines (Some c.loop-count.count) c.in_ok-d.field-0 more)
           c.loop-count.invariant.known c.in_ok-d.ensures.lines;
       one = one;
       later = g.met.Q.CountOracle.later_more a b e c.loop-count.invariant.later c.in_ok-d.ensures.later;
       faults = (let m = c.loop-count.invariant.faults in let n = c.in_ok-d.ensures.faults in omega arith);
-      lines = run_found q.knows q.log q.learnt a b e (q.task b) (q.task a) ((q.task a).count c.args.first) c.loop-count.count c.count-count-in-Found.result
+      lines = run_found t.knows t.log t.learnt a b e (q.task b) (q.task a) ((q.task a).count c.args.first) c.loop-count.count c.count-count-in-Found.result
           c.in_ok-d.field-0 c.in-Found.d
           (record {
             same = c.loop-count.invariant.task;
@@ -72,25 +72,25 @@ loop-count-preserved g c = let q = g.Q.CountOracle in
     }
 
 pub returns-in-Refuted-clause-right : goal.returns-in-Refuted-clause-right
-returns-in-Refuted-clause-right g c = let q = g.Q.CountOracle in
+returns-in-Refuted-clause-right g c = let q = g.Q.CountOracle in let t = g.Q.LogTeller in
     let a = c.args.questions.now in
     let b = c.loop-count.questions in
     let e = c.ask.new.self in
     fewest_from (q.task a) c.loop-count.count c.loop-count.best c.loop-count.invariant.count c.loop-count.invariant.one
-    (refuted_none q.knows q.log q.learnt b e (q.task b) (q.task a) (Some c.loop-count.count) c.in_ok-d.field-0 c.loop-count.invariant.task c.in-Refuted.is
+    (refuted_none t.knows t.log t.learnt b e (q.task b) (q.task a) (Some c.loop-count.count) c.in_ok-d.field-0 c.loop-count.invariant.task c.in-Refuted.is
     c.loop-count.invariant.known
-    (laws_back q.knows e (q.task e) (q.task b) c.in_ok-d.ensures.task (record {
+    (laws_back t.knows e (q.task e) (q.task b) c.in_ok-d.ensures.task (record {
       covers = g.met.Q.CountOracle.covers e;
-      derives = g.met.Q.CountOracle.derives e;
+      derives = g.Q.LogTeller.derives e;
     }))
     (omega arith, subst (λ (p : CountTask). c.loop-count.count ≤ p.most) (sym c.loop-count.invariant.task) c.loop-count.invariant.within)
     c.in_ok-d.ensures.lines)
 
 pub returns-in-Refuted-clause-lines : goal.returns-in-Refuted-clause-lines
-returns-in-Refuted-clause-lines g c = let q = g.Q.CountOracle in
+returns-in-Refuted-clause-lines g c = let q = g.Q.CountOracle in let t = g.Q.LogTeller in
     let a = c.args.questions.now in
     let b = c.loop-count.questions in
-    ends_refuted q.knows q.log q.learnt a b c.ask.new.self (q.task b) (q.task a) ((q.task a).count c.args.first) c.loop-count.count c.in_ok-d.field-0
+    ends_refuted t.knows t.log t.learnt a b c.ask.new.self (q.task b) (q.task a) ((q.task a).count c.args.first) c.loop-count.count c.in_ok-d.field-0
     c.loop-count.best (record {
       same = c.loop-count.invariant.task;
       within = (omega arith, c.loop-count.invariant.within);
@@ -103,10 +103,10 @@ returns-in-Stopped-clause-right g c = let q = g.Q.CountOracle in
     c.loop-count.invariant.one
 
 pub returns-in-Stopped-clause-lines : goal.returns-in-Stopped-clause-lines
-returns-in-Stopped-clause-lines g c = let q = g.Q.CountOracle in
+returns-in-Stopped-clause-lines g c = let q = g.Q.CountOracle in let t = g.Q.LogTeller in
     let a = c.args.questions.now in
     let b = c.loop-count.questions in
-    ends_stopped q.knows q.log q.learnt a b c.ask.new.self (q.task b) (q.task a) ((q.task a).count c.args.first) c.loop-count.count c.in_ok-d.field-0
+    ends_stopped t.knows t.log t.learnt a b c.ask.new.self (q.task b) (q.task a) ((q.task a).count c.args.first) c.loop-count.count c.in_ok-d.field-0
     c.loop-count.best c.in-Stopped.stop c.stopped_with.result (record {
       same = c.loop-count.invariant.task;
       within = (omega arith, c.loop-count.invariant.within);
@@ -119,14 +119,14 @@ returns-clause-right g c = let q = g.Q.CountOracle in
     fewest_zero (q.task c.args.questions.now) c.loop-count.count c.loop-count.best c.loop-count.invariant.count c.loop-count.invariant.one (omega arith)
 
 pub returns-clause-lines : goal.returns-clause-lines
-returns-clause-lines g c = let q = g.Q.CountOracle in
-    ends_zero q.knows q.log q.learnt c.args.questions.now c.loop-count.questions (q.task c.args.questions.now)
+returns-clause-lines g c = let q = g.Q.CountOracle in let t = g.Q.LogTeller in
+    ends_zero t.knows t.log t.learnt c.args.questions.now c.loop-count.questions (q.task c.args.questions.now)
     ((q.task c.args.questions.now).count c.args.first) c.loop-count.count c.loop-count.best (let is = c.loop-count.invariant.count in omega (arith, is))
     c.loop-count.invariant.lines
 
 pub returns-in_err-d-clause-leaves : goal.returns-in_err-d-clause-leaves
-returns-in_err-d-clause-leaves g c = let q = g.Q.CountOracle in
+returns-in_err-d-clause-leaves g c = let q = g.Q.CountOracle in let t = g.Q.LogTeller in
     let a = c.args.questions.now in
-    on_err_anyway _ _ (leaves_later q.knows q.log q.learnt a c.loop-count.questions c.ask.new.self
+    on_err_anyway _ _ (leaves_later t.knows t.log t.learnt a c.loop-count.questions c.ask.new.self
     (IsRunOfDrawings (q.task a) ((q.task a).count c.args.first) c.loop-count.count) [] [] c.loop-count.invariant.lines (λ lines more h. h.none)
-    (g.met.Q.CountOracle.spent c.loop-count.questions) (ap (λ (x : CountTask). x.budget) c.loop-count.invariant.task) c.in_err-d.ensures.leaves)
+    (g.met.Q.CountOracle.within c.loop-count.questions) (ap (λ (x : CountTask). x.budget) c.loop-count.invariant.task) c.in_err-d.ensures.leaves)

@@ -5,16 +5,16 @@ use Rattle.search_least.specs.Run.{IsRunOfDrawings}
 use Rattle.search_least.proofs.counting.lower.Given as goal
 
 abbrev pub invariant-loop-count : goal.invariant-loop-count
-invariant-loop-count g l = let q = g.Q.CountOracle in record {
+invariant-loop-count g l = let q = g.Q.CountOracle in let t = g.Q.LogTeller in record {
   count : l.count ≡ (q.task l.fn.questions).count l.best;
   within : l.count ≤ (q.task l.fn.questions).most;
   task : q.task l.questions ≡ q.task l.fn.questions;
-  ready : q.ready l.questions;
-  known : KnowsSome q.knows l.questions;
+  ready : t.ready l.questions;
+  known : KnowsSome t.knows l.questions;
   one : IsOne (q.task l.fn.questions) l.best;
-  later : q.is_later l.fn.questions l.questions;
-  faults : q.faults l.fn.questions ≤ q.faults l.questions;
-  lines : Continues q.knows q.log q.learnt l.fn.questions l.questions (IsRunOfDrawings (q.task l.fn.questions) ((q.task l.fn.questions).count l.fn.first)
+  later : t.is_later l.fn.questions l.questions;
+  faults : t.faults l.fn.questions ≤ t.faults l.questions;
+  lines : Continues t.knows t.log t.learnt l.fn.questions l.questions (IsRunOfDrawings (q.task l.fn.questions) ((q.task l.fn.questions).count l.fn.first)
       l.count);
 }
 

@@ -17,7 +17,7 @@ use Rattle.search_least.proofs.LeftLemmas.{search_later}
 use Rattle.search_least.proofs.searching.improve.Goals as goal
 
 pub loop-i-init : goal.loop-i-init
-loop-i-init g c = let o = g.O.Oracle in record {
+loop-i-init g c = let o = g.O.Oracle in let t = g.O.LogTeller in record {
   task = refl;
   counted = c.requires.counted;
   ready = c.requires.ready;
@@ -27,7 +27,7 @@ loop-i-init g c = let o = g.O.Oracle in record {
   before = no_bounds c.args.wanted.now 0 c.new-held.result.items c.new-held.ensures.items;
   later = g.met.O.Oracle.later_same c.args.oracle.now;
   faults = omega arith;
-  lines = state_none o.knows o.log o.learnt c.args.oracle.now (o.task c.args.oracle.now) c.args.wanted.now c.args.first (o.caps c.args.oracle.now)
+  lines = state_none t.knows t.log t.learnt c.args.oracle.now (o.task c.args.oracle.now) c.args.wanted.now c.args.first (o.caps c.args.oracle.now)
       c.new-held.result.items c.new-held.ensures.items;
 }
 
@@ -49,44 +49,44 @@ stopped_with-requires g c =
     omega (arith, few, le)
 
 pub returns-in-Some-clause-lines : goal.returns-in-Some-clause-lines
-returns-in-Some-clause-lines g c = let o = g.O.Oracle in
+returns-in-Some-clause-lines g c = let o = g.O.Oracle in let t = g.O.LogTeller in
     let a = c.args.oracle.now in
     let b = c.loop-i.oracle in
     let e = c.advance.new.oracle in
     let r = c.in_ok-advanced.advanced in
     let same : o.task e ≡ o.task a = c.in_ok-advanced.ensures.task ∙ c.loop-i.invariant.task in
-    ends_unfinished o.knows o.log o.learnt a e (o.task a) c.args.wanted.now c.loop-i.i c.advance.new.held.items c.args.first r.best (o.caps a) (o.caps e) r.stop
+    ends_unfinished t.knows t.log t.learnt a e (o.task a) c.args.wanted.now c.loop-i.i c.advance.new.held.items c.args.first r.best (o.caps a) (o.caps e) r.stop
     c.in-Some.stop r.settled c.stopped_with.result c.requires.order
-    (laws_at o.knows e (o.task e) (o.task a) c.args.wanted.now (o.caps e) (o.vars e) same
+    (laws_at t.knows e (o.task e) (o.task a) c.args.wanted.now (o.caps e) (o.vars e) same
     (subst (λ (x : Task). o.vars e ≡ expected_vars x.encoding c.args.wanted.now (o.caps e)) c.loop-i.invariant.task c.in_ok-advanced.ensures.vars)
-    (g.met.O.Oracle.covers e) (g.met.O.Oracle.formed e) (g.met.O.Oracle.derives e) (g.met.O.Oracle.due e) (g.met.O.Oracle.apart e) (g.met.O.Oracle.fits e)
+    (g.met.O.Oracle.covers e) (g.met.O.Oracle.formed e) (g.O.LogTeller.derives e) (g.O.LogTeller.due e) (g.met.O.Oracle.apart e) (g.met.O.Oracle.fits e)
     (g.met.O.Oracle.within e) (g.met.O.Oracle.few e) (g.met.O.Oracle.counted e))
     c.in-Some.is c.stopped_with.ensures
-    (state_then o.knows o.log o.learnt a b e (o.task b) (o.task a) c.args.wanted.now c.loop-i.i c.loop-i.held.items c.advance.new.held.items c.args.first
+    (state_then t.knows t.log t.learnt a b e (o.task b) (o.task a) c.args.wanted.now c.loop-i.i c.loop-i.held.items c.advance.new.held.items c.args.first
     c.loop-i.best r.best (o.caps a) (o.caps b) (o.caps e) r.stop r.settled
     c.loop-i.invariant.task c.loop-i.invariant.lines c.in_ok-advanced.ensures.lines)
 
 pub returns-clause-lines : goal.returns-clause-lines
-returns-clause-lines g c = let o = g.O.Oracle in
+returns-clause-lines g c = let o = g.O.Oracle in let t = g.O.LogTeller in
     let a = c.args.oracle.now in
     let s = c.loop-i.oracle in
-    ends_best o.knows o.log o.learnt a s (o.task a) c.args.wanted.now c.loop-i.i c.loop-i.held.items c.args.first c.loop-i.best (o.caps a) (o.caps s)
-    (laws_at o.knows s (o.task s) (o.task a) c.args.wanted.now (o.caps s) (o.vars s) c.loop-i.invariant.task
+    ends_best t.knows t.log t.learnt a s (o.task a) c.args.wanted.now c.loop-i.i c.loop-i.held.items c.args.first c.loop-i.best (o.caps a) (o.caps s)
+    (laws_at t.knows s (o.task s) (o.task a) c.args.wanted.now (o.caps s) (o.vars s) c.loop-i.invariant.task
     (subst (λ (x : Task). o.vars s ≡ expected_vars x.encoding c.args.wanted.now (o.caps s)) c.loop-i.invariant.task c.loop-i.invariant.counted.vars_are)
-    (g.met.O.Oracle.covers s) (g.met.O.Oracle.formed s) (g.met.O.Oracle.derives s) (g.met.O.Oracle.due s) (g.met.O.Oracle.apart s) (g.met.O.Oracle.fits s)
+    (g.met.O.Oracle.covers s) (g.met.O.Oracle.formed s) (g.O.LogTeller.derives s) (g.O.LogTeller.due s) (g.met.O.Oracle.apart s) (g.met.O.Oracle.fits s)
     (g.met.O.Oracle.within s) (g.met.O.Oracle.few s) (g.met.O.Oracle.counted s))
     (let e = c.requires.places in omega arith) c.loop-i.invariant.lines
 
 pub loop-i-preserved : goal.loop-i-preserved
-loop-i-preserved g c = let o = g.O.Oracle in
+loop-i-preserved g c = let o = g.O.Oracle in let t = g.O.LogTeller in
     let a = c.args.oracle.now in
     let b = c.loop-i.oracle in
     let e = c.advance.new.oracle in
     let r = c.in_ok-advanced.advanced in
     let back : o.task b ≡ o.task e = sym c.in_ok-advanced.ensures.task in
-    let run : Continues o.knows o.log o.learnt a e (λ lines more. SearchState (o.task a) c.args.wanted.now 0 [] c.args.first (o.caps a) lines → Advances
+    let run : Continues t.knows t.log t.learnt a e (λ lines more. SearchState (o.task a) c.args.wanted.now 0 [] c.args.first (o.caps a) lines → Advances
     (o.task a) c.args.wanted.now c.loop-i.i c.advance.new.held.items r.stop r.settled r.best (o.caps e) (lines ++ more)) =
-    state_then o.knows o.log o.learnt a b e (o.task b) (o.task a) c.args.wanted.now c.loop-i.i c.loop-i.held.items c.advance.new.held.items c.args.first
+    state_then t.knows t.log t.learnt a b e (o.task b) (o.task a) c.args.wanted.now c.loop-i.i c.loop-i.held.items c.advance.new.held.items c.args.first
     c.loop-i.best r.best (o.caps a) (o.caps b) (o.caps e) r.stop r.settled
     c.loop-i.invariant.task c.loop-i.invariant.lines c.in_ok-advanced.ensures.lines in
     record {
@@ -98,16 +98,16 @@ loop-i-preserved g c = let o = g.O.Oracle in
       before = c.in_ok-advanced.ensures.before;
       later = g.met.O.Oracle.later_more a b e c.loop-i.invariant.later c.advance.ensures.later;
       faults = (let m = c.loop-i.invariant.faults in let n = c.advance.ensures.faults in omega arith);
-      lines = subst (λ (x : Option Stop). Continues o.knows o.log o.learnt a e (λ lines more. SearchState (o.task a) c.args.wanted.now 0 [] c.args.first
+      lines = subst (λ (x : Option Stop). Continues t.knows t.log t.learnt a e (λ lines more. SearchState (o.task a) c.args.wanted.now 0 [] c.args.first
           (o.caps a) lines → Advances (o.task a) c.args.wanted.now c.loop-i.i c.advance.new.held.items x r.settled r.best (o.caps e) (lines ++ more)))
           c.in-None.is run;
     }
 
 pub returns-in_err-advanced-clause-left : goal.returns-in_err-advanced-clause-left
-returns-in_err-advanced-clause-left g c = let o = g.O.Oracle in
+returns-in_err-advanced-clause-left g c = let o = g.O.Oracle in let t = g.O.LogTeller in
     let a = c.args.oracle.now in
     let b = c.loop-i.oracle in
-    on_err_anyway _ _ (search_later o.knows o.log o.learnt a b c.advance.new.oracle (o.task b) (o.task a) c.args.wanted.now
+    on_err_anyway _ _ (search_later t.knows t.log t.learnt a b c.advance.new.oracle (o.task b) (o.task a) c.args.wanted.now
     (SearchState (o.task a) c.args.wanted.now 0 [] c.args.first (o.caps a))
     (λ (x : Task) (lines : Lines). SearchState x c.args.wanted.now c.loop-i.i c.loop-i.held.items c.loop-i.best (o.caps b) lines) c.loop-i.invariant.task
     c.loop-i.invariant.lines c.in_err-advanced.ensures.left)

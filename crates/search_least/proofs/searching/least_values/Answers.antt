@@ -7,24 +7,24 @@ use Rattle.refute_log.proofs.StepLemmas.{on_err_weaker}
 use Rattle.search_least.proofs.searching.least_values.Goals as goal
 
 pub returns-clause-right : goal.returns-clause-right
-returns-clause-right g c = let o = g.O.Oracle in
+returns-clause-right g c = let o = g.O.Oracle in let t = g.O.LogTeller in
     let a = c.args.oracle.now in
     let e = c.search.new.oracle in
     let p = o.task a in
-    IfOk-weaker c.search.result (λ x. Continues o.knows o.log o.learnt a e (λ lines more. lines ≡ first_lines p → IsOutcome p c.args.wanted.now x
+    IfOk-weaker c.search.result (λ x. Continues t.knows t.log t.learnt a e (λ lines more. lines ≡ first_lines p → IsOutcome p c.args.wanted.now x
     (lines ++ more))) (IsRightOutcome p c.args.wanted.now)
-    (λ x run. right_run o.knows o.log o.learnt a e p c.args.wanted.now x c.requires.start run) c.search.ensures.lines
+    (λ x run. right_run t.knows t.log t.learnt a e p c.args.wanted.now x c.requires.start run) c.search.ensures.lines
 
 pub returns-clause-lines : goal.returns-clause-lines
-returns-clause-lines g c = let o = g.O.Oracle in
+returns-clause-lines g c = let o = g.O.Oracle in let t = g.O.LogTeller in
     let a = c.args.oracle.now in
     let e = c.search.new.oracle in
     let p = o.task a in
-    IfOk-weaker c.search.result (λ x. Continues o.knows o.log o.learnt a e (λ lines more. lines ≡ first_lines p → IsOutcome p c.args.wanted.now x
+    IfOk-weaker c.search.result (λ x. Continues t.knows t.log t.learnt a e (λ lines more. lines ≡ first_lines p → IsOutcome p c.args.wanted.now x
     (lines ++ more)))
-    (λ x. ToldBehind (o.knows e) (o.log a) (o.log e) (o.learnt a) (o.learnt e) (first_lines p)
+    (λ x. ToldBehind (t.knows e) (t.log a) (t.log e) (t.learnt a) (t.learnt e) (first_lines p)
     (λ more. IsOutcome p c.args.wanted.now x (first_lines p ++ more)))
-    (λ x run. tells_run o.knows o.log o.learnt a e p c.args.wanted.now x c.requires.start run) c.search.ensures.lines
+    (λ x run. tells_run t.knows t.log t.learnt a e p c.args.wanted.now x c.requires.start run) c.search.ensures.lines
 
 pub returns-clause-left : goal.returns-clause-left
 returns-clause-left g c = let o = g.O.Oracle in

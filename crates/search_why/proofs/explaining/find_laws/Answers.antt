@@ -17,8 +17,8 @@ use Rattle.search_why.proofs.explaining.find_laws.Goals as goal
 use Rattle.outside_io.proofs.Results.{on_err_anyway}
 
 pub returns-in_err-all-clause-leaves : goal.returns-in_err-all-clause-leaves
-returns-in_err-all-clause-leaves g c = let o = g.O.LawOracle in
-    on_err_anyway _ _ (leaves_same (o.knows c.args.oracle.now) (o.log c.args.oracle.now) (g.met.O.LawOracle.derives c.args.oracle.now)
+returns-in_err-all-clause-leaves g c = let t = g.O.LogTeller in
+    on_err_anyway _ _ (leaves_same (t.knows c.args.oracle.now) (t.log c.args.oracle.now) (g.O.LogTeller.derives c.args.oracle.now)
     (g.met.O.LawOracle.one_reading c.args.oracle.now))
 
 pub ask-requires-clause-places : goal.ask-requires-clause-places
@@ -36,9 +36,9 @@ returns-in-Found-clause-right g c = let o = g.O.LawOracle in
     c.in_ok-d.ensures.right c.requires.laws
 
 pub returns-in-Found-clause-lines : goal.returns-in-Found-clause-lines
-returns-in-Found-clause-lines g c = let o = g.O.LawOracle in
+returns-in-Found-clause-lines g c = let o = g.O.LawOracle in let t = g.O.LogTeller in
     let p = o.task c.args.oracle.now in
-    becomes o.knows o.log o.learnt c.args.oracle.now c.ask.new.self (λ lines more. TellsReply p c.in_ok-d.field-0 lines more) AnyLines
+    becomes t.knows t.log t.learnt c.args.oracle.now c.ask.new.self (λ lines more. TellsReply p c.in_ok-d.field-0 lines more) AnyLines
     c.in_ok-d.ensures.lines (λ lines xs ka kb q. tt)
 
 pub narrow-requires-clause-ready : goal.narrow-requires-clause-ready
@@ -72,7 +72,7 @@ pub returns-in-Refuted-clause-right : goal.returns-in-Refuted-clause-right
 returns-in-Refuted-clause-right g c = subst (λ (x : Task). IfOk c.narrow.result (IsRightOutcome x)) c.in_ok-d.ensures.task c.narrow.ensures.right
 
 pub returns-in-Refuted-clause-lines : goal.returns-in-Refuted-clause-lines
-returns-in-Refuted-clause-lines g c = let o = g.O.LawOracle in
+returns-in-Refuted-clause-lines g c = let o = g.O.LawOracle in let teller = g.O.LogTeller in
     let a = c.args.oracle.now in
     let b = c.ask.new.self in
     let e = c.narrow.new.oracle in
@@ -84,9 +84,9 @@ returns-in-Refuted-clause-lines g c = let o = g.O.LawOracle in
     c.in-Refuted.is right c.as_slice.ensures c.keep_only.ensures in
     let none = none_at_all p c.keep_only.new.places.items both.0 both.1 in
     IfOk-weaker c.narrow.result
-    (λ x. Continues o.knows o.log o.learnt b e (λ lines more. TellsNarrowed (o.task b) x (lines ++ more)))
-    (λ x. Continues o.knows o.log o.learnt a e (λ lines more. TellsOutcome (o.task a) x lines more))
-    (λ x run. goes_on o.knows o.log o.learnt a b e (λ lines more. TellsReply (o.task a) c.in_ok-d.field-0 lines more)
+    (λ x. Continues teller.knows teller.log teller.learnt b e (λ lines more. TellsNarrowed (o.task b) x (lines ++ more)))
+    (λ x. Continues teller.knows teller.log teller.learnt a e (λ lines more. TellsOutcome (o.task a) x lines more))
+    (λ x run. goes_on teller.knows teller.log teller.learnt a b e (λ lines more. TellsReply (o.task a) c.in_ok-d.field-0 lines more)
     (λ lines more. TellsNarrowed (o.task b) x (lines ++ more)) (λ lines more. TellsOutcome (o.task a) x lines more)
     c.in_ok-d.ensures.lines run
     (λ lines xs ys ka kb ke r s. narrowed_tells p x lines (xs ++ ys) none
@@ -95,18 +95,18 @@ returns-in-Refuted-clause-lines g c = let o = g.O.LawOracle in
     c.narrow.ensures.lines
 
 pub returns-in-Refuted-clause-leaves : goal.returns-in-Refuted-clause-leaves
-returns-in-Refuted-clause-leaves g c = let o = g.O.LawOracle in
+returns-in-Refuted-clause-leaves g c = let o = g.O.LawOracle in let t = g.O.LogTeller in
     let a = c.args.oracle.now in
     let b = c.ask.new.self in
     let e = c.narrow.new.oracle in
-    on_err_weaker c.narrow.result (Leaves (o.task b).budget [] (o.knows b) (o.log b) (o.log e))
-    (Leaves (o.task a).budget [] (o.knows a) (o.log a) (o.log e))
-    (left_later o.knows o.log o.learnt o.task a b e (λ lines more. TellsReply (o.task a) c.in_ok-d.field-0 lines more) c.in_ok-d.ensures.lines
+    on_err_weaker c.narrow.result (Leaves (o.task b).budget [] (t.knows b) (t.log b) (t.log e))
+    (Leaves (o.task a).budget [] (t.knows a) (t.log a) (t.log e))
+    (left_later t.knows t.log t.learnt o.task a b e (λ lines more. TellsReply (o.task a) c.in_ok-d.field-0 lines more) c.in_ok-d.ensures.lines
     g.met.O.LawOracle.gives g.met.O.LawOracle.within c.in_ok-d.ensures.task) c.narrow.ensures.leaves
 
 pub returns-in-Stopped-clause-lines : goal.returns-in-Stopped-clause-lines
-returns-in-Stopped-clause-lines g c = let o = g.O.LawOracle in
+returns-in-Stopped-clause-lines g c = let o = g.O.LawOracle in let teller = g.O.LogTeller in
     let p = o.task c.args.oracle.now in
-    becomes o.knows o.log o.learnt c.args.oracle.now c.ask.new.self (λ lines more. TellsReply p c.in_ok-d.field-0 lines more)
+    becomes teller.knows teller.log teller.learnt c.args.oracle.now c.ask.new.self (λ lines more. TellsReply p c.in_ok-d.field-0 lines more)
     (λ lines more. IsCause p.budget p.room c.in-Stopped.stop (lines ++ more) × (All IsNoModel more ⊎ NoneMeetsAll p)) c.in_ok-d.ensures.lines
     (λ lines xs ka kb q. let t = subst (λ (r : Reply). TellsReply p r lines xs) c.in-Stopped.is q in (t.0, inl t.1))

@@ -17,7 +17,7 @@ use Rattle.search_why.proofs.narrowing.narrow.Goals as goal
 use Rattle.outside_io.proofs.Results.{on_err_anyway}
 
 pub loop-law-init : goal.loop-law-init
-loop-law-init g c = let o = g.O.LawOracle in
+loop-law-init g c = let o = g.O.LawOracle in let t = g.O.LogTeller in
     let p = o.task c.args.oracle.now in
     let b = c.begin-progress in
     record {
@@ -29,7 +29,7 @@ loop-law-init g c = let o = g.O.LawOracle in
           (narrow_none p c.args.left.items c.requires.places c.requires.none)));
       later = g.met.O.LawOracle.later_same c.args.oracle.now;
       faults = omega arith;
-      lines = stays o.knows o.log o.learnt c.args.oracle.now AnyLines (λ lines k. tt);
+      lines = stays t.knows t.log t.learnt c.args.oracle.now AnyLines (λ lines k. tt);
     }
 
 pub take_away-requires-clause-ready : goal.take_away-requires-clause-ready
@@ -49,7 +49,7 @@ loop-law-smaller g c =
     omega (arith, e, n, fewer)
 
 pub loop-law-preserved : goal.loop-law-preserved
-loop-law-preserved g c = let o = g.O.LawOracle in
+loop-law-preserved g c = let o = g.O.LawOracle in let t = g.O.LogTeller in
     let q = c.take_away.new.progress in
     let e = c.in_ok-stop.ensures in
     record {
@@ -58,21 +58,21 @@ loop-law-preserved g c = let o = g.O.LawOracle in
       narrowed = subst (λ (x : Task). IsNarrowed x q.kept.items q.left.items q.without.items) c.loop-law.invariant.task (e.narrowed c.in_default-2.is);
       later = g.met.O.LawOracle.later_more c.args.oracle.now c.loop-law.oracle c.take_away.new.oracle c.loop-law.invariant.later e.later;
       faults = (let a = c.loop-law.invariant.faults in let b = e.faults in omega arith);
-      lines = goes_on o.knows o.log o.learnt c.args.oracle.now c.loop-law.oracle c.take_away.new.oracle AnyLines
+      lines = goes_on t.knows t.log t.learnt c.args.oracle.now c.loop-law.oracle c.take_away.new.oracle AnyLines
           (λ lines more. TellsStop (o.task c.loop-law.oracle) c.in_ok-stop.field-0 (lines ++ more)) AnyLines
           c.loop-law.invariant.lines e.lines (λ lines xs ys ka kb ke r s. tt);
     }
 
 pub returns-in_err-stop-clause-leaves : goal.returns-in_err-stop-clause-leaves
-returns-in_err-stop-clause-leaves g c = let o = g.O.LawOracle in
-    on_err_anyway _ _ (left_later o.knows o.log o.learnt o.task c.args.oracle.now c.loop-law.oracle c.take_away.new.oracle AnyLines c.loop-law.invariant.lines
+returns-in_err-stop-clause-leaves g c = let o = g.O.LawOracle in let t = g.O.LogTeller in
+    on_err_anyway _ _ (left_later t.knows t.log t.learnt o.task c.args.oracle.now c.loop-law.oracle c.take_away.new.oracle AnyLines c.loop-law.invariant.lines
     g.met.O.LawOracle.gives g.met.O.LawOracle.within c.loop-law.invariant.task c.in_err-stop.ensures.leaves)
 
 pub returns-in-Some-2-clause-lines : goal.returns-in-Some-2-clause-lines
-returns-in-Some-2-clause-lines g c = let o = g.O.LawOracle in
+returns-in-Some-2-clause-lines g c = let o = g.O.LawOracle in let t = g.O.LogTeller in
     let p = o.task c.args.oracle.now in
     let stop = c.in-Some-2.stop in
-    goes_on o.knows o.log o.learnt c.args.oracle.now c.loop-law.oracle c.take_away.new.oracle AnyLines
+    goes_on t.knows t.log t.learnt c.args.oracle.now c.loop-law.oracle c.take_away.new.oracle AnyLines
     (λ lines more. TellsStop (o.task c.loop-law.oracle) c.in_ok-stop.field-0 (lines ++ more)) (λ lines more. IsCause p.budget p.room stop (lines ++ more))
     c.loop-law.invariant.lines c.in_ok-stop.ensures.lines
     (λ lines xs ys ka kb ke r s.
@@ -95,8 +95,8 @@ returns-clause-right g c = let o = g.O.LawOracle in
     )
 
 pub returns-clause-lines : goal.returns-clause-lines
-returns-clause-lines g c = let o = g.O.LawOracle in
+returns-clause-lines g c = let o = g.O.LawOracle in let t = g.O.LogTeller in
     let p = o.task c.args.oracle.now in
-    becomes o.knows o.log o.learnt c.args.oracle.now c.loop-law.oracle AnyLines (λ lines more. TellsNarrowed p c.finish.result (lines ++ more))
+    becomes t.knows t.log t.learnt c.args.oracle.now c.loop-law.oracle AnyLines (λ lines more. TellsNarrowed p c.finish.result (lines ++ more))
     c.loop-law.invariant.lines
     (λ lines xs ka kb q. subst (λ (x : Outcome). TellsNarrowed p x (lines ++ xs)) (sym c.finish.ensures) tt)

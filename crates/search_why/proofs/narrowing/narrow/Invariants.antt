@@ -5,13 +5,13 @@ use Rattle.refute_log.proofs.StepLemmas.{AnyLines}
 use Rattle.search_why.proofs.narrowing.narrow.Given as goal
 
 abbrev pub invariant-loop-law : goal.invariant-loop-law
-invariant-loop-law g l = let o = g.O.LawOracle in record {
+invariant-loop-law g l = let o = g.O.LawOracle in let t = g.O.LogTeller in record {
   task : o.task l.oracle ≡ o.task l.fn.oracle;
-  ready : o.ready l.oracle;
+  ready : t.ready l.oracle;
   narrowed : IsNarrowed (o.task l.fn.oracle) l.progress.kept.items l.progress.left.items l.progress.without.items;
-  later : o.is_later l.fn.oracle l.oracle;
-  faults : o.faults l.fn.oracle ≤ o.faults l.oracle;
-  lines : Continues o.knows o.log o.learnt l.fn.oracle l.oracle AnyLines;
+  later : t.is_later l.fn.oracle l.oracle;
+  faults : t.faults l.fn.oracle ≤ t.faults l.oracle;
+  lines : Continues t.knows t.log t.learnt l.fn.oracle l.oracle AnyLines;
 }
 
 abbrev pub decreases-loop-law : goal.decreases-loop-law

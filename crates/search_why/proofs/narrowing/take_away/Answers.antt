@@ -10,8 +10,8 @@ use Rattle.search_why.proofs.narrowing.take_away.Goals as goal
 use Rattle.outside_io.proofs.Results.{on_err_anyway}
 
 pub returns-in_err-wanted-clause-leaves : goal.returns-in_err-wanted-clause-leaves
-returns-in_err-wanted-clause-leaves g c = let o = g.O.LawOracle in
-    on_err_anyway _ _ (leaves_same (o.knows c.args.oracle.now) (o.log c.args.oracle.now) (g.met.O.LawOracle.derives c.args.oracle.now)
+returns-in_err-wanted-clause-leaves g c = let t = g.O.LogTeller in
+    on_err_anyway _ _ (leaves_same (t.knows c.args.oracle.now) (t.log c.args.oracle.now) (g.O.LogTeller.derives c.args.oracle.now)
     (g.met.O.LawOracle.one_reading c.args.oracle.now))
 
 pub ask-requires-clause-places : goal.ask-requires-clause-places
@@ -26,18 +26,18 @@ pub returns-in_err-d-clause-leaves : goal.returns-in_err-d-clause-leaves
 returns-in_err-d-clause-leaves g c = on_err_anyway _ _ c.in_err-d.ensures.leaves
 
 pub returns-in_err-push-in-Found-clause-leaves : goal.returns-in_err-push-in-Found-clause-leaves
-returns-in_err-push-in-Found-clause-leaves g c = let o = g.O.LawOracle in
+returns-in_err-push-in-Found-clause-leaves g c = let o = g.O.LawOracle in let t = g.O.LogTeller in
     let p = o.task c.args.oracle.now in
-    on_err_anyway _ _ (left_here o.knows o.log o.learnt o.task c.args.oracle.now c.ask.new.self (λ lines more. TellsReply p c.in_ok-d.field-0 lines more)
+    on_err_anyway _ _ (left_here t.knows t.log t.learnt o.task c.args.oracle.now c.ask.new.self (λ lines more. TellsReply p c.in_ok-d.field-0 lines more)
     c.in_ok-d.ensures.lines
-    g.met.O.LawOracle.gives g.met.O.LawOracle.within c.in_ok-d.ensures.task g.met.O.LawOracle.derives g.met.O.LawOracle.one_reading)
+    g.met.O.LawOracle.gives g.met.O.LawOracle.within c.in_ok-d.ensures.task g.O.LogTeller.derives g.met.O.LawOracle.one_reading)
 
 pub returns-in_err-push-in-Found-2-clause-leaves : goal.returns-in_err-push-in-Found-2-clause-leaves
-returns-in_err-push-in-Found-2-clause-leaves g c = let o = g.O.LawOracle in
+returns-in_err-push-in-Found-2-clause-leaves g c = let o = g.O.LawOracle in let t = g.O.LogTeller in
     let p = o.task c.args.oracle.now in
-    on_err_anyway _ _ (left_here o.knows o.log o.learnt o.task c.args.oracle.now c.ask.new.self (λ lines more. TellsReply p c.in_ok-d.field-0 lines more)
+    on_err_anyway _ _ (left_here t.knows t.log t.learnt o.task c.args.oracle.now c.ask.new.self (λ lines more. TellsReply p c.in_ok-d.field-0 lines more)
     c.in_ok-d.ensures.lines
-    g.met.O.LawOracle.gives g.met.O.LawOracle.within c.in_ok-d.ensures.task g.met.O.LawOracle.derives g.met.O.LawOracle.one_reading)
+    g.met.O.LawOracle.gives g.met.O.LawOracle.within c.in_ok-d.ensures.task g.O.LogTeller.derives g.met.O.LawOracle.one_reading)
 
 pub returns-in-Found-clause-narrowed : goal.returns-in-Found-clause-narrowed
 returns-in-Found-clause-narrowed g c = λ e. let o = g.O.LawOracle in
@@ -49,9 +49,9 @@ returns-in-Found-clause-narrowed g c = λ e. let o = g.O.LawOracle in
     asked c.in-Found.is c.in_ok-d.ensures.right c.requires.narrowed c.in_ok-push-in-Found.ensures.items c.in_ok-push-in-Found-2.ensures.items
 
 pub returns-in-Found-clause-lines : goal.returns-in-Found-clause-lines
-returns-in-Found-clause-lines g c = let o = g.O.LawOracle in
+returns-in-Found-clause-lines g c = let o = g.O.LawOracle in let t = g.O.LogTeller in
     let p = o.task c.args.oracle.now in
-    becomes o.knows o.log o.learnt c.args.oracle.now c.ask.new.self (λ lines more. TellsReply p c.in_ok-d.field-0 lines more) AnyLines
+    becomes t.knows t.log t.learnt c.args.oracle.now c.ask.new.self (λ lines more. TellsReply p c.in_ok-d.field-0 lines more) AnyLines
     c.in_ok-d.ensures.lines (λ lines xs ka kb q. tt)
 
 pub returns-in-Refuted-clause-narrowed : goal.returns-in-Refuted-clause-narrowed
@@ -68,15 +68,15 @@ returns-in-Refuted-clause-fewer g c = filter_shorter (has_number c.as_slice.resu
     c.keep_only.ensures
 
 pub returns-in-Refuted-clause-lines : goal.returns-in-Refuted-clause-lines
-returns-in-Refuted-clause-lines g c = let o = g.O.LawOracle in
+returns-in-Refuted-clause-lines g c = let o = g.O.LawOracle in let t = g.O.LogTeller in
     let p = o.task c.args.oracle.now in
-    becomes o.knows o.log o.learnt c.args.oracle.now c.ask.new.self (λ lines more. TellsReply p c.in_ok-d.field-0 lines more) AnyLines
+    becomes t.knows t.log t.learnt c.args.oracle.now c.ask.new.self (λ lines more. TellsReply p c.in_ok-d.field-0 lines more) AnyLines
     c.in_ok-d.ensures.lines (λ lines xs ka kb q. tt)
 
 pub returns-clause-lines : goal.returns-clause-lines
-returns-clause-lines g c = let o = g.O.LawOracle in
+returns-clause-lines g c = let o = g.O.LawOracle in let t = g.O.LogTeller in
     let p = o.task c.args.oracle.now in
-    becomes o.knows o.log o.learnt c.args.oracle.now c.ask.new.self (λ lines more. TellsReply p c.in_ok-d.field-0 lines more)
+    becomes t.knows t.log t.learnt c.args.oracle.now c.ask.new.self (λ lines more. TellsReply p c.in_ok-d.field-0 lines more)
     (λ lines more. IsCause p.budget p.room c.in-Stopped.stop (lines ++ more)) c.in_ok-d.ensures.lines
     (λ lines xs ka kb q. (subst (λ (r : Reply). TellsReply p r lines xs) c.in-Stopped.is q).0)
 

@@ -1,4 +1,4 @@
-use Rattle.std.proofs.Common.{◌≡◌, ◌++◌, ◌∙◌, ap, ◌+◌, ◌∷◌, []}
+use Rattle.std.proofs.Common.{◌≡◌, ◌++◌, ◌∙◌, ap, ◌+◌, ◌∷◌, [], arith}
 use Rattle.std.proofs.lemmas.Result.{IfOk-weaker}
 use Rattle.plan_core.specs.declared.criterion.Criterion.{Criterion}
 use Rattle.refute_log.specs.Expected.{with_cap, sum_lines, sum_vars_of, sums}
@@ -9,7 +9,7 @@ use Rattle.search_least.specs.Outcome.{first_lines}
 use Rattle.refute_log.specs.Steps.{Continues}
 use Rattle.trade_off.specs.Outcome.{IsBuiltFront}
 use Rattle.trade_off.proofs.TellLemmas.{no_room_for_first, both_built, unbuilt_still, first_still, second_here}
-use Rattle.refute_log.proofs.StepLemmas.{on_err_weaker, leaves_more}
+use Rattle.refute_log.proofs.StepLemmas.{on_err_weaker, leaves_more, leaves_most}
 use Rattle.trade_off.proofs.LeftLemmas.{both_left}
 use Rattle.trade_off.proofs.building.build_both.Goals as goal
 use Rattle.outside_io.proofs.Results.{on_err_anyway}
@@ -27,9 +27,9 @@ build_whole-requires-in-Whole-clause-none g c = let o = g.O.Oracle in
     (c.requires.fresh.none c.args.b) (c.in_ok-build_whole.ensures.caps c.in-Whole.is)
 
 pub returns-in-NoRoom-clause-lines : goal.returns-in-NoRoom-clause-lines
-returns-in-NoRoom-clause-lines g c = let o = g.O.Oracle in
+returns-in-NoRoom-clause-lines g c = let o = g.O.Oracle in let t = g.O.LogTeller in
     let a = c.args.oracle.now in
-    no_room_for_first o.knows o.log o.learnt a c.build_whole.new.oracle (o.task a) c.args.a c.args.b (o.vars a) c.in_ok-build_whole.field-0 c.in-NoRoom.is
+    no_room_for_first t.knows t.log t.learnt a c.build_whole.new.oracle (o.task a) c.args.a c.args.b (o.vars a) c.in_ok-build_whole.field-0 c.in-NoRoom.is
     c.requires.fresh.vars_are c.in_ok-build_whole.ensures.lines
 
 pub returns-in-Whole-clause-first : goal.returns-in-Whole-clause-first
@@ -55,31 +55,33 @@ returns-in-Whole-clause-second g c = let o = g.O.Oracle in
     c.build_whole-in-Whole.ensures.caps
 
 pub returns-in-Whole-clause-lines : goal.returns-in-Whole-clause-lines
-returns-in-Whole-clause-lines g c = let o = g.O.Oracle in
+returns-in-Whole-clause-lines g c = let o = g.O.Oracle in let t = g.O.LogTeller in
     let a = c.args.oracle.now in
     let b = c.build_whole.new.oracle in
     let e = c.build_whole-in-Whole.new.oracle in
-    IfOk-weaker c.build_whole-in-Whole.result (λ r. Continues o.knows o.log o.learnt b e
+    IfOk-weaker c.build_whole-in-Whole.result (λ r. Continues t.knows t.log t.learnt b e
     (λ lines more. IsBuild (o.task b) (o.vars b) c.args.b (greatest_of (o.task b) c.args.b) r lines more))
-    (λ r. Continues o.knows o.log o.learnt a e (λ lines more. lines ≡ first_lines (o.task a) → IsBuiltFront (o.task a) c.args.a c.args.b r (lines ++ more)))
-    (λ r h. both_built o.knows o.log o.learnt a b e (o.task b) (o.task a) c.args.a c.args.b (o.vars a) (o.vars b) c.in_ok-build_whole.field-0 r
+    (λ r. Continues t.knows t.log t.learnt a e (λ lines more. lines ≡ first_lines (o.task a) → IsBuiltFront (o.task a) c.args.a c.args.b r (lines ++ more)))
+    (λ r h. both_built t.knows t.log t.learnt a b e (o.task b) (o.task a) c.args.a c.args.b (o.vars a) (o.vars b) c.in_ok-build_whole.field-0 r
     c.build_whole.ensures.task c.in-Whole.is c.requires.fresh.vars_are (c.in_ok-build_whole.ensures.vars c.in-Whole.is)
     c.in_ok-build_whole.ensures.lines h)
     c.build_whole-in-Whole.ensures.lines
 
 pub returns-in_err-build_whole-clause-leaves : goal.returns-in_err-build_whole-clause-leaves
-returns-in_err-build_whole-clause-leaves g c = let o = g.O.Oracle in
+returns-in_err-build_whole-clause-leaves g c = let o = g.O.Oracle in let t = g.O.LogTeller in
     let a = c.args.oracle.now in
     let p = o.task a in
-    on_err_anyway _ _ (leaves_more (sum_lines p.encoding (o.vars a) c.args.a (greatest_of p c.args.a))
+    let xs = sum_lines p.encoding (o.vars a) c.args.a (greatest_of p c.args.a) in
+    on_err_anyway _ _ (leaves_more xs
     (sums p.encoding (o.vars a + sum_vars_of p.encoding (o.vars a) c.args.a (greatest_of p c.args.a)) (c.args.b ∷ []) (greatest_of p))
-    (o.knows a) (o.log a) (o.log c.build_whole.new.oracle) c.in_err-build_whole.ensures.leaves)
+    (t.knows a) (t.log a) (t.log c.build_whole.new.oracle)
+    (leaves_most 0 p.budget xs (t.knows a) (t.log a) (t.log c.build_whole.new.oracle) (omega arith) c.in_err-build_whole.ensures.leaves))
 
 pub returns-in-Whole-clause-leaves : goal.returns-in-Whole-clause-leaves
-returns-in-Whole-clause-leaves g c = let o = g.O.Oracle in
+returns-in-Whole-clause-leaves g c = let o = g.O.Oracle in let t = g.O.LogTeller in
     let a = c.args.oracle.now in
     let b = c.build_whole.new.oracle in
-    on_err_weaker c.build_whole-in-Whole.result _ _ (both_left o.knows o.log o.learnt a b c.build_whole-in-Whole.new.oracle (o.task b) (o.task a) c.args.a
+    on_err_weaker c.build_whole-in-Whole.result _ _ (both_left t.knows t.log t.learnt a b c.build_whole-in-Whole.new.oracle (o.task b) (o.task a) c.args.a
     c.args.b (o.vars a) (o.vars b) c.in_ok-build_whole.field-0
     c.build_whole.ensures.task c.in-Whole.is (c.in_ok-build_whole.ensures.vars c.in-Whole.is) c.in_ok-build_whole.ensures.lines
     (g.met.O.Oracle.within b))

@@ -16,8 +16,8 @@ returns-then-most-eq0-clause-vars g c = let o = g.O.Oracle in
     λ whole. zero_vars (o.task c.args.oracle.now) (o.vars c.args.oracle.now) c.args.c (sym c.greatest-most.ensures ∙ c.if-most-eq0.true)
 
 pub returns-then-most-eq0-clause-lines : goal.returns-then-most-eq0-clause-lines
-returns-then-most-eq0-clause-lines g c = let o = g.O.Oracle in
-    zero_lines o.knows o.log o.learnt c.args.oracle.now (o.task c.args.oracle.now) (o.vars c.args.oracle.now) c.args.c
+returns-then-most-eq0-clause-lines g c = let o = g.O.Oracle in let t = g.O.LogTeller in
+    zero_lines t.knows t.log t.learnt c.args.oracle.now (o.task c.args.oracle.now) (o.vars c.args.oracle.now) c.args.c
     (sym c.greatest-most.ensures ∙ c.if-most-eq0.true)
 
 pub returns-clause-caps : goal.returns-clause-caps
@@ -35,14 +35,14 @@ returns-clause-vars g c = let o = g.O.Oracle in
     c.in_ok-built.ensures.built
 
 pub returns-clause-lines : goal.returns-clause-lines
-returns-clause-lines g c = let o = g.O.Oracle in
+returns-clause-lines g c = let o = g.O.Oracle in let t = g.O.LogTeller in
     let a = c.args.oracle.now in
-    lines_whole o.knows o.log o.learnt a c.build.new.self (o.task a) (o.vars a) c.args.c c.greatest-most.result c.in_ok-built.built c.greatest-most.ensures
+    lines_whole t.knows t.log t.learnt a c.build.new.self (o.task a) (o.vars a) c.args.c c.greatest-most.result c.in_ok-built.built c.greatest-most.ensures
     c.in_ok-built.ensures.lines
 
 pub returns-in_err-built-clause-leaves : goal.returns-in_err-built-clause-leaves
-returns-in_err-built-clause-leaves g c = let o = g.O.Oracle in
+returns-in_err-built-clause-leaves g c = let o = g.O.Oracle in let t = g.O.LogTeller in
     let a = c.args.oracle.now in
-    on_err_anyway _ _ (subst (λ n. Leaves (o.task a).budget (sum_lines (o.task a).encoding (o.vars a) c.args.c n) (o.knows a) (o.log a)
-    (o.log c.build.new.self))
+    on_err_anyway _ _ (subst (λ n. Leaves 0 (sum_lines (o.task a).encoding (o.vars a) c.args.c n) (t.knows a) (t.log a)
+    (t.log c.build.new.self))
     c.greatest-most.ensures c.in_err-built.ensures.leaves)

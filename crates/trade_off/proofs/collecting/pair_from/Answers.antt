@@ -1,16 +1,17 @@
-use Rattle.std.proofs.Common.{◌≡◌, ◌∷◌, [], sym, ◌∙◌, ap, subst, List, inl, inr}
+use Rattle.std.proofs.Common.{◌≡◌, sym, ◌∙◌, ap, subst, List, inl, inr}
 use Rattle.std.specs.Prelude.{Option, None, Some}
 use Rattle.std.proofs.lemmas.Result.{IfOk-weaker}
 use Rattle.plan_core.specs.Values.{values_of, value_of}
 use Rattle.search_least.specs.declared.oracle.Below.{Below}
 use Rattle.refute_log.specs.declared.stop.Stop.{Stop}
-use Rattle.search_least.specs.Asked.{below_limit, AreMet}
+use Rattle.search_least.specs.Asked.{AreMet}
 use Rattle.search_least.specs.Task.{Task, IsLawful, greatest_of}
 use Rattle.refute_log.specs.Steps.{Continues}
 use Rattle.trade_off.specs.declared.collecting.Next.TheVariants.{Stopped}
-use Rattle.trade_off.specs.Least.{IsLeastUnder, lowered, LowersUnder, AskNoLess, HasComeDown, EndsLowered, AreAsked}
-use Rattle.trade_off.specs.Next.{IsNext, IsSecondOf, under, HasLeastFirst, AsksSecond, AsksNext, EndsNext}
-use Rattle.trade_off.proofs.AskLemmas.{no_less_with, no_less_other, no_less_under, come_down, asked_then, asked_as, asked_to, stops_as}
+use Rattle.trade_off.specs.Least.{IsLeastUnder, lowered, LowersUnder, HaveComeTo, EndsLowered, AreAsked}
+use Rattle.trade_off.specs.Next.{IsUnder, IsNext, IsSecondOf, under, HasLeastFirst, AsksSecond, AsksNext, EndsNext}
+use Rattle.trade_off.proofs.LimitLemmas.{no_less_other, no_less_under, behind_under, come_to}
+use Rattle.trade_off.proofs.AskLemmas.{asked_then, asked_to, stops_as}
 use Rattle.trade_off.proofs.NextLemmas.{under_within, under_beside, meets_under, next_from, next_as}
 use Rattle.refute_log.proofs.StepLemmas.{on_err_weaker, leaves_same}
 use Rattle.trade_off.proofs.LeftLemmas.{asked_later}
@@ -43,7 +44,7 @@ second_from-requires-clause-lawful g c = let o = g.O.Oracle in
     subst (λ (p : Task). IsLawful p c.in_ok-lowered.lowered.least) (sym c.lower.ensures.task) c.in_ok-lowered.ensures.lawful
 
 pub returns-in-Some-clause-lines : goal.returns-in-Some-clause-lines
-returns-in-Some-clause-lines g c = let o = g.O.Oracle in
+returns-in-Some-clause-lines g c = let o = g.O.Oracle in let t = g.O.LogTeller in
     let s = c.args.oracle.now in
     let e = c.lower.new.oracle in
     let p = o.task s in
@@ -54,16 +55,16 @@ returns-in-Some-clause-lines g c = let o = g.O.Oracle in
     let least = c.in_ok-lowered.lowered.least in
     let next = AsksNext a b c.args.limit p in
     let held : bounds ≡ under b c.args.limit = c.deref.ensures.value ∙ c.in_ok-held.ensures in
-    asked_as o.knows o.log o.learnt s e p b (under b c.args.limit) (lowered bounds a c.args.first)
-    (EndsLowered p bounds a b least (Some stop)) (EndsNext p next b (Stopped stop))
-    (subst (λ (hs : List Below). AskNoLess b hs (lowered bounds a c.args.first)) held
-    (no_less_with b bounds (below_limit a (value_of (values_of c.args.first) a) ∷ [])))
+    let start = lowered (under b c.args.limit) a c.args.first in
+    asked_to t.knows t.log t.learnt s e p (HaveComeTo b a start) (EndsLowered p bounds a b least (Some stop)) (EndsNext p next b (Stopped stop))
     (λ lines h. stops_as p (LowersUnder bounds a p) next b stop lines (λ bs x. inr (inl (subst (λ (hs : List Below). LowersUnder hs a p bs) held x))) h)
-    (subst (λ (x : Option Stop). Continues o.knows o.log o.learnt s e (AreAsked p b (lowered bounds a c.args.first) (EndsLowered p bounds a b least x)))
-    c.in-Some.is (c.in_ok-lowered.ensures.lines b))
+    (subst (λ (hs : List Below). Continues t.knows t.log t.learnt s e (AreAsked p (HaveComeTo b a (lowered hs a c.args.first))
+    (EndsLowered p bounds a b least (Some stop)))) held
+    (subst (λ (x : Option Stop). Continues t.knows t.log t.learnt s e (AreAsked p (HaveComeTo b a (lowered bounds a c.args.first))
+    (EndsLowered p bounds a b least x))) c.in-Some.is (c.in_ok-lowered.ensures.lines b)))
 
 pub returns-clause-lines : goal.returns-clause-lines
-returns-clause-lines g c = let o = g.O.Oracle in
+returns-clause-lines g c = let o = g.O.Oracle in let teller = g.O.LogTeller in
     let s = c.args.oracle.now in
     let t = c.lower.new.oracle in
     let e = c.second_from.new.oracle in
@@ -72,8 +73,9 @@ returns-clause-lines g c = let o = g.O.Oracle in
     let b = c.args.b in
     let bounds = c.deref.result.now in
     let d = c.in_ok-lowered.lowered.least in
-    let begin = under b c.args.limit in
-    let mid = under b (Some (value_of (values_of d) b)) in
+    let begin = HaveComeTo b a (lowered (under b c.args.limit) a c.args.first) in
+    let n = value_of (values_of d) b in
+    let mid = HaveComeTo b b (under b (Some n)) in
     let next = AsksNext a b c.args.limit p in
     let held : bounds ≡ under b c.args.limit = c.deref.ensures.value ∙ c.in_ok-held.ensures in
     let met : AreMet (values_of d) (under b c.args.limit) = subst (AreMet (values_of d)) held c.in_ok-lowered.ensures.met in
@@ -82,21 +84,23 @@ returns-clause-lines g c = let o = g.O.Oracle in
       met = met;
       least = subst (λ (hs : List Below). IsLeastUnder p hs a d) held (c.in_ok-lowered.ensures.least c.in-None.is);
     } in
-    let low : AskNoLess b bounds mid = subst (λ (hs : List Below). AskNoLess b hs mid) (sym held)
-    (no_less_under b c.args.limit (value_of (values_of d) b) (meets_under b c.args.limit d met)) in
-    let before : Continues o.knows o.log o.learnt s t (AreAsked p b begin (HasComeDown b mid)) =
-    asked_as o.knows o.log o.learnt s t p b begin (lowered bounds a c.args.first) (EndsLowered p bounds a b d None) (HasComeDown b mid)
-    (subst (λ (hs : List Below). AskNoLess b hs (lowered bounds a c.args.first)) held
-    (no_less_with b bounds (below_limit a (value_of (values_of c.args.first) a) ∷ [])))
-    (λ lines h. come_down b (lowered bounds a d) mid lines (no_less_other b bounds a d mid c.requires.apart low) h)
-    (subst (λ (x : Option Stop). Continues o.knows o.log o.learnt s t (AreAsked p b (lowered bounds a c.args.first) (EndsLowered p bounds a b d x)))
-    c.in-None.is (c.in_ok-lowered.ensures.lines b)) in
+    let low : IsUnder c.args.limit n = meets_under b c.args.limit d met in
+    let apart = c.requires.apart in
+    let before : Continues teller.knows teller.log teller.learnt s t (AreAsked p begin mid) =
+    asked_to teller.knows teller.log teller.learnt s t p begin (EndsLowered p (under b c.args.limit) a b d None) mid
+    (λ lines h. come_to b a b (lowered (under b c.args.limit) a d) (under b (Some n)) lines
+    (no_less_other b (under b c.args.limit) a d (under b (Some n)) apart (no_less_under b c.args.limit n low))
+    (λ more left. behind_under b a c.args.limit (value_of (values_of d) a) n more apart low left) h)
+    (subst (λ (hs : List Below). Continues teller.knows teller.log teller.learnt s t (AreAsked p (HaveComeTo b a (lowered hs a c.args.first))
+    (EndsLowered p hs a b d None))) held
+    (subst (λ (x : Option Stop). Continues teller.knows teller.log teller.learnt s t (AreAsked p (HaveComeTo b a (lowered bounds a c.args.first))
+    (EndsLowered p bounds a b d x))) c.in-None.is (c.in_ok-lowered.ensures.lines b))) in
     IfOk-weaker c.second_from.result
-    (λ r. Continues o.knows o.log o.learnt t e (AreAsked (o.task t) b mid (EndsNext (o.task t) (AsksSecond a b d (o.task t)) b r)))
-    (λ r. Continues o.knows o.log o.learnt s e (AreAsked p b begin (EndsNext p next b r)))
-    (λ r h. asked_to o.knows o.log o.learnt s e p b begin (EndsNext p (AsksSecond a b d p) b r) (EndsNext p next b r)
+    (λ r. Continues teller.knows teller.log teller.learnt t e (AreAsked (o.task t) mid (EndsNext (o.task t) (AsksSecond a b d (o.task t)) b r)))
+    (λ r. Continues teller.knows teller.log teller.learnt s e (AreAsked p begin (EndsNext p next b r)))
+    (λ r h. asked_to teller.knows teller.log teller.learnt s e p begin (EndsNext p (AsksSecond a b d p) b r) (EndsNext p next b r)
     (λ lines ends. next_as p (AsksSecond a b d p) next b r lines (λ bs x. inr (inr (d, least, x))) ends)
-    (asked_then o.knows o.log o.learnt s t e (o.task t) p b begin mid (λ x. EndsNext x (AsksSecond a b d x) b r) c.lower.ensures.task before h))
+    (asked_then teller.knows teller.log teller.learnt s t e (o.task t) p begin mid (λ x. EndsNext x (AsksSecond a b d x) b r) c.lower.ensures.task before h))
     c.second_from.ensures.lines
 
 pub returns-clause-next : goal.returns-clause-next
@@ -111,8 +115,8 @@ returns-clause-next g c = let o = g.O.Oracle in
     c.second_from.ensures.next
 
 pub returns-in_err-held-clause-leaves : goal.returns-in_err-held-clause-leaves
-returns-in_err-held-clause-leaves g c = let o = g.O.Oracle in
-    on_err_anyway _ _ (leaves_same (o.knows c.args.oracle.now) (o.log c.args.oracle.now) (g.met.O.Oracle.derives c.args.oracle.now)
+returns-in_err-held-clause-leaves g c = let t = g.O.LogTeller in
+    on_err_anyway _ _ (leaves_same (t.knows c.args.oracle.now) (t.log c.args.oracle.now) (g.O.LogTeller.derives c.args.oracle.now)
     (g.met.O.Oracle.one_reading c.args.oracle.now))
 
 pub returns-in_err-lowered-clause-leaves : goal.returns-in_err-lowered-clause-leaves
@@ -120,9 +124,9 @@ returns-in_err-lowered-clause-leaves g c = let o = g.O.Oracle in
     on_err_anyway _ _ c.in_err-lowered.ensures.leaves
 
 pub returns-clause-leaves : goal.returns-clause-leaves
-returns-clause-leaves g c = let o = g.O.Oracle in
-    on_err_weaker c.second_from.result _ _ (asked_later o.knows o.log o.learnt c.args.oracle.now c.lower.new.oracle c.second_from.new.oracle
-    (o.task c.lower.new.oracle) (o.task c.args.oracle.now) c.args.b (lowered c.deref.result.now c.args.a c.args.first)
+returns-clause-leaves g c = let o = g.O.Oracle in let t = g.O.LogTeller in
+    on_err_weaker c.second_from.result _ _ (asked_later t.knows t.log t.learnt c.args.oracle.now c.lower.new.oracle c.second_from.new.oracle
+    (o.task c.lower.new.oracle) (o.task c.args.oracle.now) (HaveComeTo c.args.b c.args.a (lowered c.deref.result.now c.args.a c.args.first))
     (EndsLowered (o.task c.args.oracle.now) c.deref.result.now c.args.a c.args.b c.in_ok-lowered.lowered.least c.in_ok-lowered.lowered.stop)
     (c.in_ok-lowered.ensures.lines c.args.b) (g.met.O.Oracle.within c.lower.new.oracle) c.in_ok-lowered.ensures.task)
     c.second_from.ensures.leaves

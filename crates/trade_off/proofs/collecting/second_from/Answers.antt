@@ -8,9 +8,10 @@ use Rattle.refute_log.specs.Steps.{Continues}
 use Rattle.search_least.specs.declared.oracle.Below.{Below}
 use Rattle.search_least.specs.Task.{greatest_of}
 use Rattle.trade_off.specs.declared.collecting.Next.TheVariants.{Pair, Stopped}
-use Rattle.trade_off.specs.Least.{AreBeside, lowered, LowersUnder, EndsLowered, AreAsked}
+use Rattle.trade_off.specs.Least.{AreBeside, lowered, LowersUnder, HaveComeTo, EndsLowered, AreAsked}
 use Rattle.trade_off.specs.Next.{under, AsksSecond, EndsNext}
-use Rattle.trade_off.proofs.AskLemmas.{no_less_last, no_less_alone, come_down, asked_as, stops_as}
+use Rattle.trade_off.proofs.LimitLemmas.{no_less_last, no_less_alone, behind_last, behind_alone, come_to}
+use Rattle.trade_off.proofs.AskLemmas.{asked_as, stops_as}
 use Rattle.trade_off.proofs.NextLemmas.{hold_within, hold_beside, hold_meets, second_there}
 use Rattle.refute_log.proofs.StepLemmas.{leaves_same}
 use Rattle.trade_off.proofs.collecting.second_from.Goals as goal
@@ -32,7 +33,7 @@ lower-requires-clause-met g c =
     (c.deref.ensures.value ∙ c.in_ok-held.ensures) (omega (arith, is))
 
 pub returns-in-Some-clause-lines : goal.returns-in-Some-clause-lines
-returns-in-Some-clause-lines g c = let o = g.O.Oracle in
+returns-in-Some-clause-lines g c = let o = g.O.Oracle in let t = g.O.LogTeller in
     let s = c.args.oracle.now in
     let e = c.lower.new.oracle in
     let p = o.task s in
@@ -45,15 +46,18 @@ returns-in-Some-clause-lines g c = let o = g.O.Oracle in
     let held : bounds ≡ hold c.args.a (value_of (values_of c.args.least) c.args.a) (greatest_of p c.args.a) =
     c.deref.ensures.value ∙ c.in_ok-held.ensures ∙ ap (hold c.args.a c.of-first.result) c.greatest-most.ensures
     ∙ ap (λ n. hold c.args.a n (greatest_of p c.args.a)) first in
-    asked_as o.knows o.log o.learnt s e p b (under b (Some (value_of (values_of c.args.least) b))) (lowered bounds b c.args.least)
-    (EndsLowered p bounds b b least (Some stop)) (EndsNext p (AsksSecond c.args.a b c.args.least p) b (Stopped stop)) (no_less_last b bounds c.args.least)
+    let start = lowered bounds b c.args.least in
+    let first_is = under b (Some (value_of (values_of c.args.least) b)) in
+    asked_as t.knows t.log t.learnt s e p (HaveComeTo b b first_is) (HaveComeTo b b start) (EndsLowered p bounds b b least (Some stop))
+    (EndsNext p (AsksSecond c.args.a b c.args.least p) b (Stopped stop))
+    (λ lines h. come_to b b b first_is start lines (no_less_last b bounds c.args.least) (λ more left. behind_last b bounds c.args.least more left) h)
     (λ lines h. stops_as p (LowersUnder bounds b p) (AsksSecond c.args.a b c.args.least p) b stop lines
     (λ bs x. subst (λ (hs : List Below). LowersUnder hs b p bs) held x) h)
-    (subst (λ (x : Option Stop). Continues o.knows o.log o.learnt s e (AreAsked p b (lowered bounds b c.args.least) (EndsLowered p bounds b b least x)))
+    (subst (λ (x : Option Stop). Continues t.knows t.log t.learnt s e (AreAsked p (HaveComeTo b b start) (EndsLowered p bounds b b least x)))
     c.in-Some.is (c.in_ok-lowered.ensures.lines b))
 
 pub returns-clause-lines : goal.returns-clause-lines
-returns-clause-lines g c = let o = g.O.Oracle in
+returns-clause-lines g c = let o = g.O.Oracle in let t = g.O.LogTeller in
     let s = c.args.oracle.now in
     let e = c.lower.new.oracle in
     let p = o.task s in
@@ -65,10 +69,13 @@ returns-clause-lines g c = let o = g.O.Oracle in
     let second : m ≡ value_of (values_of least) b = c.of.ensures ∙ ap (λ (v : Values). value_of v b) c.values-in-None.ensures in
     let beside : AreBeside b bounds = hold_beside b c.args.a c.of-first.result c.greatest-most.result bounds
     (c.deref.ensures.value ∙ c.in_ok-held.ensures) c.requires.apart in
-    asked_as o.knows o.log o.learnt s e p b (under b (Some (value_of (values_of c.args.least) b))) first (EndsLowered p bounds b b least None)
-    (EndsNext p (AsksSecond c.args.a b c.args.least p) b (Pair c.of-first.result m)) (no_less_last b bounds c.args.least)
-    (λ lines h. come_down b (lowered bounds b least) (under b (Some m)) lines (no_less_alone b bounds least m second beside) h)
-    (subst (λ (x : Option Stop). Continues o.knows o.log o.learnt s e (AreAsked p b first (EndsLowered p bounds b b least x))) c.in-None.is
+    let first_is = under b (Some (value_of (values_of c.args.least) b)) in
+    asked_as t.knows t.log t.learnt s e p (HaveComeTo b b first_is) (HaveComeTo b b first) (EndsLowered p bounds b b least None)
+    (EndsNext p (AsksSecond c.args.a b c.args.least p) b (Pair c.of-first.result m))
+    (λ lines h. come_to b b b first_is first lines (no_less_last b bounds c.args.least) (λ more left. behind_last b bounds c.args.least more left) h)
+    (λ lines h. come_to b b b (lowered bounds b least) (under b (Some m)) lines (no_less_alone b bounds least m second beside)
+    (λ more left. behind_alone b bounds least m more second beside left) h)
+    (subst (λ (x : Option Stop). Continues t.knows t.log t.learnt s e (AreAsked p (HaveComeTo b b first) (EndsLowered p bounds b b least x))) c.in-None.is
     (c.in_ok-lowered.ensures.lines b))
 
 pub returns-clause-next : goal.returns-clause-next
@@ -83,8 +90,8 @@ returns-clause-next g c = let o = g.O.Oracle in
     c.in_ok-lowered.ensures.lawful c.in_ok-lowered.ensures.met c.in_ok-lowered.ensures.no_more (c.in_ok-lowered.ensures.least c.in-None.is)
 
 pub returns-in_err-held-clause-leaves : goal.returns-in_err-held-clause-leaves
-returns-in_err-held-clause-leaves g c = let o = g.O.Oracle in
-    on_err_anyway _ _ (leaves_same (o.knows c.args.oracle.now) (o.log c.args.oracle.now) (g.met.O.Oracle.derives c.args.oracle.now)
+returns-in_err-held-clause-leaves g c = let t = g.O.LogTeller in
+    on_err_anyway _ _ (leaves_same (t.knows c.args.oracle.now) (t.log c.args.oracle.now) (g.O.LogTeller.derives c.args.oracle.now)
     (g.met.O.Oracle.one_reading c.args.oracle.now))
 
 pub returns-in_err-lowered-clause-leaves : goal.returns-in_err-lowered-clause-leaves

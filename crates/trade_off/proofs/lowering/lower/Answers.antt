@@ -8,13 +8,13 @@ use Rattle.search_least.proofs.RunLemmas.{built_all, found_less, found_lawful}
 use Rattle.refute_log.proofs.StepLemmas.{known_after}
 use Rattle.trade_off.proofs.AskLemmas.{refuted_none, least_from, least_zero, found_meets, once_with, asked_none, lowers_found, lowers_refuted}
 use Rattle.trade_off.proofs.AskLemmas.{lowers_stopped, lowers_down, laws_back}
-use Rattle.trade_off.specs.Least.{lowered, HasComeDown}
+use Rattle.trade_off.specs.Least.{lowered, HaveComeTo}
 use Rattle.trade_off.proofs.LeftLemmas.{asked_here, asked_later}
 use Rattle.trade_off.proofs.lowering.lower.Goals as goal
 use Rattle.outside_io.proofs.Results.{on_err_anyway}
 
 pub loop-value-init : goal.loop-value-init
-loop-value-init g c = let o = g.O.Oracle in
+loop-value-init g c = let o = g.O.Oracle in let t = g.O.LogTeller in
     let p = o.task c.args.oracle.now in
     let is : c.of-value.result ≡ value_of (values_of c.args.first) c.args.c = c.of-value.ensures ∙ ap (λ v. value_of v c.args.c) c.values.ensures in
     let le : value_of (values_of c.args.first) c.args.c ≤ greatest_of p c.args.c = value-le-limit p.graph p.above p.grid c.args.first c.requires.lawful
@@ -31,7 +31,7 @@ loop-value-init g c = let o = g.O.Oracle in
       no_more = omega (arith, is);
       later = g.met.O.Oracle.later_same c.args.oracle.now;
       faults = omega arith;
-      lines = λ m. asked_none o.knows o.log o.learnt c.args.oracle.now p m (lowered c.args.held.now c.args.c c.args.first);
+      lines = λ m. asked_none t.knows t.log t.learnt c.args.oracle.now p (HaveComeTo m c.args.c (lowered c.args.held.now c.args.c c.args.first));
     }
 
 pub ask-requires-clause-there : goal.ask-requires-clause-there
@@ -54,7 +54,7 @@ loop-value-smaller g c = let o = g.O.Oracle in
     omega (arith, is, lt)
 
 pub loop-value-preserved : goal.loop-value-preserved
-loop-value-preserved g c = let o = g.O.Oracle in
+loop-value-preserved g c = let o = g.O.Oracle in let t = g.O.LogTeller in
     let a = c.args.oracle.now in
     let b = c.loop-value.oracle in
     let e = c.ask.new.self in
@@ -68,7 +68,7 @@ loop-value-preserved g c = let o = g.O.Oracle in
       task = c.in_ok-d.ensures.task ∙ c.loop-value.invariant.task;
       caps = c.in_ok-d.ensures.caps ∙ c.loop-value.invariant.caps;
       ready = c.in_ok-d.ensures.ready;
-      known = known_after o.knows o.log o.learnt b e (λ lines more. IsReply (o.task b) lines c.deref.result.now c.in_ok-d.field-0 more)
+      known = known_after t.knows t.log t.learnt b e (λ lines more. IsReply (o.task b) lines c.deref.result.now c.in_ok-d.field-0 more)
           c.loop-value.invariant.known c.in_ok-d.ensures.lines;
       lawful = found_lawful (o.task b) (o.task a) c.deref.result.now c.in-Found.d c.in_ok-d.field-0 c.loop-value.invariant.task c.in-Found.is
           c.in_ok-d.ensures.right;
@@ -78,26 +78,27 @@ loop-value-preserved g c = let o = g.O.Oracle in
       no_more = (let le = c.loop-value.invariant.no_more in omega (arith, is, lt, le));
       later = g.met.O.Oracle.later_more a b e c.loop-value.invariant.later c.in_ok-d.ensures.later;
       faults = (let m = c.loop-value.invariant.faults in let n = c.in_ok-d.ensures.faults in omega arith);
-      lines = λ m. lowers_found o.knows o.log o.learnt a b e (o.task b) (o.task a) m c.args.held.now c.args.c c.args.first c.loop-value.least c.in-Found.d
+      lines = λ m. lowers_found t.knows t.log t.learnt a b e (o.task b) (o.task a) m c.args.held.now c.args.c c.args.first c.loop-value.least c.in-Found.d
           c.deref.result.now c.in_ok-d.field-0
           (record {
             same = c.loop-value.invariant.task;
             once = once_with c.args.held.now c.deref.result.now c.args.c c.loop-value.value bounds c.requires.beside;
             right = c.in_ok-d.ensures.right;
-          }) (bounds ∙ ap (λ n. c.args.held.now ++ below_limit c.args.c n ∷ []) c.loop-value.invariant.value) c.in-Found.is
+            apart = g.met.O.Oracle.apart e;
+          }) (bounds ∙ ap (λ n. c.args.held.now ++ below_limit c.args.c n ∷ []) c.loop-value.invariant.value) c.in-Found.is c.requires.beside
           (let value = c.loop-value.invariant.value in omega (arith, is, lt, value)) (c.loop-value.invariant.lines m) c.in_ok-d.ensures.lines;
     }
 
 pub returns-in-Refuted-clause-known : goal.returns-in-Refuted-clause-known
-returns-in-Refuted-clause-known g c = let o = g.O.Oracle in
+returns-in-Refuted-clause-known g c = let o = g.O.Oracle in let t = g.O.LogTeller in
     let b = c.loop-value.oracle in
-    known_after o.knows o.log o.learnt b c.ask.new.self (λ lines more. IsReply (o.task b) lines c.deref.result.now c.in_ok-d.field-0 more)
+    known_after t.knows t.log t.learnt b c.ask.new.self (λ lines more. IsReply (o.task b) lines c.deref.result.now c.in_ok-d.field-0 more)
     c.loop-value.invariant.known c.in_ok-d.ensures.lines
 
 pub returns-in-Stopped-clause-known : goal.returns-in-Stopped-clause-known
-returns-in-Stopped-clause-known g c = let o = g.O.Oracle in
+returns-in-Stopped-clause-known g c = let o = g.O.Oracle in let t = g.O.LogTeller in
     let b = c.loop-value.oracle in
-    known_after o.knows o.log o.learnt b c.ask.new.self (λ lines more. IsReply (o.task b) lines c.deref.result.now c.in_ok-d.field-0 more)
+    known_after t.knows t.log t.learnt b c.ask.new.self (λ lines more. IsReply (o.task b) lines c.deref.result.now c.in_ok-d.field-0 more)
     c.loop-value.invariant.known c.in_ok-d.ensures.lines
 
 pub returns-in-Refuted-clause-no_more : goal.returns-in-Refuted-clause-no_more
@@ -110,14 +111,14 @@ pub returns-clause-no_more : goal.returns-clause-no_more
 returns-clause-no_more g c = (let is = c.loop-value.invariant.value in let le = c.loop-value.invariant.no_more in omega (arith, is, le))
 
 pub returns-in-Refuted-clause-least : goal.returns-in-Refuted-clause-least
-returns-in-Refuted-clause-least g c = let o = g.O.Oracle in
+returns-in-Refuted-clause-least g c = let o = g.O.Oracle in let t = g.O.LogTeller in
     let b = c.loop-value.oracle in
     let e = c.ask.new.self in
     λ none. least_from (o.task c.args.oracle.now) c.args.held.now c.deref.result.now c.args.c c.loop-value.value c.loop-value.least
     (c.deref.ensures.value ∙ c.in_ok-bounds.ensures) c.loop-value.invariant.value
-    (refuted_none o.knows o.log o.learnt b e (o.task b) (o.task c.args.oracle.now) c.deref.result.now c.in_ok-d.field-0 c.loop-value.invariant.task
+    (refuted_none t.knows t.log t.learnt b e (o.task b) (o.task c.args.oracle.now) c.deref.result.now c.in_ok-d.field-0 c.loop-value.invariant.task
     c.in-Refuted.is c.loop-value.invariant.known
-    (laws_back o.knows e (o.task e) (o.task b) c.in_ok-d.ensures.task (record { covers = g.met.O.Oracle.covers e; derives = g.met.O.Oracle.derives e }))
+    (laws_back t.knows e (o.task e) (o.task b) c.in_ok-d.ensures.task (record { covers = g.met.O.Oracle.covers e; derives = g.O.LogTeller.derives e }))
     c.in_ok-d.ensures.lines)
 
 pub returns-in-Stopped-clause-least : goal.returns-in-Stopped-clause-least
@@ -128,48 +129,52 @@ returns-clause-least g c = let o = g.O.Oracle in
     λ none. least_zero (o.task c.args.oracle.now) c.args.held.now c.args.c c.loop-value.value c.loop-value.least c.loop-value.invariant.value (omega arith)
 
 pub returns-in-Refuted-clause-lines : goal.returns-in-Refuted-clause-lines
-returns-in-Refuted-clause-lines g c = let o = g.O.Oracle in
+returns-in-Refuted-clause-lines g c = let o = g.O.Oracle in let t = g.O.LogTeller in
     let a = c.args.oracle.now in
     let b = c.loop-value.oracle in
     let bounds = c.deref.ensures.value ∙ c.in_ok-bounds.ensures in
-    λ m. lowers_refuted o.knows o.log o.learnt a b c.ask.new.self (o.task b) (o.task a) m c.args.held.now c.args.c c.args.first c.loop-value.least
+    λ m. lowers_refuted t.knows t.log t.learnt a b c.ask.new.self (o.task b) (o.task a) m c.args.held.now c.args.c c.args.first c.loop-value.least
     c.deref.result.now c.in_ok-d.field-0
     (record {
       same = c.loop-value.invariant.task;
       once = once_with c.args.held.now c.deref.result.now c.args.c c.loop-value.value bounds c.requires.beside;
       right = c.in_ok-d.ensures.right;
+      apart = g.met.O.Oracle.apart c.ask.new.self;
     }) (bounds ∙ ap (λ n. c.args.held.now ++ below_limit c.args.c n ∷ []) c.loop-value.invariant.value) c.in-Refuted.is (c.loop-value.invariant.lines m)
     c.in_ok-d.ensures.lines
 
 pub returns-in-Stopped-clause-lines : goal.returns-in-Stopped-clause-lines
-returns-in-Stopped-clause-lines g c = let o = g.O.Oracle in
+returns-in-Stopped-clause-lines g c = let o = g.O.Oracle in let t = g.O.LogTeller in
     let a = c.args.oracle.now in
     let b = c.loop-value.oracle in
     let bounds = c.deref.ensures.value ∙ c.in_ok-bounds.ensures in
-    λ m. lowers_stopped o.knows o.log o.learnt a b c.ask.new.self (o.task b) (o.task a) m c.args.held.now c.args.c c.args.first c.loop-value.least
+    λ m. lowers_stopped t.knows t.log t.learnt a b c.ask.new.self (o.task b) (o.task a) m c.args.held.now c.args.c c.args.first c.loop-value.least
     c.deref.result.now c.in_ok-d.field-0 c.in-Stopped.stop
     (record {
       same = c.loop-value.invariant.task;
       once = once_with c.args.held.now c.deref.result.now c.args.c c.loop-value.value bounds c.requires.beside;
       right = c.in_ok-d.ensures.right;
+      apart = g.met.O.Oracle.apart c.ask.new.self;
     }) (bounds ∙ ap (λ n. c.args.held.now ++ below_limit c.args.c n ∷ []) c.loop-value.invariant.value) c.in-Stopped.is c.loop-value.invariant.lawful
     c.loop-value.invariant.met (c.loop-value.invariant.lines m) c.in_ok-d.ensures.lines
 
 pub returns-clause-lines : goal.returns-clause-lines
-returns-clause-lines g c = let o = g.O.Oracle in
-    λ m. lowers_down o.knows o.log o.learnt c.args.oracle.now c.loop-value.oracle (o.task c.args.oracle.now) m c.args.held.now c.args.c c.args.first
+returns-clause-lines g c = let o = g.O.Oracle in let t = g.O.LogTeller in
+    λ m. lowers_down t.knows t.log t.learnt c.args.oracle.now c.loop-value.oracle (o.task c.args.oracle.now) m c.args.held.now c.args.c c.args.first
     c.loop-value.least (c.loop-value.invariant.lines m)
 
 pub returns-in_err-bounds-clause-leaves : goal.returns-in_err-bounds-clause-leaves
-returns-in_err-bounds-clause-leaves g c = let o = g.O.Oracle in
-    on_err_anyway _ _ (asked_here o.knows o.log o.learnt c.args.oracle.now c.loop-value.oracle (o.task c.loop-value.oracle) (o.task c.args.oracle.now) c.args.c
-    (lowered c.args.held.now c.args.c c.args.first) (HasComeDown c.args.c (lowered c.args.held.now c.args.c c.loop-value.least))
+returns-in_err-bounds-clause-leaves g c = let o = g.O.Oracle in let t = g.O.LogTeller in
+    on_err_anyway _ _ (asked_here t.knows t.log t.learnt c.args.oracle.now c.loop-value.oracle (o.task c.loop-value.oracle) (o.task c.args.oracle.now)
+    (HaveComeTo c.args.c c.args.c (lowered c.args.held.now c.args.c c.args.first))
+    (HaveComeTo c.args.c c.args.c (lowered c.args.held.now c.args.c c.loop-value.least))
     (c.loop-value.invariant.lines c.args.c) (g.met.O.Oracle.within c.loop-value.oracle) c.loop-value.invariant.task
-    (g.met.O.Oracle.derives c.loop-value.oracle) (g.met.O.Oracle.one_reading c.loop-value.oracle))
+    (g.O.LogTeller.derives c.loop-value.oracle) (g.met.O.Oracle.one_reading c.loop-value.oracle))
 
 pub returns-in_err-d-clause-leaves : goal.returns-in_err-d-clause-leaves
-returns-in_err-d-clause-leaves g c = let o = g.O.Oracle in
-    on_err_anyway _ _ (asked_later o.knows o.log o.learnt c.args.oracle.now c.loop-value.oracle c.ask.new.self (o.task c.loop-value.oracle)
-    (o.task c.args.oracle.now) c.args.c
-    (lowered c.args.held.now c.args.c c.args.first) (HasComeDown c.args.c (lowered c.args.held.now c.args.c c.loop-value.least))
+returns-in_err-d-clause-leaves g c = let o = g.O.Oracle in let t = g.O.LogTeller in
+    on_err_anyway _ _ (asked_later t.knows t.log t.learnt c.args.oracle.now c.loop-value.oracle c.ask.new.self (o.task c.loop-value.oracle)
+    (o.task c.args.oracle.now)
+    (HaveComeTo c.args.c c.args.c (lowered c.args.held.now c.args.c c.args.first))
+    (HaveComeTo c.args.c c.args.c (lowered c.args.held.now c.args.c c.loop-value.least))
     (c.loop-value.invariant.lines c.args.c) (g.met.O.Oracle.within c.loop-value.oracle) c.loop-value.invariant.task c.in_err-d.ensures.leaves)
