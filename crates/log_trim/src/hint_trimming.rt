@@ -31,6 +31,7 @@ struct Hinting {
 /// The greatest variable of the literals, or 0 where there is none.
 fn greatest(lits: &[Lit]) -> u32
     ensures there { AreThere result lits.now }
+    ensures least { (n : ℕ) → AreThere n lits.now → result ≤ n }
     ensures limit { result ≤ LAST_VAR }
 {
     let mut most = 0;
@@ -43,6 +44,7 @@ fn greatest(lits: &[Lit]) -> u32
 /// The greatest variable of the line's clause, or 0 where there is none.
 fn greatest_in(line: &LogLine) -> u32
     ensures within { IsLineWithin result line.now }
+    ensures least { (n : ℕ) → IsLineWithin n line.now → result ≤ n }
     ensures limit { result ≤ LAST_VAR }
 {
     match line {
@@ -54,8 +56,9 @@ fn greatest_in(line: &LogLine) -> u32
 }
 
 /// The greatest variable of the lines' clauses, or 0 where there is none.
-fn greatest_of(lines: &LineList) -> u32
+pub(crate) fn greatest_of(lines: &LineList) -> u32
     ensures within { All (IsLineWithin result) lines.now }
+    ensures least { (n : ℕ) → All (IsLineWithin n) lines.now → result ≤ n }
     ensures limit { result ≤ LAST_VAR }
 {
     let mut most = 0;

@@ -14,7 +14,9 @@
 
 mod assumptions;
 mod completing;
+mod fault;
 mod finder;
+mod hint_room;
 mod hint_trimming;
 mod laws;
 mod needs;
@@ -23,6 +25,7 @@ mod shortening;
 mod trimming;
 mod wanting;
 
+pub use fault::TrimFault;
 pub use hint_trimming::{count_given, trim};
 pub use laws::trimmed_lines_certify;
 pub use trimming::{TrimmedLog, trim_log};

@@ -22,7 +22,7 @@ use Rattle.run_check.specs.Checked.{IsSheetAnswer}
 use Rattle.run_check.specs.CertifiedSheet.{CertifiesSheet}
 use Rattle.run_check.proofs.CheckedLemmas.{certified_whole}
 use Rattle.run_check.specs.declared.trimming.Finding.{Finding}
-use Rattle.run_check.specs.declared.trimming.Finding.TheVariants.{Answered, Left}
+use Rattle.run_check.specs.declared.trimming.Finding.TheVariants.{Answered, Left, PastLimits}
 use Rattle.run_check.specs.Files.{AreFiles}
 use Rattle.run_check.specs.Trimmed.{LeavesLines, TellsLeft, AreTrimmed, IsTrimAnswer}
 use Rattle.run_check.proofs.FilesLemmas.{read_files}
@@ -70,11 +70,22 @@ pub sheet_finding : (g : Graph) (o : EdgeOrder) (sheet log : List ℕ) (said : S
     IsClaimFinding g o said log f → IsSheetFinding g o sheet log f
 sheet_finding g o sheet log said (Answered reply) told h = (inl (record { said = said; is_text = told; answer = h.0 }), h.1)
 sheet_finding g o sheet log said (Left r) told h = record { said = said; certifies = h.0 sheet told; left = h.1 }
+sheet_finding g o sheet log said PastLimits told h = record { said = said; is_text = told; claim = h }
 
 pub file_finding : (file sheet log : List ℕ) (g : Graph) (o : EdgeOrder) (f : Finding) → HasStation file g o → IsSheetFinding g o sheet log f →
     IsFinding file sheet log f
 file_finding file sheet log g o (Answered reply) has h = (inl (g, o, has, h.0), h.1)
 file_finding file sheet log g o (Left r) has h = record { graph = g; order = o; said = h.said; station = has; certifies = h.certifies; left = h.left }
+file_finding file sheet log g o PastLimits has h = record {
+  graph = g;
+  order = o;
+  said = h.said;
+  station = has;
+  is_text = h.is_text;
+  text = h.claim.text;
+  checked = h.claim.checked;
+  passes = h.claim.passes;
+}
 
 pub finding_of : (file sheet log b s l : List ℕ) (f e : Finding) → b ≡ file → s ≡ sheet → l ≡ log → f ≡ e → IsFinding b s l f → IsFinding file sheet log e
 finding_of file sheet log b s l f e first second third is h =
