@@ -1,9 +1,10 @@
 // Whether there is room to find hints in a log.
-ghost use Rattle.std.specs.Prelude.{◌≤◌, ◌<◌, ◌+◌, ◌≡◌, MatchBool, MatchOption};
+ghost use Rattle.std.specs.Prelude.{◌≤◌, ◌<◌, ◌+◌, ◌≡◌, IfOk, IfErr, MatchBool, MatchOption};
 ghost use Rattle.std.specs.List.{sum_by};
 ghost use Rattle.cnf_core.specs.declared.limits.TheConstants.{ROOM};
 ghost use Rattle.log_trim.specs.HintRoom.{line_words, AllowHints};
 
+use crate::fault::TrimFault;
 use crate::hint_trimming::greatest_of;
 use cnf_core::{ROOM, VARS};
 use refute_log::{LineList, LogLine};
@@ -36,9 +37,14 @@ fn have_words(lines: &LineList) -> bool
     true
 }
 
-/// Whether hints are found in lines of so many variables and words.
-pub(crate) fn allow_hints(lines: &LineList) -> bool
-    ensures { MatchBool result (AllowHints lines.now) (AllowHints lines.now → ⊥) }
+/// Ends with `Limits` where hints aren't found in lines of so many variables or words.
+pub(crate) fn check_room(lines: &LineList) -> Result<(), TrimFault>
+    ensures within { IfOk result (λ _. AllowHints lines.now) }
+    ensures fault { IfErr result (λ e. (e ≡ TrimFault.Limits) × (AllowHints lines.now → ⊥)) }
 {
-    greatest_of(lines) <= VARS - 2 && have_words(lines)
+    if greatest_of(lines) <= VARS - 2 && have_words(lines) {
+        Ok(())
+    } else {
+        Err(TrimFault::Limits)
+    }
 }

@@ -15,7 +15,7 @@ ghost use Rattle.log_trim.specs.Shown.{IsReadied, IsKeptOf};
 
 use crate::completing::{fit_by, may_lack_all};
 use crate::fault::TrimFault;
-use crate::hint_room::allow_hints;
+use crate::hint_room::check_room;
 use crate::reading::{bounds_of, count_learnt, lines_in};
 use crate::trim;
 use crate::wanting::wanted_of;
@@ -86,9 +86,7 @@ fn kept_of(
     if !fit_for(alloc, g, t, grid, order, caps, lines, wanted)? {
         return Ok(None);
     }
-    if !allow_hints(lines) {
-        return Err(TrimFault::Limits);
-    }
+    check_room(lines)?;
     Ok(trim(alloc, lines, wanted)?)
 }
 

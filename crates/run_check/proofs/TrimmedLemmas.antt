@@ -1,6 +1,6 @@
 -- What the bytes of three files give to trim.
-use Rattle.std.proofs.Common.{◌≡◌, ◌≢◌, ℕ, false, List, sym, ◌∙◌, subst, inl, inr}
-use Rattle.std.specs.Prelude.{Option, IfSome, MatchOption}
+use Rattle.std.proofs.Common.{◌≡◌, ◌≢◌, ℕ, false, List, sym, ◌∙◌, ap, subst, inl, inr}
+use Rattle.std.specs.Prelude.{Option, Err, IfSome, IsErrOf, MatchOption}
 use Rattle.outside_io.specs.Contents.{FilesAt, WhereTold, SameFiles}
 use Rattle.plan_core.specs.Graph.{Graph}
 use Rattle.plan_core.specs.Lawful.{Lawful}
@@ -12,6 +12,9 @@ use Rattle.log_check.specs.declared.claim.Claim.{Claim}
 use Rattle.log_check.specs.Judged.{CertifiesWhole}
 use Rattle.log_trim.specs.declared.trimming.TrimmedLog.{TrimmedLog}
 use Rattle.log_trim.specs.TrimmedLog.{IsTrimmedLog}
+use Rattle.log_trim.specs.declared.fault.TrimFault.{TrimFault}
+use Rattle.log_trim.specs.declared.fault.TrimFault.TheVariants.{Limits}
+use Rattle.log_trim.specs.HintRoom.{PassesHints}
 use Rattle.run_input.specs.declared.status.Status.{Status}
 use Rattle.run_input.specs.declared.status.Status.TheVariants.{Done}
 use Rattle.run_input.specs.declared.reply.Reply.{Reply}
@@ -42,6 +45,12 @@ pub trimmed_for : (g : Graph) (o : EdgeOrder) (said inside : Sheet) (claim : Cla
     IsTrimmedFor g o said (claim_of said.order said.found said.ending) log r
 trimmed_for g o said inside claim log r same is h = subst (λ (k : Claim). IsTrimmedFor g o said k log r) is
     (subst (λ (s : Sheet). IsTrimmedFor g o s claim log r) same h)
+
+-- a log past the limits is so for the sheet whose parts these are
+pub passes_for : {T : Type 0} (g : Graph) (o : EdgeOrder) (said inside : Sheet) (log : List ℕ) (fault : TrimFault) → inside ≡ said → fault ≡ Limits →
+    (IsErrOf {T = T} (Err fault) Limits → PassesHints (layout g o inside.grid) inside.order log) → PassesHints (layout g o said.grid) said.order log
+passes_for g o said inside log fault same is limits = subst (λ (s : Sheet). PassesHints (layout g o s.grid) s.order log) same
+    (limits (ap (λ (e : TrimFault). Err e) is))
 
 -- check ends with another status than 0 where the log doesn't certify the claim
 pub lacking_not_done : (g : Graph) (o : EdgeOrder) (said : Sheet) (log : List ℕ) (status : Status) (text : List ℕ) →

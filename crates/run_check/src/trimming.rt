@@ -201,8 +201,8 @@ pub fn trim<F: Files>(
     match read_all(alloc, input, sheet, log, files) {
         Ok(texts) => match judge(alloc, &texts.bytes, &texts.said, &texts.lines)? {
             Finding::Answered(reply) => Ok(reply),
-            Finding::Left(left) => write_left(alloc, &left, hints, files),
             Finding::PastLimits => Err(TrimCut::Limits),
+            Finding::Left(left) => write_left(alloc, &left, hints, files),
         },
         Err(InputRefusal::Fault(fault)) => Ok(fault_reply(alloc, fault)?),
         Err(InputRefusal::Memory) => Err(TrimCut::Memory),
