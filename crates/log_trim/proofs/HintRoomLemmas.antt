@@ -7,7 +7,7 @@ use Rattle.std.proofs.lemmas.Option.{slice_get_within, get_or_from_slice_get}
 use Rattle.log_check.specs.Expectation.{Expectation}
 use Rattle.refute_log.specs.declared.line.LogLine.{LogLine}
 use Rattle.refute_log.specs.Told.{Lines}
-use Rattle.log_trim.specs.HintRoom.{line_words, AllowHints, PassHints}
+use Rattle.log_trim.specs.HintRoom.{line_words, AllowHints, LinesPassLimits}
 use Rattle.log_trim.specs.Shown.{MayBeTrimmed}
 
 pub words_more : (whole room left : ℕ) (lines : Lines) (i : ℕ) (line : LogLine) → slice_get lines i ≡ Some line →
@@ -27,7 +27,7 @@ words_missed whole room lines i line e is over =
     omega (arith, is, over, same, part)
 
 -- lines that were completed, or left as they are, pass where these do
-pub passing : (e : Expectation) (old : Lines) (wanted : List ℕ) (new : Lines) → MayBeTrimmed e old wanted new → (AllowHints new → ⊥) → PassHints e old
+pub passing : (e : Expectation) (old : Lines) (wanted : List ℕ) (new : Lines) → MayBeTrimmed e old wanted new → (AllowHints new → ⊥) → LinesPassLimits e old
 passing e old wanted new may passes = record {
   tried = new;
   which = elim may.completed [

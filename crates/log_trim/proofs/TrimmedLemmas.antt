@@ -30,7 +30,7 @@ use Rattle.log_trim.specs.Trimmed.{AreRefutedLines}
 use Rattle.log_trim.specs.declared.trimming.TrimmedLog.{TrimmedLog}
 use Rattle.log_trim.specs.Wanted.{ShowsLeast, AreWanted}
 use Rattle.log_trim.specs.TrimmedLog.{IsSpelledLog, IsTrimmedLog}
-use Rattle.log_trim.specs.HintRoom.{PassHints, PassesHints}
+use Rattle.log_trim.specs.HintRoom.{LinesPassLimits, LogPassesLimits}
 use Rattle.log_trim.specs.Shown.{IsSomeLog, IsKeptOf}
 use Rattle.log_trim.proofs.OwnLog.{own_bounds}
 
@@ -165,8 +165,8 @@ trimmed_log y order claim log greatest r lines wanted is same counted are kept c
 -- ---- past the limits
 
 pub passing_log : (y : Layout) (order : List Criterion) (log : List ℕ) (greatest counted_of : Criterion → ℕ) (lines : Lines) → IsSpelledLog log lines →
-    ((c : Criterion) → greatest c ≡ limit_of y.graph y.grid c) → AreCounted greatest log counted_of → PassHints (expectation y order counted_of) lines →
-    PassesHints y order log
+    ((c : Criterion) → greatest c ≡ limit_of y.graph y.grid c) → AreCounted greatest log counted_of → LinesPassLimits (expectation y order counted_of) lines →
+    LogPassesLimits y order log
 passing_log y order log greatest counted_of lines is same counted pass = record {
   lines = lines;
   is_log = is;

@@ -5,7 +5,8 @@ ghost use Rattle.cnf_core.specs.Clause.{AreThere, AreDistinct};
 ghost use Rattle.refute_log.specs.Log.{Derives, given};
 ghost use Rattle.refute_check.specs.Timely.{AreTimely};
 ghost use Rattle.log_trim.specs.Trimmed.{IsTrimmed, AreRefutedLines};
-ghost use Rattle.log_trim.specs.Hinting.{IsHinting, IsLineWithin};
+ghost use Rattle.log_trim.specs.HintRoom.{IsLineWithin};
+ghost use Rattle.log_trim.specs.Hinting.{IsHinting};
 
 use crate::finder::Finder;
 use crate::shortening::shorten;

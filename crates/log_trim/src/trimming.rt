@@ -10,7 +10,7 @@ ghost use Rattle.log_check.specs.Claimed.{IsClaimOf};
 ghost use Rattle.log_check.specs.Judged.{CertifiesWhole};
 ghost use Rattle.log_trim.specs.Trimmed.{AreRefutedLines};
 ghost use Rattle.log_trim.specs.TrimmedLog.{IsTrimmedLog};
-ghost use Rattle.log_trim.specs.HintRoom.{PassHints, PassesHints};
+ghost use Rattle.log_trim.specs.HintRoom.{LinesPassLimits, LogPassesLimits};
 ghost use Rattle.log_trim.specs.Shown.{IsReadied, IsKeptOf};
 
 use crate::completing::{fit_by, may_lack_all};
@@ -81,7 +81,7 @@ fn kept_of(
     ensures kept { let e = expectation (layout g.now t.now grid.now) order.now (value_of caps.now) in
         IfOk result (λ r. MatchOption r (AreAccepted e lines.old → ⊥) (IsKeptOf e lines.old wanted.now)) }
     ensures limits { let e = expectation (layout g.now t.now grid.now) order.now (value_of caps.now) in
-        IsErrOf result TrimFault.Limits → PassHints e lines.old }
+        IsErrOf result TrimFault.Limits → LinesPassLimits e lines.old }
 {
     if !fit_for(alloc, g, t, grid, order, caps, lines, wanted)? {
         return Ok(None);
@@ -109,7 +109,7 @@ pub fn trim_log(
     ensures left { let y = layout g.now t.now grid.now in
         IfOk result (λ r. MatchOption r (CertifiesWhole y order.now claim.now log.now → ⊥)
         (λ left. CertifiesWhole y order.now claim.now log.now × IsTrimmedLog y order.now claim.now log.now left)) }
-    ensures limits { IsErrOf result TrimFault.Limits → PassesHints (layout g.now t.now grid.now) order.now log.now }
+    ensures limits { IsErrOf result TrimFault.Limits → LogPassesLimits (layout g.now t.now grid.now) order.now log.now }
 {
     let greatest = greatest_values(g, grid);
     let caps = caps_in(alloc, log, &greatest)?;

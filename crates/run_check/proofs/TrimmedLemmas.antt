@@ -14,7 +14,7 @@ use Rattle.log_trim.specs.declared.trimming.TrimmedLog.{TrimmedLog}
 use Rattle.log_trim.specs.TrimmedLog.{IsTrimmedLog}
 use Rattle.log_trim.specs.declared.fault.TrimFault.{TrimFault}
 use Rattle.log_trim.specs.declared.fault.TrimFault.TheVariants.{Limits}
-use Rattle.log_trim.specs.HintRoom.{PassesHints}
+use Rattle.log_trim.specs.HintRoom.{LogPassesLimits}
 use Rattle.run_input.specs.declared.status.Status.{Status}
 use Rattle.run_input.specs.declared.status.Status.TheVariants.{Done}
 use Rattle.run_input.specs.declared.reply.Reply.{Reply}
@@ -48,8 +48,8 @@ trimmed_for g o said inside claim log r same is h = subst (λ (k : Claim). IsTri
 
 -- a log past the limits is so for the sheet whose parts these are
 pub passes_for : {T : Type 0} (g : Graph) (o : EdgeOrder) (said inside : Sheet) (log : List ℕ) (fault : TrimFault) → inside ≡ said → fault ≡ Limits →
-    (IsErrOf {T = T} (Err fault) Limits → PassesHints (layout g o inside.grid) inside.order log) → PassesHints (layout g o said.grid) said.order log
-passes_for g o said inside log fault same is limits = subst (λ (s : Sheet). PassesHints (layout g o s.grid) s.order log) same
+    (IsErrOf {T = T} (Err fault) Limits → LogPassesLimits (layout g o inside.grid) inside.order log) → LogPassesLimits (layout g o said.grid) said.order log
+passes_for g o said inside log fault same is limits = subst (λ (s : Sheet). LogPassesLimits (layout g o s.grid) s.order log) same
     (limits (ap (λ (e : TrimFault). Err e) is))
 
 -- check ends with another status than 0 where the log doesn't certify the claim

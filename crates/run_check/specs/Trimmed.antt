@@ -8,7 +8,7 @@ use Rattle.plan_text.specs.SheetFaults.{IsSheetText}
 use Rattle.drawing_cnf.specs.Layout.{layout}
 use Rattle.log_trim.specs.declared.trimming.TrimmedLog.{TrimmedLog}
 use Rattle.log_trim.specs.TrimmedLog.{IsTrimmedLog}
-use Rattle.log_trim.specs.HintRoom.{PassesHints}
+use Rattle.log_trim.specs.HintRoom.{LogPassesLimits}
 use Rattle.run_input.specs.declared.status.Status.{Status}
 use Rattle.run_input.specs.declared.status.Status.TheVariants.{Done}
 use Rattle.run_input.specs.Input.{HasStation}
@@ -66,7 +66,7 @@ HasReadCertified input sheet log met = (r : TrimmedLog) × HasReadLeft input she
 
 -- the bytes are those of a file with a station, of a sheet and of a log to which check answers 0, and the log has more
 -- variables or words than hints are found in
-pub record PassesLines (file sheet log : List ℕ) : Type 0 where
+pub record FilesPassLimits (file sheet log : List ℕ) : Type 0 where
   pub graph : Graph
   pub order : EdgeOrder
   pub said : Sheet
@@ -74,7 +74,7 @@ pub record PassesLines (file sheet log : List ℕ) : Type 0 where
   pub is_text : IsSheetText graph false sheet said
   pub text : List ℕ
   pub checked : IsSheetAnswer graph order said log Done text
-  pub passes : PassesHints (layout graph order said.grid) said.order log
+  pub passes : LogPassesLimits (layout graph order said.grid) said.order log
 
 -- the three files were read, and no other, and they have such bytes
 pub record HasReadPastLimits (input sheet log : List ℕ) (met : Met) : Type 0 where
@@ -83,7 +83,7 @@ pub record HasReadPastLimits (input sheet log : List ℕ) (met : Met) : Type 0 w
   pub said : List ℕ
   pub lines : List ℕ
   pub files : AreFiles input sheet log met.before.contents bytes said lines
-  pub passes : PassesLines bytes said lines
+  pub passes : FilesPassLimits bytes said lines
 
 -- the bytes begin the text of what is left
 pub record BeginsLeft (r : TrimmedLog) (bytes : List ℕ) : Type 0 where

@@ -7,7 +7,7 @@ ghost use Rattle.track_order.specs.Order.{IsOrderOf};
 ghost use Rattle.plan_text.specs.SheetText.{DrawsAll};
 ghost use Rattle.drawing_cnf.specs.Layout.{layout};
 ghost use Rattle.log_check.specs.Claimed.{IsClaimOf};
-ghost use Rattle.log_trim.specs.HintRoom.{PassesHints};
+ghost use Rattle.log_trim.specs.HintRoom.{LogPassesLimits};
 ghost use Rattle.run_input.specs.Status.{IsAnswered, IsRefused};
 ghost use Rattle.run_input.specs.Met.{between, ReadsInputs, IsUnwritten, LeftSo, HasLeft};
 ghost use Rattle.run_check.specs.CheckLine.{claim_of as claim_in};
@@ -53,7 +53,7 @@ fn refused_claim(
     requires claim { IsClaimOf sheet.now.order (claim_in sheet.now.order sheet.now.found sheet.now.ending) }
     requires short { length log.now ≤ MAX_LOG_BYTES }
     requires fault { fault ≡ TrimFault.Limits →
-        PassesHints (layout station.now.graph station.now.order sheet.now.grid) sheet.now.order log.now }
+        LogPassesLimits (layout station.now.graph station.now.order sheet.now.grid) sheet.now.order log.now }
     ensures { IfOk result (IsClaimFinding station.now.graph station.now.order sheet.now log.now) }
 {
     let checked = check_claim(alloc, station, sheet, log)?;

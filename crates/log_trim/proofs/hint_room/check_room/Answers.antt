@@ -1,7 +1,7 @@
 use Rattle.std.proofs.Common.{◌-◌, refl, arith}
 use Rattle.cnf_core.specs.declared.limits.TheConstants.{VARS}
 use Rattle.std.proofs.lemmas.List.Elements.{All-weaker}
-use Rattle.log_trim.specs.Hinting.{IsLineWithin}
+use Rattle.log_trim.specs.HintRoom.{IsLineWithin}
 use Rattle.log_trim.proofs.HintedLemmas.{within_more}
 use Rattle.log_trim.proofs.hint_room.check_room.Goals.{else-greatest_of-via-then-greatest_of+else-have_words, else-greatest_of-via-else-greatest_of}
 use Rattle.log_trim.proofs.hint_room.check_room.Goals as goal

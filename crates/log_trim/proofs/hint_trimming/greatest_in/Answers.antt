@@ -3,7 +3,7 @@ use Rattle.cnf_core.specs.Lit.{Literal}
 use Rattle.cnf_core.specs.Clause.{AreThere}
 use Rattle.refute_log.specs.declared.line.LogLine.{LogLine}
 use Rattle.refute_log.specs.declared.line.LogLine.TheVariants.{Formula, Learnt, Refuted}
-use Rattle.log_trim.specs.Hinting.{IsLineWithin}
+use Rattle.log_trim.specs.HintRoom.{IsLineWithin}
 use Rattle.log_trim.proofs.hint_trimming.greatest_in.Goals as goal
 
 pub returns-in-Formula-clause-least : goal.returns-in-Formula-clause-least

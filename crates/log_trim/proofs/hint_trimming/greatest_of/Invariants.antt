@@ -1,7 +1,7 @@
 use Rattle.std.proofs.Common.{◌≤◌, ℕ, take}
 use Rattle.std.specs.Prelude.{All}
 use Rattle.cnf_core.specs.declared.limits.TheConstants.{LAST_VAR}
-use Rattle.log_trim.specs.Hinting.{IsLineWithin}
+use Rattle.log_trim.specs.HintRoom.{IsLineWithin}
 use Rattle.log_trim.proofs.hint_trimming.greatest_of.Given as goal
 
 abbrev pub invariant-loop-i : goal.invariant-loop-i
