@@ -30,7 +30,8 @@ use Rattle.log_check.specs.Accepted.{AreAccepted}
 use Rattle.hint_log.specs.declared.hint_line.HintLine.TheVariants.{Learnt, Refuted as RefutedHint}
 use Rattle.hint_log.specs.HintedLines.{HintLines}
 use Rattle.log_trim.specs.Trimmed.{AreRefutedLines, StandAt, IsNamedLater, AreUsed, IsTrimmed}
-use Rattle.log_trim.specs.Shown.{IsCompleted, MayBeTrimmed, IsReadied, IsKeptOf}
+use Rattle.log_trim.specs.HintRoom.{IsCompleted}
+use Rattle.log_trim.specs.Shown.{MayBeTrimmed, IsReadied, IsKeptOf}
 
 -- ---- one clause more
 

@@ -23,7 +23,8 @@ use Rattle.hint_log.proofs.HintedLinesLemmas.{good_more}
 use Rattle.log_trim.specs.Trimmed.{IsLineAt, StandAt, AreLean, HaveLeanHints, AreRefutedLines}
 use Rattle.log_trim.specs.Found.{IsLeanHint}
 use Rattle.log_trim.proofs.LeanLemmas.{lean_line_more}
-use Rattle.log_trim.specs.Hinting.{IsHinted, IsLineWithin, nameable}
+use Rattle.log_trim.specs.HintRoom.{IsLineWithin}
+use Rattle.log_trim.specs.Hinting.{IsHinted, nameable}
 use Rattle.refute_log.proofs.LogLemmas.{flat_map_last}
 
 -- one more line at a later place

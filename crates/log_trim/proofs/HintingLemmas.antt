@@ -25,7 +25,8 @@ use Rattle.log_trim.specs.declared.finder.Finder.{Finder}
 use Rattle.log_trim.specs.declared.hint_trimming.Hinting.{Hinting}
 use Rattle.hint_log.specs.HintedLines.{HintLines}
 use Rattle.log_trim.specs.Trimmed.{AreRefutedLines}
-use Rattle.log_trim.specs.Hinting.{IsLineWithin, IsHinted, IsHinting, nameable}
+use Rattle.log_trim.specs.HintRoom.{IsLineWithin}
+use Rattle.log_trim.specs.Hinting.{IsHinted, IsHinting, nameable}
 use Rattle.log_trim.proofs.FinderLemmas.{finder_more}
 use Rattle.log_trim.proofs.ShortenLemmas.{numbered_at, numbered_last}
 use Rattle.log_trim.proofs.HintedLemmas.{next_line, gathered_next, counted_next, hinted_none, hinted_learnt, hinted_plain}

@@ -13,3 +13,4 @@ pub mod ShortenLemmas
 pub mod UsedLemmas
 pub mod KeptLemmas
 pub mod HintingLemmas
+pub mod HintRoomLemmas

@@ -30,6 +30,7 @@ use Rattle.log_trim.specs.Trimmed.{AreRefutedLines}
 use Rattle.log_trim.specs.declared.trimming.TrimmedLog.{TrimmedLog}
 use Rattle.log_trim.specs.Wanted.{ShowsLeast, AreWanted}
 use Rattle.log_trim.specs.TrimmedLog.{IsSpelledLog, IsTrimmedLog}
+use Rattle.log_trim.specs.HintRoom.{LinesPassLimits, LogPassesLimits}
 use Rattle.log_trim.specs.Shown.{IsSomeLog, IsKeptOf}
 use Rattle.log_trim.proofs.OwnLog.{own_bounds}
 
@@ -159,4 +160,17 @@ trimmed_log y order claim log greatest r lines wanted is same counted are kept c
   are_wanted = wanted_under greatest (limit_of y.graph y.grid) lines order claim wanted same are;
   trimmed = kept.trimmed;
   learnt_is = count;
+}
+
+-- ---- past the limits
+
+pub passing_log : (y : Layout) (order : List Criterion) (log : List ℕ) (greatest counted_of : Criterion → ℕ) (lines : Lines) → IsSpelledLog log lines →
+    ((c : Criterion) → greatest c ≡ limit_of y.graph y.grid c) → AreCounted greatest log counted_of → LinesPassLimits (expectation y order counted_of) lines →
+    LogPassesLimits y order log
+passing_log y order log greatest counted_of lines is same counted pass = record {
+  lines = lines;
+  is_log = is;
+  cap = counted_of;
+  caps_are = caps_of greatest (limit_of y.graph y.grid) counted_of log lines is same counted;
+  pass = pass;
 }

@@ -1,8 +1,6 @@
 -- What is known between two lines of a log: those before stand, their clauses are taken, and they are hinted.
-use Rattle.std.specs.Prelude.{◌≡◌, ◌<◌, ℕ, ⊤, List, ◌++◌, All, Contains, length, flat_map, take}
-use Rattle.cnf_core.specs.Clause.{Clauses, AreThere}
-use Rattle.refute_log.specs.declared.line.LogLine.{LogLine}
-use Rattle.refute_log.specs.declared.line.LogLine.TheVariants.{Formula, Learnt, Refuted}
+use Rattle.std.specs.Prelude.{◌≡◌, ◌<◌, ℕ, List, ◌++◌, All, Contains, length, flat_map, take}
+use Rattle.cnf_core.specs.Clause.{Clauses}
 use Rattle.refute_log.specs.Told.{Lines}
 use Rattle.refute_log.specs.Log.{added, given, learnt, Derives}
 use Rattle.log_trim.specs.declared.hint_trimming.Hinting.{Hinting}
@@ -10,13 +8,7 @@ use Rattle.hint_log.specs.Checked.{clauses_learnt}
 use Rattle.log_trim.specs.Found.{IsFinder}
 use Rattle.hint_log.specs.HintedLines.{HintLines, AreGood}
 use Rattle.log_trim.specs.Trimmed.{StandAt, HaveLeanHints}
-
--- the line's clause has no greater variable
-abbrev pub IsLineWithin : ℕ → LogLine → Type 0
-IsLineWithin vars (Formula c) = AreThere vars c
-IsLineWithin vars (Learnt c) = AreThere vars c
-IsLineWithin vars (Refuted c) = AreThere vars c
-IsLineWithin vars line = ⊤
+use Rattle.log_trim.specs.HintRoom.{IsLineWithin}
 
 -- the clauses that hints of the line at a place may name: those of all Formula lines and of the Learnt lines before it
 abbrev pub nameable : Lines → ℕ → Clauses

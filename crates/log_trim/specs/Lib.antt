@@ -5,3 +5,4 @@ pub mod Found
 pub mod Trimmed
 pub mod Shortened
 pub mod Hinting
+pub mod HintRoom

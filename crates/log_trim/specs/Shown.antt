@@ -10,16 +10,11 @@ use Rattle.log_check.specs.Accepted.{AreAccepted}
 use Rattle.hint_log.specs.HintedLines.{HintLines}
 use Rattle.log_trim.specs.Trimmed.{IsTrimmed}
 use Rattle.log_trim.specs.TrimmedLog.{IsSpelledLog}
+use Rattle.log_trim.specs.HintRoom.{IsCompleted}
 
 -- the bytes are the text of some log
 abbrev pub IsSomeLog : List ℕ → Type 0
 IsSomeLog bytes = (lines : Lines) × IsSpelledLog bytes lines
-
--- Formula lines of the clauses that were missing stand at the end
-pub record IsCompleted (e : Expectation) (old new : Lines) : Type 0 where
-  pub missing : Clauses
-  pub whole : flat_map given e.lines ≡ flat_map given old ++ missing
-  pub added : new ≡ old ++ map Formula missing
 
 -- the lines begin what is expected, within its limits, and have room, so that they are accepted if they derive; and
 -- they were completed, or left as they are where none is wanted

@@ -5,7 +5,8 @@ ghost use Rattle.cnf_core.specs.Clause.{AreThere, AreDistinct};
 ghost use Rattle.refute_log.specs.Log.{Derives, given};
 ghost use Rattle.refute_check.specs.Timely.{AreTimely};
 ghost use Rattle.log_trim.specs.Trimmed.{IsTrimmed, AreRefutedLines};
-ghost use Rattle.log_trim.specs.Hinting.{IsHinting, IsLineWithin};
+ghost use Rattle.log_trim.specs.HintRoom.{IsLineWithin};
+ghost use Rattle.log_trim.specs.Hinting.{IsHinting};
 
 use crate::finder::Finder;
 use crate::shortening::shorten;
@@ -31,6 +32,7 @@ struct Hinting {
 /// The greatest variable of the literals, or 0 where there is none.
 fn greatest(lits: &[Lit]) -> u32
     ensures there { AreThere result lits.now }
+    ensures least { (n : ℕ) → AreThere n lits.now → result ≤ n }
     ensures limit { result ≤ LAST_VAR }
 {
     let mut most = 0;
@@ -43,6 +45,7 @@ fn greatest(lits: &[Lit]) -> u32
 /// The greatest variable of the line's clause, or 0 where there is none.
 fn greatest_in(line: &LogLine) -> u32
     ensures within { IsLineWithin result line.now }
+    ensures least { (n : ℕ) → IsLineWithin n line.now → result ≤ n }
     ensures limit { result ≤ LAST_VAR }
 {
     match line {
@@ -54,8 +57,9 @@ fn greatest_in(line: &LogLine) -> u32
 }
 
 /// The greatest variable of the lines' clauses, or 0 where there is none.
-fn greatest_of(lines: &LineList) -> u32
+pub(crate) fn greatest_of(lines: &LineList) -> u32
     ensures within { All (IsLineWithin result) lines.now }
+    ensures least { (n : ℕ) → All (IsLineWithin n) lines.now → result ≤ n }
     ensures limit { result ≤ LAST_VAR }
 {
     let mut most = 0;

@@ -1,5 +1,5 @@
 // The hinted lines of a log that certifies a claim.
-ghost use Rattle.std.specs.Prelude.{◌≤◌, IfOk, MatchOption, length};
+ghost use Rattle.std.specs.Prelude.{◌≤◌, IfOk, IsErrOf, MatchOption, length};
 ghost use Rattle.plan_core.specs.declared.criterion.Criterion.{Criterion as Measured};
 ghost use Rattle.plan_core.specs.Values.{value_of, limit_of};
 ghost use Rattle.track_order.specs.Order.{IsOrderOf};
@@ -10,9 +10,12 @@ ghost use Rattle.log_check.specs.Claimed.{IsClaimOf};
 ghost use Rattle.log_check.specs.Judged.{CertifiesWhole};
 ghost use Rattle.log_trim.specs.Trimmed.{AreRefutedLines};
 ghost use Rattle.log_trim.specs.TrimmedLog.{IsTrimmedLog};
+ghost use Rattle.log_trim.specs.HintRoom.{LinesPassLimits, LogPassesLimits};
 ghost use Rattle.log_trim.specs.Shown.{IsReadied, IsKeptOf};
 
 use crate::completing::{fit_by, may_lack_all};
+use crate::fault::TrimFault;
+use crate::hint_room::check_room;
 use crate::reading::{bounds_of, count_learnt, lines_in};
 use crate::trim;
 use crate::wanting::wanted_of;
@@ -71,22 +74,26 @@ fn kept_of(
     caps: &Values,
     lines: &mut LineList,
     wanted: &[u32],
-) -> Result<Option<HintList>, OutOfMemory>
+) -> Result<Option<HintList>, TrimFault>
     requires order { IsOrderOf g.now t.now }
     requires caps { (c : Measured) → value_of caps.now c ≤ limit_of g.now grid.now c }
     requires wanted { AreRefutedLines lines.old wanted.now }
-    ensures { let e = expectation (layout g.now t.now grid.now) order.now (value_of caps.now) in
+    ensures kept { let e = expectation (layout g.now t.now grid.now) order.now (value_of caps.now) in
         IfOk result (λ r. MatchOption r (AreAccepted e lines.old → ⊥) (IsKeptOf e lines.old wanted.now)) }
+    ensures limits { let e = expectation (layout g.now t.now grid.now) order.now (value_of caps.now) in
+        IsErrOf result TrimFault.Limits → LinesPassLimits e lines.old }
 {
     if !fit_for(alloc, g, t, grid, order, caps, lines, wanted)? {
         return Ok(None);
     }
-    trim(alloc, lines, wanted)
+    check_room(lines)?;
+    Ok(trim(alloc, lines, wanted)?)
 }
 
 /// What is left of the text of a log, if that certifies the claim on the lawful drawings of a graph on a grid, in an
 /// order of criteria. That is the Refuted lines by which it does, and those Learnt lines on which they rest, with their
-/// hints. None where it doesn't certify the claim.
+/// hints. None where it doesn't certify the claim. `Limits` comes where its lines, with the missing Formula lines, have
+/// more variables or words than hints are found in.
 pub fn trim_log(
     alloc: Global,
     g: &PortGraph,
@@ -95,13 +102,14 @@ pub fn trim_log(
     order: &Order,
     claim: &Claim,
     log: &[u8],
-) -> Result<Option<TrimmedLog>, OutOfMemory>
+) -> Result<Option<TrimmedLog>, TrimFault>
     requires order { IsOrderOf g.now t.now }
     requires claim { IsClaimOf order.now claim.now }
     requires short { length log.now ≤ MAX_LOG_BYTES }
-    ensures { let y = layout g.now t.now grid.now in
+    ensures left { let y = layout g.now t.now grid.now in
         IfOk result (λ r. MatchOption r (CertifiesWhole y order.now claim.now log.now → ⊥)
         (λ left. CertifiesWhole y order.now claim.now log.now × IsTrimmedLog y order.now claim.now log.now left)) }
+    ensures limits { IsErrOf result TrimFault.Limits → LogPassesLimits (layout g.now t.now grid.now) order.now log.now }
 {
     let greatest = greatest_values(g, grid);
     let caps = caps_in(alloc, log, &greatest)?;

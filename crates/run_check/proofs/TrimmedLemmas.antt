@@ -1,6 +1,6 @@
 -- What the bytes of three files give to trim.
-use Rattle.std.proofs.Common.{◌≡◌, ◌≢◌, ℕ, false, List, sym, ◌∙◌, subst, inl, inr}
-use Rattle.std.specs.Prelude.{Option, IfSome, MatchOption}
+use Rattle.std.proofs.Common.{◌≡◌, ◌≢◌, ℕ, false, List, sym, ◌∙◌, ap, subst, inl, inr}
+use Rattle.std.specs.Prelude.{Option, Err, IfSome, IsErrOf, MatchOption}
 use Rattle.outside_io.specs.Contents.{FilesAt, WhereTold, SameFiles}
 use Rattle.plan_core.specs.Graph.{Graph}
 use Rattle.plan_core.specs.Lawful.{Lawful}
@@ -12,6 +12,9 @@ use Rattle.log_check.specs.declared.claim.Claim.{Claim}
 use Rattle.log_check.specs.Judged.{CertifiesWhole}
 use Rattle.log_trim.specs.declared.trimming.TrimmedLog.{TrimmedLog}
 use Rattle.log_trim.specs.TrimmedLog.{IsTrimmedLog}
+use Rattle.log_trim.specs.declared.fault.TrimFault.{TrimFault}
+use Rattle.log_trim.specs.declared.fault.TrimFault.TheVariants.{Limits}
+use Rattle.log_trim.specs.HintRoom.{LogPassesLimits}
 use Rattle.run_input.specs.declared.status.Status.{Status}
 use Rattle.run_input.specs.declared.status.Status.TheVariants.{Done}
 use Rattle.run_input.specs.declared.reply.Reply.{Reply}
@@ -22,7 +25,7 @@ use Rattle.run_check.specs.Checked.{IsSheetAnswer}
 use Rattle.run_check.specs.CertifiedSheet.{CertifiesSheet}
 use Rattle.run_check.proofs.CheckedLemmas.{certified_whole}
 use Rattle.run_check.specs.declared.trimming.Finding.{Finding}
-use Rattle.run_check.specs.declared.trimming.Finding.TheVariants.{Answered, Left}
+use Rattle.run_check.specs.declared.trimming.Finding.TheVariants.{Answered, Left, PastLimits}
 use Rattle.run_check.specs.Files.{AreFiles}
 use Rattle.run_check.specs.Trimmed.{LeavesLines, TellsLeft, AreTrimmed, IsTrimAnswer}
 use Rattle.run_check.proofs.FilesLemmas.{read_files}
@@ -42,6 +45,12 @@ pub trimmed_for : (g : Graph) (o : EdgeOrder) (said inside : Sheet) (claim : Cla
     IsTrimmedFor g o said (claim_of said.order said.found said.ending) log r
 trimmed_for g o said inside claim log r same is h = subst (λ (k : Claim). IsTrimmedFor g o said k log r) is
     (subst (λ (s : Sheet). IsTrimmedFor g o s claim log r) same h)
+
+-- a log past the limits is so for the sheet whose parts these are
+pub passes_for : {T : Type 0} (g : Graph) (o : EdgeOrder) (said inside : Sheet) (log : List ℕ) (fault : TrimFault) → inside ≡ said → fault ≡ Limits →
+    (IsErrOf {T = T} (Err fault) Limits → LogPassesLimits (layout g o inside.grid) inside.order log) → LogPassesLimits (layout g o said.grid) said.order log
+passes_for g o said inside log fault same is limits = subst (λ (s : Sheet). LogPassesLimits (layout g o s.grid) s.order log) same
+    (limits (ap (λ (e : TrimFault). Err e) is))
 
 -- check ends with another status than 0 where the log doesn't certify the claim
 pub lacking_not_done : (g : Graph) (o : EdgeOrder) (said : Sheet) (log : List ℕ) (status : Status) (text : List ℕ) →
@@ -70,11 +79,22 @@ pub sheet_finding : (g : Graph) (o : EdgeOrder) (sheet log : List ℕ) (said : S
     IsClaimFinding g o said log f → IsSheetFinding g o sheet log f
 sheet_finding g o sheet log said (Answered reply) told h = (inl (record { said = said; is_text = told; answer = h.0 }), h.1)
 sheet_finding g o sheet log said (Left r) told h = record { said = said; certifies = h.0 sheet told; left = h.1 }
+sheet_finding g o sheet log said PastLimits told h = record { said = said; is_text = told; claim = h }
 
 pub file_finding : (file sheet log : List ℕ) (g : Graph) (o : EdgeOrder) (f : Finding) → HasStation file g o → IsSheetFinding g o sheet log f →
     IsFinding file sheet log f
 file_finding file sheet log g o (Answered reply) has h = (inl (g, o, has, h.0), h.1)
 file_finding file sheet log g o (Left r) has h = record { graph = g; order = o; said = h.said; station = has; certifies = h.certifies; left = h.left }
+file_finding file sheet log g o PastLimits has h = record {
+  graph = g;
+  order = o;
+  said = h.said;
+  station = has;
+  is_text = h.is_text;
+  text = h.claim.text;
+  checked = h.claim.checked;
+  passes = h.claim.passes;
+}
 
 pub finding_of : (file sheet log b s l : List ℕ) (f e : Finding) → b ≡ file → s ≡ sheet → l ≡ log → f ≡ e → IsFinding b s l f → IsFinding file sheet log e
 finding_of file sheet log b s l f e first second third is h =

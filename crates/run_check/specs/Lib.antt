@@ -5,6 +5,7 @@ pub mod CertifiedSheet
 pub mod Texts
 pub mod Files
 pub mod Trimmed
+pub mod TrimCut
 pub mod Finding
 pub mod Rechecked
 pub mod Fitting

@@ -1,18 +1,20 @@
 -- What trim answers and leaves: what check answers, or hinted lines where that ends with 0.
-use Rattle.std.specs.Prelude.{◌≡◌, ◌≢◌, ◌⊎◌, ℕ, List, ◌++◌, Some}
+use Rattle.std.specs.Prelude.{◌≡◌, ◌≢◌, ◌⊎◌, ℕ, false, List, ◌++◌, Some}
 use Rattle.outside_io.specs.Contents.{WhereTold}
 use Rattle.plan_core.specs.Graph.{Graph}
 use Rattle.track_order.specs.Order.{EdgeOrder}
 use Rattle.plan_text.specs.SheetText.{Sheet}
+use Rattle.plan_text.specs.SheetFaults.{IsSheetText}
 use Rattle.drawing_cnf.specs.Layout.{layout}
 use Rattle.log_trim.specs.declared.trimming.TrimmedLog.{TrimmedLog}
 use Rattle.log_trim.specs.TrimmedLog.{IsTrimmedLog}
+use Rattle.log_trim.specs.HintRoom.{LogPassesLimits}
 use Rattle.run_input.specs.declared.status.Status.{Status}
 use Rattle.run_input.specs.declared.status.Status.TheVariants.{Done}
 use Rattle.run_input.specs.Input.{HasStation}
 use Rattle.run_input.specs.Met.{Met, HasRead}
 use Rattle.run_check.specs.CheckLine.{claim_of}
-use Rattle.run_check.specs.Checked.{IsChecked}
+use Rattle.run_check.specs.Checked.{IsChecked, IsSheetAnswer}
 use Rattle.run_check.specs.CertifiedSheet.{CertifiesSheet}
 use Rattle.run_check.specs.Texts.{left_text, trimmed_line}
 use Rattle.run_check.specs.Files.{IsAnswerToFiles, AreFiles}
@@ -61,6 +63,27 @@ pub record HasReadLeft (input sheet log : List ℕ) (met : Met) (r : TrimmedLog)
 -- there is something to trim: check would end with 0
 abbrev pub HasReadCertified : (input sheet log : List ℕ) → Met → Type 0
 HasReadCertified input sheet log met = (r : TrimmedLog) × HasReadLeft input sheet log met r
+
+-- the bytes are those of a file with a station, of a sheet and of a log to which check answers 0, and the log has more
+-- variables or words than hints are found in
+pub record FilesPassLimits (file sheet log : List ℕ) : Type 0 where
+  pub graph : Graph
+  pub order : EdgeOrder
+  pub said : Sheet
+  pub station : HasStation file graph order
+  pub is_text : IsSheetText graph false sheet said
+  pub text : List ℕ
+  pub checked : IsSheetAnswer graph order said log Done text
+  pub passes : LogPassesLimits (layout graph order said.grid) said.order log
+
+-- the three files were read, and no other, and they have such bytes
+pub record HasReadPastLimits (input sheet log : List ℕ) (met : Met) : Type 0 where
+  pub read : HasRead met 3
+  pub bytes : List ℕ
+  pub said : List ℕ
+  pub lines : List ℕ
+  pub files : AreFiles input sheet log met.before.contents bytes said lines
+  pub passes : FilesPassLimits bytes said lines
 
 -- the bytes begin the text of what is left
 pub record BeginsLeft (r : TrimmedLog) (bytes : List ℕ) : Type 0 where

@@ -17,6 +17,7 @@ mod hint_laws;
 mod laws;
 mod reading;
 mod rechecking;
+mod trim_cut;
 mod trimming;
 mod verdict;
 mod verifying;
@@ -31,5 +32,6 @@ pub use laws::{
     verdict_of_drawing,
 };
 pub use rechecking::recheck;
+pub use trim_cut::TrimCut;
 pub use trimming::trim;
 pub use verifying::verify;

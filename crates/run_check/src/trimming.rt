@@ -5,21 +5,25 @@ ghost use Rattle.outside_io.specs.Counts.{Rose};
 ghost use Rattle.plan_core.specs.declared.limits.TheConstants.{MAX_FILE_BYTES};
 ghost use Rattle.track_order.specs.Order.{IsOrderOf};
 ghost use Rattle.plan_text.specs.SheetText.{DrawsAll};
+ghost use Rattle.drawing_cnf.specs.Layout.{layout};
 ghost use Rattle.log_check.specs.Claimed.{IsClaimOf};
+ghost use Rattle.log_trim.specs.HintRoom.{LogPassesLimits};
 ghost use Rattle.run_input.specs.Status.{IsAnswered, IsRefused};
 ghost use Rattle.run_input.specs.Met.{between, ReadsInputs, IsUnwritten, LeftSo, HasLeft};
 ghost use Rattle.run_check.specs.CheckLine.{claim_of as claim_in};
-ghost use Rattle.run_check.specs.Trimmed.{IsTrimAnswer, HasReadCertified, IsLeftByTrim, BeginsLeft, TellsLeft};
+ghost use Rattle.run_check.specs.Trimmed.{IsTrimAnswer, HasReadCertified, HasReadPastLimits, IsLeftByTrim, BeginsLeft};
+ghost use Rattle.run_check.specs.Trimmed.{TellsLeft};
 ghost use Rattle.run_check.specs.Finding.{IsClaimFinding, IsSheetFinding, IsFinding};
 
 use crate::reading::read_all;
+use crate::trim_cut::TrimCut;
 use crate::writing::{text_of, trimmed_line};
 use crate::{broken_sheet, check_claim, claim_of};
-use log_trim::{TrimmedLog, trim_log};
+use log_trim::{TrimFault, TrimmedLog, trim_log};
 use outside_io::{FileFault, Files, write_file};
 use plan_core::{MAX_LOG_BYTES, OutOfMemory, Text};
 use plan_text::{Sheet, SheetFault, read_sheet};
-use run_input::{Cut, InputRefusal, Reply, RunFault, Station, Status, fault_reply, station_in};
+use run_input::{InputRefusal, Reply, RunFault, Station, Status, fault_reply, station_in};
 use std::alloc::Global;
 
 /// What the three files give: an answer, or what is left of the log.
@@ -29,27 +33,35 @@ pub(crate) enum Finding {
     Answered(Reply),
     /// The log certifies what the sheet claims, and this is left of it.
     Left(TrimmedLog),
+    /// The log certifies what the sheet claims, and has more variables or words than hints are found in.
+    PastLimits,
 }
 
 // ---- what is left
 
-/// What a sheet and the bytes of a log give that had no room in memory: `check` goes line by line, and may have the
-/// memory to refuse it.
+/// What a sheet and the bytes of a log give of which it isn't known what is left: `check` goes line by line, and may
+/// refuse it.
 fn refused_claim(
     alloc: Global,
     station: &Station,
     sheet: &Sheet,
     log: &[u8],
+    fault: TrimFault,
 ) -> Result<Finding, OutOfMemory>
     requires order { IsOrderOf station.now.graph station.now.order }
     requires drawn { DrawsAll station.now.graph sheet.now }
     requires claim { IsClaimOf sheet.now.order (claim_in sheet.now.order sheet.now.found sheet.now.ending) }
     requires short { length log.now ≤ MAX_LOG_BYTES }
+    requires fault { fault ≡ TrimFault.Limits →
+        LogPassesLimits (layout station.now.graph station.now.order sheet.now.grid) sheet.now.order log.now }
     ensures { IfOk result (IsClaimFinding station.now.graph station.now.order sheet.now log.now) }
 {
     let checked = check_claim(alloc, station, sheet, log)?;
     match checked.status {
-        Status::Done => Err(OutOfMemory),
+        Status::Done => match fault {
+            TrimFault::Limits => Ok(Finding::PastLimits),
+            TrimFault::Memory => Err(OutOfMemory),
+        },
         _ => Ok(Finding::Answered(checked)),
     }
 }
@@ -86,7 +98,7 @@ fn judge_claim(
             let reply = check_claim(alloc, station, sheet, log)?;
             Ok(Finding::Answered(reply))
         }
-        Err(OutOfMemory) => refused_claim(alloc, station, sheet, log),
+        Err(fault) => refused_claim(alloc, station, sheet, log, fault),
     }
 }
 
@@ -135,13 +147,15 @@ fn write_left<F: Files>(
     left: &TrimmedLog,
     hints: &Text,
     files: &mut F,
-) -> Result<Reply, Cut>
+) -> Result<Reply, TrimCut>
     ensures answer { let met = between (F.at files.old) (F.at files.new) in
         IfOk result (λ r. TellsLeft left.now hints.now met r.status r.text.items) }
     ensures leaves { WhereTold (F.at files.old).contents (F.at files.new).contents
         (LeftSo (λ name bytes. (hints.now ≡ name) × BeginsLeft left.now bytes)) }
     ensures unrefused { IsOkAnd result (λ r. IsRefused r.status) → ⊥ }
-    ensures cause { IsErrOf result Cut.Unwritten → Rose (F.at files.old).write_faults (F.at files.new).write_faults }
+    ensures limits { IsErrOf result TrimCut.Limits → ⊥ }
+    ensures cause { IsErrOf result TrimCut.Unwritten → Rose (F.at files.old).write_faults
+        (F.at files.new).write_faults }
     ensures read_faults { (F.at files.new).read_faults ≡ (F.at files.old).read_faults }
     ensures reads { (F.at files.new).reads ≡ (F.at files.old).reads }
 {
@@ -152,13 +166,14 @@ fn write_left<F: Files>(
             status: Status::Done,
             text: line,
         }),
-        Err(FileFault::Failed) => Err(Cut::Unwritten),
-        Err(FileFault::Memory) => Err(Cut::Memory),
+        Err(FileFault::Failed) => Err(TrimCut::Unwritten),
+        Err(FileFault::Memory) => Err(TrimCut::Memory),
     }
 }
 
 /// What `trim` answers: where `check` would end with other than 0, what that answers; and else it leaves the hinted
-/// lines that certify what the sheet claims under the name `hints`.
+/// lines that certify what the sheet claims under the name `hints`. `Limits` comes only where `check` would end with 0,
+/// and the log has more variables or words than hints are found in.
 pub fn trim<F: Files>(
     alloc: Global,
     input: &Text,
@@ -166,7 +181,7 @@ pub fn trim<F: Files>(
     log: &Text,
     hints: &Text,
     files: &mut F,
-) -> Result<Reply, Cut>
+) -> Result<Reply, TrimCut>
     ensures answer { let met = between (F.at files.old) (F.at files.new) in
         IfOk result (λ r. IsTrimAnswer input.now sheet.now log.now hints.now met r.status r.text.items) }
     ensures reads { let met = between (F.at files.old) (F.at files.new) in
@@ -177,15 +192,19 @@ pub fn trim<F: Files>(
     ensures leaves { let met = between (F.at files.old) (F.at files.new) in
         HasLeft met (λ name bytes. (IsOkAnd result (λ r. IsRefused r.status) → ⊥)
         × IsLeftByTrim input.now sheet.now log.now hints.now met name bytes) }
-    ensures cause { IsErrOf result Cut.Unwritten → Rose (F.at files.old).write_faults (F.at files.new).write_faults }
+    ensures limits { IsErrOf result TrimCut.Limits →
+        HasReadPastLimits input.now sheet.now log.now (between (F.at files.old) (F.at files.new)) }
+    ensures cause { IsErrOf result TrimCut.Unwritten → Rose (F.at files.old).write_faults
+        (F.at files.new).write_faults }
     ensures later { (F.at files.old).read_faults ≤ (F.at files.new).read_faults }
 {
     match read_all(alloc, input, sheet, log, files) {
         Ok(texts) => match judge(alloc, &texts.bytes, &texts.said, &texts.lines)? {
             Finding::Answered(reply) => Ok(reply),
+            Finding::PastLimits => Err(TrimCut::Limits),
             Finding::Left(left) => write_left(alloc, &left, hints, files),
         },
         Err(InputRefusal::Fault(fault)) => Ok(fault_reply(alloc, fault)?),
-        Err(InputRefusal::Memory) => Err(Cut::Memory),
+        Err(InputRefusal::Memory) => Err(TrimCut::Memory),
     }
 }

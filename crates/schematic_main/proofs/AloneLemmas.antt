@@ -1,6 +1,7 @@
 -- With which statuses a command has written no file.
-use Rattle.std.proofs.Common.{◌≡◌, ◌≢◌, ◌⊎◌, ℕ, List, Ok, Err, inl, inr, sym, ◌∙◌, subst}
-use Rattle.std.specs.Prelude.{Result, IsOkAnd}
+use Rattle.std.proofs.Common.{◌≡◌, ◌≢◌, ◌⊎◌, ℕ, List, Ok, Err, inl, inr, refl, sym, ◌∙◌, subst}
+use Rattle.std.specs.Prelude.{Option, Result, IsErr, IsOkAnd}
+use Rattle.outside_io.specs.Contents.{Told, WhereTold}
 use Rattle.plan_words.specs.declared.command.Command.{Command}
 use Rattle.plan_words.specs.declared.command.Command.TheVariants.{Draw, Verify, Check, Graph as PrintGraph, Make, Trial, Signals, Front, Redraw, Explain, Trim}
 use Rattle.plan_words.specs.declared.command.Command.TheVariants.{Recheck}
@@ -13,6 +14,10 @@ use Rattle.run_input.specs.declared.status.Status.{Status}
 use Rattle.run_input.specs.declared.status.Status.TheVariants.{Done, Refused, WordsRefused, NoDrawing, Unfinished, Unread, Unwritten, NoMemory, Broken}
 use Rattle.run_input.specs.Status.{IsRefused, IsCutShort}
 use Rattle.run_input.specs.Reply.{status_of_cut}
+use Rattle.run_input.specs.Met.{LeftSo}
+use Rattle.run_check.specs.declared.trim_cut.TrimCut.{TrimCut}
+use Rattle.run_check.specs.declared.trim_cut.TrimCut.TheVariants as trims
+use Rattle.run_check.specs.TrimCut.{cut_of_trim}
 use Rattle.schematic_main.specs.Commands.{AnswersAlone}
 use Rattle.schematic_main.specs.Run.{EndsUnwritten}
 
@@ -27,6 +32,25 @@ pub trimmed_alone : {E : Type 0} (x : Result Reply E) → IsOkAnd x (λ r. IsRef
     IsOkAnd x (λ r. r.status ≢ Done)
 trimmed_alone (Ok reply) alone = other_than_0 reply.status alone
 trimmed_alone (Err e) alone = alone
+
+-- ---- a run of trim without an answer
+
+-- it left its files as trim did, whose fault it hands on
+pub lost_leaves : (r : Result Reply Cut) (P : Reply → Type 0) (old new : Option Told) (May : (name bytes : List ℕ) → Type 0) → IsErr r →
+    WhereTold old new (LeftSo (λ name bytes. (⊥ → ⊥) × May name bytes)) → WhereTold old new (LeftSo (λ name bytes. (IsOkAnd r P → ⊥) × May name bytes))
+lost_leaves (Ok reply) P old new May err left = absurd (cc)
+lost_leaves (Err cut) P old new May err left = left
+
+pub lost_unwritten : (r : Result Reply Cut) (P : Reply → Type 0) (May Unwritten : Type 0) → IsErr r → ((May → ⊥) → Unwritten) →
+    IsOkAnd r P ⊎ (May → ⊥) → Unwritten
+lost_unwritten (Ok reply) P May Unwritten err unwritten none = absurd (cc)
+lost_unwritten (Err cut) P May Unwritten err unwritten (inl answered) = absurd answered
+lost_unwritten (Err cut) P May Unwritten err unwritten (inr nothing) = unwritten nothing
+
+pub cut_unwritten : (cut : TrimCut) → cut_of_trim cut ≡ cuts.Unwritten → cut ≡ trims.Unwritten
+cut_unwritten trims.Unwritten is = refl
+cut_unwritten trims.Limits is = absurd (cc)
+cut_unwritten trims.Memory is = absurd (cc)
 
 -- ---- a run that is refused wrote no file, whatever the command is
 

@@ -136,7 +136,7 @@ pub fn answer_to<F: Files, T: LogSink>(
             sheet,
             log,
             hints,
-        } => trim(alloc, input, sheet, log, hints, files),
+        } => Ok(trim(alloc, input, sheet, log, hints, files)?),
         Command::Recheck {
             input,
             sheet,

@@ -4,7 +4,7 @@ use Rattle.std.proofs.lemmas.Result.{IfOk-weaker}
 use Rattle.run_input.specs.declared.status.Status.TheVariants.{Done}
 use Rattle.run_input.specs.Status.{IsRefused}
 use Rattle.run_input.specs.Met.{between}
-use Rattle.run_check.specs.declared.trimming.Finding.TheVariants.{Answered, Left}
+use Rattle.run_check.specs.declared.trimming.Finding.TheVariants.{Answered, Left, PastLimits}
 use Rattle.run_check.specs.Trimmed.{LeavesLines, HasReadLeft, AreTrimmed}
 use Rattle.run_check.specs.Finding.{IsFinding}
 use Rattle.run_check.proofs.FilesLemmas.{unread_answer}
@@ -23,6 +23,21 @@ returns-in-Answered-clause-answer g c =
     answered_trim c.args.input.now c.args.sheet.now c.args.log.now c.args.hints.now texts.bytes.items texts.said.items texts.lines.items
     (between (at c.args.files.now) (at c.read_all.new.files)) c.in-Answered.reply c.in-Ok.ensures.inputs c.in-Ok.ensures.reads
     found
+
+pub returns-in-PastLimits-clause-limits : goal.returns-in-PastLimits-clause-limits
+returns-in-PastLimits-clause-limits g c = λ k.
+    let texts = c.in-Ok.texts in
+    record {
+      read = c.in-Ok.ensures.reads;
+      bytes = texts.bytes.items;
+      said = texts.said.items;
+      lines = texts.lines.items;
+      files = c.in-Ok.ensures.inputs;
+      passes =
+          finding_of texts.bytes.items texts.said.items texts.lines.items c.deref.result.now c.deref-in-Ok.result.now c.deref-in-Ok-2.result.now
+          c.in_ok-reply-in-Ok.field-0 PastLimits c.deref.ensures.value c.deref-in-Ok.ensures.value
+          c.deref-in-Ok-2.ensures.value c.in-PastLimits.is c.in_ok-reply-in-Ok.ensures;
+    }
 
 pub returns-in-Ok-clause-answer : goal.returns-in-Ok-clause-answer
 returns-in-Ok-clause-answer g c =

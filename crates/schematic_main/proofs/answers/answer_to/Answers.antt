@@ -1,17 +1,20 @@
-use Rattle.std.proofs.Common.{◌≡◌, ◌≢◌, ◌⊎◌, [], ◌∷◌, inl, inr, sym, subst}
+use Rattle.std.proofs.Common.{◌≡◌, ◌≢◌, ◌⊎◌, [], ◌∷◌, Ok, inl, inr, rules, sym, subst}
 use Rattle.std.specs.Prelude.{IfOk, IsOkAnd, IsErrOf}
 use Rattle.outside_io.specs.Contents.{WhereTold}
 use Rattle.outside_io.specs.Counts.{Rose}
 use Rattle.plan_words.specs.declared.command.Command.{Command}
 use Rattle.refute_log.specs.ToldTo.{told_to}
 use Rattle.run_input.specs.declared.reply.Cut.TheVariants.{Unwritten}
+use Rattle.run_input.specs.declared.reply.Reply.{Reply}
 use Rattle.run_input.specs.Status.{IsRefused}
 use Rattle.run_input.specs.Met.{between, IsUnwritten, LeftSo}
+use Rattle.run_check.specs.declared.trim_cut.TrimCut.{TrimCut}
+use Rattle.run_check.specs.declared.trim_cut.TrimCut.TheVariants.{Unwritten as TrimUnwritten}
 use Rattle.schematic_main.specs.Commands.{AnswersAlone, MayWrite, MayTell, MayLeave, Owes}
 use Rattle.schematic_main.specs.Run.{CommandFailsToWrite}
 use Rattle.run_input.proofs.AnswerLemmas.{leaves_same}
 use Rattle.run_input.proofs.LeavesLemmas.{left_alone}
-use Rattle.schematic_main.proofs.AloneLemmas.{trimmed_alone}
+use Rattle.schematic_main.proofs.AloneLemmas.{trimmed_alone, lost_leaves, lost_unwritten, cut_unwritten}
 use Rattle.run_input.proofs.DerivesLemmas.{new_unchanged}
 use Rattle.run_draw_front.specs.Fronted.{front_job}
 use Rattle.run_explain_redraw.specs.Explained.{explain_job}
@@ -159,36 +162,63 @@ returns-in-Explain-clause-untold g c =
     subst (λ (command : Command). Refused ⊎ (MayTell command met → ⊥) → c.explain.new.trace ≡ c.args.trace.now) (sym c.in-Explain.is)
     (λ none. c.explain.ensures.untold (elim none [ inl refused ↦ inl refused | inr nothing ↦ inr (λ may. nothing (tt, may)) ]))
 
-pub returns-in-Trim-clause-answer : goal.returns-in-Trim-clause-answer
-returns-in-Trim-clause-answer g c =
+pub returns-in_ok-trim-in-Trim-clause-answer : goal.returns-in_ok-trim-in-Trim-clause-answer
+returns-in_ok-trim-in-Trim-clause-answer g c =
     let met = between (g.F.Files.at c.args.files.now) (g.F.Files.at c.trim.new.files) in
     let traced = told_to {Self = g.row.T.Denot} g.T.LogSink.tells g.T.LogSink.learnt c.args.trace.now c.args.trace.now in
-    subst (λ (command : Command). IfOk c.trim.result (λ r. Owes command met traced r.status r.text.items)) (sym c.in-Trim.is) c.trim.ensures.answer
+    let reply = c.in_ok-trim-in-Trim.field-0 in
+    subst (λ (command : Command). Owes command met traced reply.status reply.text.items) (sym c.in-Trim.is) c.in_ok-trim-in-Trim.ensures.answer
 
-pub returns-in-Trim-clause-leaves : goal.returns-in-Trim-clause-leaves
-returns-in-Trim-clause-leaves g c =
+pub returns-in_ok-trim-in-Trim-clause-leaves : goal.returns-in_ok-trim-in-Trim-clause-leaves
+returns-in_ok-trim-in-Trim-clause-leaves g c =
     let old = (g.F.Files.at c.args.files.now).contents in
     let new = (g.F.Files.at c.trim.new.files).contents in
     let met = between (g.F.Files.at c.args.files.now) (g.F.Files.at c.trim.new.files) in
     let traced = told_to {Self = g.row.T.Denot} g.T.LogSink.tells g.T.LogSink.learnt c.args.trace.now c.args.trace.now in
-    let Refused : Type 0 = IsOkAnd c.trim.result (λ r. IsRefused r.status) in
-    subst (λ (command : Command). WhereTold old new (LeftSo (λ name bytes. (Refused → ⊥) × MayLeave command met traced name bytes))) (sym c.in-Trim.is)
-    c.trim.ensures.leaves
+    let reply = c.in_ok-trim-in-Trim.field-0 in
+    subst (λ (command : Command). WhereTold old new (LeftSo (λ name bytes. (IsRefused reply.status → ⊥) × MayLeave command met traced name bytes)))
+    (sym c.in-Trim.is) c.in_ok-trim-in-Trim.ensures.leaves
 
-pub returns-in-Trim-clause-unwritten : goal.returns-in-Trim-clause-unwritten
-returns-in-Trim-clause-unwritten g c =
+pub returns-in_ok-trim-in-Trim-clause-unwritten : goal.returns-in_ok-trim-in-Trim-clause-unwritten
+returns-in_ok-trim-in-Trim-clause-unwritten g c =
     let met = between (g.F.Files.at c.args.files.now) (g.F.Files.at c.trim.new.files) in
     let one : c.in-Trim.hints ∷ [] ≢ [] = λ e. cc in
-    subst (λ (command : Command). IsOkAnd c.trim.result (λ r. AnswersAlone command r.status) ⊎ (MayWrite command met → ⊥) → IsUnwritten met) (sym c.in-Trim.is)
-    (λ none. c.trim.ensures.unwritten (elim none [ inl alone ↦ inl (trimmed_alone c.trim.result alone) | inr nothing ↦ inr (λ may. nothing (one, may)) ]))
+    let reply = c.in_ok-trim-in-Trim.field-0 in
+    subst (λ (command : Command). AnswersAlone command reply.status ⊎ (MayWrite command met → ⊥) → IsUnwritten met) (sym c.in-Trim.is)
+    (λ none. c.in_ok-trim-in-Trim.ensures.unwritten (elim none [
+      | inl alone ↦ inl (trimmed_alone {E = TrimCut} (Ok reply) alone)
+      | inr nothing ↦ inr (λ may. nothing (one, may))
+    ]))
 
-pub returns-in-Trim-clause-cause : goal.returns-in-Trim-clause-cause
-returns-in-Trim-clause-cause g c =
+pub returns-in_err-trim-in-Trim-clause-leaves : goal.returns-in_err-trim-in-Trim-clause-leaves
+returns-in_err-trim-in-Trim-clause-leaves g c =
+    let old = (g.F.Files.at c.args.files.now).contents in
+    let new = (g.F.Files.at c.trim.new.files).contents in
+    let met = between (g.F.Files.at c.args.files.now) (g.F.Files.at c.trim.new.files) in
+    let traced = told_to {Self = g.row.T.Denot} g.T.LogSink.tells g.T.LogSink.learnt c.args.trace.now c.args.trace.now in
+    let r = c.from_residual-in_err-trim-in-Trim.result in
+    lost_leaves r (λ (reply : Reply). IsRefused reply.status) old new (MayLeave c.args.command.now met traced) c.from_residual-in_err-trim-in-Trim.ensures.0
+    (subst (λ (command : Command). WhereTold old new (LeftSo (λ name bytes. (⊥ → ⊥) × MayLeave command met traced name bytes))) (sym c.in-Trim.is)
+    c.in_err-trim-in-Trim.ensures.leaves)
+
+pub returns-in_err-trim-in-Trim-clause-unwritten : goal.returns-in_err-trim-in-Trim-clause-unwritten
+returns-in_err-trim-in-Trim-clause-unwritten g c =
     let met = between (g.F.Files.at c.args.files.now) (g.F.Files.at c.trim.new.files) in
     let one : c.in-Trim.hints ∷ [] ≢ [] = λ e. cc in
-    subst (λ (command : Command). IsErrOf c.trim.result Unwritten →
+    let r = c.from_residual-in_err-trim-in-Trim.result in
+    lost_unwritten r (λ (reply : Reply). AnswersAlone c.args.command.now reply.status) (MayWrite c.args.command.now met) (IsUnwritten met)
+    c.from_residual-in_err-trim-in-Trim.ensures.0
+    (subst (λ (command : Command). (MayWrite command met → ⊥) → IsUnwritten met) (sym c.in-Trim.is)
+    (λ nothing. c.in_err-trim-in-Trim.ensures.unwritten (inr (λ may. nothing (one, may)))))
+
+pub returns-in_err-trim-in-Trim-clause-cause : goal.returns-in_err-trim-in-Trim-clause-cause
+returns-in_err-trim-in-Trim-clause-cause g c =
+    let met = between (g.F.Files.at c.args.files.now) (g.F.Files.at c.trim.new.files) in
+    let one : c.in-Trim.hints ∷ [] ≢ [] = λ e. cc in
+    let r = c.from_residual-in_err-trim-in-Trim.result in
+    subst (λ (command : Command). IsErrOf r Unwritten →
     CommandFailsToWrite command met (Rose (g.T.LogSink.faults c.args.trace.now) (g.T.LogSink.faults c.args.trace.now))) (sym c.in-Trim.is)
-    (λ cut. inl (one, c.trim.ensures.cause cut))
+    (λ k. let cut : IsErrOf c.trim.result TrimUnwritten = search (rules, cut_unwritten, k) in inl (one, c.trim.ensures.cause cut))
 
 pub returns-in_ok-recheck-in-Recheck-clause-answer : goal.returns-in_ok-recheck-in-Recheck-clause-answer
 returns-in_ok-recheck-in-Recheck-clause-answer g c =
@@ -231,8 +261,11 @@ returns-in_ok-recheck-in-Recheck-clause-derives g c = new_unchanged (g.T.LogSink
 pub returns-in_err-recheck-in-Recheck-clause-derives : goal.returns-in_err-recheck-in-Recheck-clause-derives
 returns-in_err-recheck-in-Recheck-clause-derives g c = new_unchanged (g.T.LogSink.tells c.args.trace.now) (g.met.T.LogSink.one_reading c.args.trace.now)
 
-pub returns-in-Trim-clause-derives : goal.returns-in-Trim-clause-derives
-returns-in-Trim-clause-derives g c = new_unchanged (g.T.LogSink.tells c.args.trace.now) (g.met.T.LogSink.one_reading c.args.trace.now)
+pub returns-in_ok-trim-in-Trim-clause-derives : goal.returns-in_ok-trim-in-Trim-clause-derives
+returns-in_ok-trim-in-Trim-clause-derives g c = new_unchanged (g.T.LogSink.tells c.args.trace.now) (g.met.T.LogSink.one_reading c.args.trace.now)
+
+pub returns-in_err-trim-in-Trim-clause-derives : goal.returns-in_err-trim-in-Trim-clause-derives
+returns-in_err-trim-in-Trim-clause-derives g c = new_unchanged (g.T.LogSink.tells c.args.trace.now) (g.met.T.LogSink.one_reading c.args.trace.now)
 
 pub returns-in_ok-print-in-Graph-clause-begins : goal.returns-in_ok-print-in-Graph-clause-begins
 returns-in_ok-print-in-Graph-clause-begins g c = unchanged_holds c.args.command.now _ (g.T.LogSink.tells c.args.trace.now)
@@ -274,8 +307,12 @@ pub returns-in_err-recheck-in-Recheck-clause-begins : goal.returns-in_err-rechec
 returns-in_err-recheck-in-Recheck-clause-begins g c = unchanged_holds c.args.command.now _ (g.T.LogSink.tells c.args.trace.now)
     (g.met.T.LogSink.one_reading c.args.trace.now)
 
-pub returns-in-Trim-clause-begins : goal.returns-in-Trim-clause-begins
-returns-in-Trim-clause-begins g c = unchanged_holds c.args.command.now _ (g.T.LogSink.tells c.args.trace.now)
+pub returns-in_ok-trim-in-Trim-clause-begins : goal.returns-in_ok-trim-in-Trim-clause-begins
+returns-in_ok-trim-in-Trim-clause-begins g c = unchanged_holds c.args.command.now _ (g.T.LogSink.tells c.args.trace.now)
+    (g.met.T.LogSink.one_reading c.args.trace.now)
+
+pub returns-in_err-trim-in-Trim-clause-begins : goal.returns-in_err-trim-in-Trim-clause-begins
+returns-in_err-trim-in-Trim-clause-begins g c = unchanged_holds c.args.command.now _ (g.T.LogSink.tells c.args.trace.now)
     (g.met.T.LogSink.one_reading c.args.trace.now)
 
 pub returns-in-Draw-clause-begins : goal.returns-in-Draw-clause-begins

@@ -1,7 +1,7 @@
 use Rattle.std.proofs.Common.{refl, sym, subst, arith}
 use Rattle.std.specs.Prelude.{All, flat_map}
 use Rattle.refute_log.specs.Log.{given}
-use Rattle.log_trim.specs.Hinting.{IsLineWithin}
+use Rattle.log_trim.specs.HintRoom.{IsLineWithin}
 use Rattle.log_trim.proofs.HintingLemmas.{given_few, hinting_none}
 use Rattle.log_trim.proofs.hint_trimming.Hinting.new.Goals as goal
 
