@@ -21,20 +21,6 @@ marked_more table lits l m within = λ k. elim (same_literal_or k l) [
   | inr ne ↦ marked_other table l k true ne ∙ m k ∙ sym (has_front lits l k ne)
 ]
 
--- a longer table marks the same
-unmarked_end : (n i : ℕ) → get_or (replicate n false) i false ≡ false
-unmarked_end n i = elim (cases_lt i n) [
-  | inl lt ↦ get_or-replicate n i false false lt
-  | inr ge ↦ get_or_past (replicate n false) i false (omega (arith, ge, length-replicate {A = Bool} n false))
-]
-
-pub marked_longer : (table : List Bool) (n : ℕ) (l : Literal) → marked (table ++ replicate n false) l ≡ marked table l
-marked_longer table n l = elim (cases_lt (word_of l) (length table)) [
-  | inl lt ↦ get_or_append_left table (replicate n false) false (word_of l) lt
-  | inr ge ↦ get_or-append_right table (replicate n false) (length table) (word_of l) false refl ge ∙ unmarked_end n (word_of l - length table)
-      ∙ sym (get_or_past table (word_of l) false ge)
-]
-
 -- one mark less
 pub unmarked_one : (table : List Bool) (lits : List Literal) (l : Literal) → Includes (has (lits ++ l ∷ [])) (marked table) → word_of l < length table →
     Includes (has lits) (marked (set table (word_of l) false))

@@ -1,5 +1,6 @@
 // The checker of hinted lines.
-ghost use Rattle.std.specs.Prelude.{◌≡◌, ◌<◌, ◌↔◌, ◌^◌, ◌++◌, [], ◌∷◌, ℕ, IsTrue, IfOk, IfErr, OnOk, OnErr, IsErrOf, length};
+ghost use Rattle.std.specs.Prelude.{◌≡◌, ◌<◌, ◌↔◌, ◌^◌, ◌++◌, [], ◌∷◌, ℕ, IsTrue, IfOk, IfErr, OnOk, OnErr};
+ghost use Rattle.std.specs.Prelude.{IsErrOf, length};
 ghost use Rattle.cnf_core.specs.Clause.{AreDistinct};
 ghost use Rattle.hint_log.specs.Hint.{FailsAt, shown_lits, hints_of};
 ghost use Rattle.hint_log.specs.Checked.{AcceptsHint, PassesHintRoom, IsHintAnswer, RefutesByHints};
