@@ -1,5 +1,5 @@
 use Rattle.std.proofs.Common.{◌∙◌}
-use Rattle.std.specs.Prelude.{Some, None}
+use Rattle.std.specs.Prelude.{Some}
 use Rattle.hint_log.specs.Checked.{hint_facts}
 use Rattle.hint_log.proofs.CheckerLemmas.{kept_grown, facts_grown, memory_answer, is_read}
 use Rattle.hint_log.proofs.CheckerLemmas.{still_kept, still_same, verdict_of, refuted_accepts}
