@@ -18,6 +18,7 @@ import math
 import os
 import random
 import signal
+import subprocess
 import sys
 import tempfile
 import time
@@ -115,6 +116,14 @@ def measure(words: argparse.Namespace, command: str, maker: Maker, material: Mat
     return Measured(Path("made").stat().st_size, *took)
 
 
+def is_refused(words: argparse.Namespace, command: str) -> bool:
+    """whether recheck refuses a line of what was made, and so doesn't look at the rest"""
+    if command != "recheck":
+        return False
+    answer = subprocess.run([words.program, *WORDS[command]], stdin=subprocess.DEVNULL, capture_output=True, check=False).stdout
+    return answer.startswith((b"hints ", b"check BadHint", b"check Room"))
+
+
 def power_of(before: Measured | None, one: Measured) -> str:
     """the power with which the seconds grow; nothing where they are too few to say"""
     if before is None or before.seconds < FEW or one.was_ended or one.size == before.size:
@@ -159,6 +168,8 @@ def try_family(words: argparse.Namespace, command: str, family: str, material: M
         size = min(words.least << doubling, MOST.get(command, 1 << 29) - 2000)
         one = measure(words, command, FAMILIES[command][family], material, size)
         tally.runs += 1
+        if not doubling and is_refused(words, command):
+            tally.wrong.append(f"{command}, {family}: a line is refused, so the others aren't measured")
         if family == "ordinary":
             rates[size] = max(one.rate(), 1e-4)
         print(line_of(command, family, one, rates[size], power_of(measured[-1] if measured else None, one)), flush=True)
@@ -185,8 +196,8 @@ def main() -> int:
     parser.add_argument("--floor", type=float, default=0.3, help="so many seconds are never slow (0.3)")
     parser.add_argument("--only", default="", help="only families whose command and name have this text")
     parser.add_argument("--station", type=Path, default=TOP / "cases/stations/loop.xml", help="the station")
-    parser.add_argument("--width", type=int, default=6)
-    parser.add_argument("--height", type=int, default=1)
+    parser.add_argument("--width", type=int, default=32, help="the grid's width: so many columns give the formula 2,308 variables")
+    parser.add_argument("--height", type=int, default=6)
     words = parser.parse_args()
     words.program, words.station = words.program.resolve(), words.station.resolve()
     words.name, words.began = "slow", time.time()

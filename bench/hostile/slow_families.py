@@ -2,7 +2,8 @@
 
 All are of one station, whose sheet, log and hints are in the folder. A maker gets the material and a number of bytes, and writes
 about so many. The lines are good ones, so that all of them are judged: a line `l C PAD 0 n 0` is good where n is the number of
-the clause C of the formula, and PAD may be any literals; and a good line stays one where its first clause is named again."""
+the clause C of the formula, and PAD may be any literals; and a good line stays one where its first clause is named again, and
+with PAD, as long as no clause that it names has a variable of that."""
 from __future__ import annotations
 
 import random
@@ -23,15 +24,19 @@ class Material:
     log: list[bytes]
 
     def learnt(self) -> tuple[list[int], list[int]]:
-        """the literals and the hints of a Learnt line whose first hint is a clause of the formula"""
+        """the literals and the hints of a Learnt line whose hints are clauses of the formula"""
         for line in self.hints[2:]:
             literals, hints = parts_of(line)
-            if line.startswith(b"l ") and len(hints) > 2 and hints[0] <= len(self.clauses):
+            if line.startswith(b"l ") and len(hints) > 2 and max(hints) <= len(self.clauses):
                 return literals, hints
         raise ValueError("no Learnt line has such hints")
 
+    def of_clauses(self, numbers: list[int]) -> list[int]:
+        """the literals of the formula's clauses of these numbers"""
+        return [literal for number in numbers for literal in self.clauses[number - 1]]
+
     def padding(self, number: int, beyond: bool, taken: list[int]) -> list[int]:
-        """so many literals of other variables: of the formula, as far as it has some, or beyond it"""
+        """so many literals of variables that aren't taken: of the formula, as far as it has some, or beyond it"""
         if beyond:
             return [LAST - at for at in range(number)]
         free = [at for at in range(1, self.variables + 1) if at not in taken and -at not in taken]
@@ -77,8 +82,7 @@ def named_again(material: Material, size: int, beyond: bool) -> Iterator[bytes]:
     """a long clause, and a line that names it again and again"""
     literals, hints = material.learnt()
     clause = material.clauses[hints[0] - 1]
-    taken = [*literals, *clause]
-    padding = material.padding(size // (24 if beyond else 12), beyond, taken)
+    padding = material.padding(size // (24 if beyond else 12), beyond, [*literals, *material.of_clauses(hints)])
     first = text_of(b"l", clause + padding, [hints[0]])
     own = text_of(b"l", literals + padding, hints[1:])
     number = b"%d " % (len(material.clauses) + 1)
@@ -90,11 +94,12 @@ def named_again(material: Material, size: int, beyond: bool) -> Iterator[bytes]:
 
 
 def named_by_lines(material: Material, size: int, beyond: bool) -> Iterator[bytes]:
-    """long clauses, as many as each has literals, and as many lines that name each of them once"""
+    """long clauses, as many as each has literals, and as many lines that name each of them once. Those of the formula have no more
+    literals than it has variables: so the grid is to be large"""
     literals, hints = material.learnt()
     clause = material.clauses[hints[0] - 1]
     number = max(2, int((size / (30 if beyond else 17)) ** 0.5))
-    padding = material.padding(number, beyond, [*literals, *clause])
+    padding = material.padding(number, beyond, [*literals, *material.of_clauses(hints)])
     yield front(material)
     for at in range(number):
         yield text_of(b"l", clause + padding[at:] + padding[:at], [hints[0]])

@@ -59,7 +59,6 @@ SENTENCES = [
     (FORMATS, "with one of these statuses, or with {unstarted} where the words couldn't be had. The launcher ends with {unstarted} too where "
               "the program couldn't be built or started, and with {stopped} where it is interrupted."),
     (TRUSTED, "in pieces of {piece} bytes or more"),
-    (TRUSTED, "the power {power} of their bytes: {slow}."),
     (TRUSTED, "{cases} cases by chance had"),
     (TRUSTED, "may share a column (law {of_mileages})"),
     (TRUSTED, "join their nodes (laws {of_grid} and {of_lines})"),
@@ -216,10 +215,9 @@ def of_sources():
     parties, rows = "crates/lawful_check/src/law_break.rt", source("railml_read/specs/Rows.antt")
     rows_of_runs = source("schematic_main/specs/So.antt")
     kit = sorted({name for below in stands_on().values() for name in below} - set(crates()))
-    power, slow = groups(r"power (\S+) of their bytes.*?: (\d+ MB took \d+ s)", "bench/hostile/known.py")
     return {"laws": WORDS_OF_NUMBERS[len(laws())], "attributes": coded(re.findall(r"text_named \(codes \"(\w+)\"\)", rows)),
             "of_nodes": one(r"Laws (\d and \d) have two nodes", parties), "of_edges": one(r"law (\d) two edges", parties),
-            "piece": f"{constant('outside_io', 'PIECE')[0]:,}", "power": power, "slow": slow,
+            "piece": f"{constant('outside_io', 'PIECE')[0]:,}",
             "kit": coded(kit), "kit_listed": ", ".join(f"`{it}`" for it in kit),
             "of_check_is_so": " and ".join(f"of `{it.lower()}`" for it in re.findall(r"^IsSo \((\w+).*= CheckIsSo", rows_of_runs, re.M)),
             "asked": "a" if "requires" in one(r"^pub fn run<((?:.*\n)*?)^\{", "crates/schematic_main/src/running.rt") else "no",

@@ -251,6 +251,15 @@ class Slow(unittest.TestCase):
         self.assertEqual(slow.row_of("check", "x", sizes[:1], 0.001)[-1], "-")
         self.assertEqual(slow.row_of("check", "x", [slow.Measured(4_000_000, 9.0, -9, True)], 0.03)[-1], "ended")
 
+    def test_a_family_that_is_refused_measures_nothing(self) -> None:
+        for answer, refused in (("check BadHint line 245", True), ("hints Form line 2", True), ("check Lacks place 1", False)):
+            with tempfile.TemporaryDirectory() as folder:
+                program = Path(folder, "program")
+                program.write_text(f"#!/bin/sh\necho '{answer}'\n")
+                program.chmod(0o755)
+                words = argparse.Namespace(program=program)
+                self.assertEqual((slow.is_refused(words, "recheck"), slow.is_refused(words, "check")), (refused, False))
+
     def test_seconds_of_the_processor(self) -> None:
         seconds, status, ended = slow.timed(["/bin/sh", "-c", "while :; do :; done"], 0.3)
         self.assertTrue(ended)

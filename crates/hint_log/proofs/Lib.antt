@@ -1,6 +1,8 @@
 pub mod LeftLemmas
 pub mod NegationLemmas
 pub mod MarksLemmas
+pub mod SlotLemmas
+pub mod SlotTableLemmas
 pub mod NotesLemmas
 pub mod HintLemmas
 pub mod VerdictLemmas

@@ -1,44 +1,38 @@
 // The checker of hinted lines.
-ghost use Rattle.std.specs.Prelude.{◌≡◌, ◌≤◌, ◌<◌, ◌↔◌, ◌+◌, ◌^◌, ◌++◌, [], ◌∷◌, ℕ, IsTrue, IfOk, IfErr, OnOk, OnErr};
-ghost use Rattle.std.specs.Prelude.{IsErrOf, map, length, true, false};
-ghost use Rattle.cnf_core.specs.Lit.{negate};
-ghost use Rattle.cnf_core.specs.Clause.{AreDistinct, words_of};
+ghost use Rattle.std.specs.Prelude.{◌≡◌, ◌<◌, ◌↔◌, ◌^◌, ◌++◌, [], ◌∷◌, ℕ, IsTrue, IfOk, IfErr, OnOk, OnErr};
+ghost use Rattle.std.specs.Prelude.{IsErrOf, length};
+ghost use Rattle.cnf_core.specs.Clause.{AreDistinct};
 ghost use Rattle.hint_log.specs.Hint.{FailsAt, shown_lits, hints_of};
-ghost use Rattle.hint_log.specs.Looks.{IsHintVerdict};
 ghost use Rattle.hint_log.specs.Checked.{AcceptsHint, PassesHintRoom, IsHintAnswer, RefutesByHints};
 
 use crate::HintFault;
 use crate::hint_line::{HintLine, Numbers};
-use crate::judging::judge;
-use crate::marks::MarkedLits;
-use crate::notes::Notes;
+use crate::kept::KeptClauses;
+use crate::slots::Slots;
 use cnf_core::{Clause, Formula, Lit};
 use plan_core::OutOfMemory;
 use refute_log::are_among;
 use std::alloc::Global;
 use std::marker::Model;
 
-/// Accepts hinted lines that are good after those that it accepted before.
+/// Accepts hinted lines that are good after those that it accepted before. The clauses that lines may name are kept by
+/// slot.
 #[derive(Drop)]
 pub struct HintChecker {
     alloc: Global,
-    room: u32,
-    given: Formula,
-    learnt: Vec<Clause>,
-    words: u64,
-    marks: MarkedLits,
-    notes: Notes,
+    slots: Slots,
+    kept: KeptClauses,
     refuted: Vec<Clause>,
 }
 
 impl Model for HintChecker {
-    ghost use Rattle.hint_log.specs.Checked.{HintFacts, hint_facts, IsHintChecker};
+    ghost use Rattle.hint_log.specs.Checked.{HintFacts, hint_facts, AreKeptBySlot};
 
     ghost Value = { HintFacts };
 
-    ghost view = { λ c. hint_facts c.room c.given.clauses c.learnt.items c.refuted.items };
+    ghost view = { λ c. hint_facts c.slots c.kept c.refuted.items };
 
-    ghost invariant = { λ c. IsHintChecker c.given.clauses c.learnt.items c.words c.marks };
+    ghost invariant = { λ c. AreKeptBySlot c.slots c.kept };
 }
 
 impl HintChecker {
@@ -49,60 +43,14 @@ impl HintChecker {
         ensures clauses { IfOk result (λ c. c.clauses ≡ f.clauses) }
         ensures refuted { IfOk result (λ c. c.refuted ≡ []) }
     {
-        let words = f.words() as u64;
-        let marks = MarkedLits::new(alloc, f.vars())?;
+        let slots = Slots::new(alloc, f.vars())?;
+        let kept = KeptClauses::new(alloc, f, room)?;
         Ok(HintChecker {
             alloc,
-            room,
-            given: f,
-            learnt: Vec::new(alloc),
-            words,
-            marks,
-            notes: Notes::new(alloc),
+            slots,
+            kept,
             refuted: Vec::new(alloc),
         })
-    }
-
-    /// Whether the hints show the clause of these literals: None, or the first place that fails.
-    fn judge(&mut self, lits: &[Lit], hints: &[u32]) -> Result<Option<u32>, OutOfMemory>
-        requires { length hints.now < 2 ^ 32 }
-        ensures same { self.new ≡ self.old }
-        ensures verdict { IfOk result (IsHintVerdict self.old.clauses (map negate lits.now) hints.now) }
-    {
-        self.notes.clear();
-        let answer = judge(
-            &self.given,
-            &self.learnt,
-            &mut self.marks,
-            &mut self.notes,
-            lits,
-            hints,
-        );
-        self.marks.clear();
-        answer
-    }
-
-    /// Whether a clause of so many literals would pass the room.
-    fn lacks_room(&self, length: usize) -> bool
-        ensures yes { result ≡ true → self.now.room < words_of self.now.clauses + length + 3 }
-        ensures no { result ≡ false → words_of self.now.clauses + length + 3 ≤ self.now.room }
-    {
-        let room = self.room as usize;
-        let taken = self.words as usize;
-        room < taken || room - taken < 3 || room - taken - 3 < length
-    }
-
-    /// Keeps the clause of these literals, for which there is room.
-    fn keep(&mut self, lits: &[Lit]) -> Result<(), OutOfMemory>
-        requires distinct { AreDistinct lits.now }
-        requires fits { words_of self.old.clauses + length lits.now + 3 ≤ self.old.room }
-        ensures ok { OnOk result (self.new ≡ record self.old { clauses = self.old.clauses ++ lits.now ∷ [] }) }
-        ensures err { OnErr result (self.new ≡ self.old) }
-    {
-        let clause = Clause::new(self.alloc, lits)?;
-        self.learnt.push(clause)?;
-        self.words += lits.len() as u64 + 3;
-        Ok(())
     }
 
     /// Keeps a refuted clause.
@@ -121,14 +69,14 @@ impl HintChecker {
         requires { length hints.now < 2 ^ 32 }
         ensures { IsHintAnswer self.old self.new (HintLine.Learnt lits.now hints.now) result }
     {
-        let clause = lits.as_slice();
-        match self.judge(clause, hints.as_slice())? {
+        let by_slot = self.slots.by_slot(lits.as_slice())?;
+        match self.kept.judge(&by_slot, hints.as_slice())? {
             Some(k) => Err(HintFault::BadHint(k)),
             None => {
-                if self.lacks_room(clause.len()) {
+                if self.kept.lacks_room(by_slot.len()) {
                     return Err(HintFault::Room);
                 }
-                self.keep(clause)?;
+                self.kept.keep(by_slot)?;
                 Ok(())
             }
         }
@@ -139,11 +87,11 @@ impl HintChecker {
         requires { length hints.now < 2 ^ 32 }
         ensures { IsHintAnswer self.old self.new (HintLine.Refuted lits.now hints.now) result }
     {
-        let clause = lits.as_slice();
-        match self.judge(clause, hints.as_slice())? {
+        let by_slot = self.slots.by_slot(lits.as_slice())?;
+        match self.kept.judge(&by_slot, hints.as_slice())? {
             Some(k) => Err(HintFault::BadHint(k)),
             None => {
-                self.keep_refuted(clause)?;
+                self.keep_refuted(lits.as_slice())?;
                 Ok(())
             }
         }

@@ -2,10 +2,11 @@
 //!
 //! A line is a clause and the numbers of clauses before it. `HintChecker` accepts exactly the good lines: each clause
 //! that a line names has one literal left, and the last one has none. It goes through the literals of a named clause
-//! once a line, and reads one table entry for each. For a variable that the formula lacks it searches among such
-//! literals. `specs/Hint` says which lines are good and where a line fails. `specs/Checked` says what a checker keeps,
-//! `specs/HintedLines` when lines in a row are good; `laws` says what follows. `judging` goes along a line's hints over
-//! the marks of `marks` and the notes of `notes`. `specs/Looks` is for private contracts.
+//! once a line, and reads one table entry for each. A variable that the formula lacks gets a slot when it is read
+//! (`slots`, `specs/Slots`), and clauses are kept by slot (`kept`): so no look searches for it. `specs/Hint` says which
+//! lines are good and where a line fails. `specs/Checked` says what a checker keeps, `specs/HintedLines` when lines in
+//! a row are good; `laws` says what follows. `judging` goes along a line's hints over the marks of `marks` and the
+//! notes of `notes`. `specs/Looks` is for private contracts.
 //!
 //! The text has a first line, a line of caps (`capping`) and the hinted lines. `write_hint` writes one, `read_hint`
 //! reads one (`reading`, `cutting`, `numbers`). `specs/HintText` has the texts. `specs/HintForm` and `specs/HintFaults`
@@ -20,12 +21,14 @@ mod cutting;
 mod fault;
 mod hint_line;
 mod judging;
+mod kept;
 mod laws;
 mod looks;
 mod marks;
 mod notes;
 mod numbers;
 mod reading;
+mod slots;
 mod text_fault;
 mod text_laws;
 mod writing;

@@ -1,11 +1,7 @@
-use Rattle.std.proofs.Common.{arith}
-use Rattle.hint_log.proofs.MarksLemmas.{marked_inside, marked_outside}
+use Rattle.std.proofs.Common.{◌∙◌}
+use Rattle.hint_log.proofs.MarksLemmas.{marked_more}
 use Rattle.hint_log.proofs.marks.put_mark.Goals as goal
 
-pub returns-then-i-len-clause-ok : goal.returns-then-i-len-clause-ok
-returns-then-i-len-clause-ok c = λ lits m. rw c.word-word.ensures.value (marked_inside c.args.table.now.items c.args.beyond.now lits c.args.l m
-    (omega (arith, c.word-word.ensures.value, c.len.ensures, c.if-i-len.true)))
-
-pub returns-in_ok-insert-clause-ok : goal.returns-in_ok-insert-clause-ok
-returns-in_ok-insert-clause-ok c = λ lits m. marked_outside c.args.table.now.items c.args.beyond.now c.insert.new.self lits c.args.l c.word-word.result
-    c.word-word.ensures.value m (omega (arith, c.word-word.ensures.value, c.len.ensures, c.if-i-len.false)) c.in_ok-insert.ensures.updates
+pub returns-clause-ok : goal.returns-clause-ok
+returns-clause-ok c = λ lits m. rw c.word.ensures.value (marked_more c.reach.new.table.items lits c.args.l (λ k. c.reach.ensures.same k ∙ m k)
+    c.in_ok-reach.ensures.reaches)

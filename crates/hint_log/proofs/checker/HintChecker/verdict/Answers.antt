@@ -12,7 +12,7 @@ loop-clause-preserved c = all_more_at (λ d. HasAllOf c.args.allowed.now d → �
 
 pub returns-then-are_among : goal.returns-then-are_among
 returns-then-are_among c = (
-  λ _. refutes_at c.self.inside.room c.self.inside.given.clauses c.self.inside.learnt.items c.self.inside.refuted.items c.deref-clause-items.result.now
+  λ _. refutes_at c.self.inside.slots c.self.inside.kept c.self.inside.refuted.items c.deref-clause-items.result.now
       c.args.self.now c.args.allowed.now c.loop-clause.clause-index c.clause-item.result c.deref-clause-items.ensures.value c.self.view_is
       c.loop-clause-test.true
       c.clause-item.is
@@ -23,7 +23,7 @@ returns-then-are_among c = (
 pub returns : goal.returns
 returns c = (
   λ t. cc,
-  λ r. absurd (refutes_none c.self.inside.room c.self.inside.given.clauses c.self.inside.learnt.items c.self.inside.refuted.items
+  λ r. absurd (refutes_none c.self.inside.slots c.self.inside.kept c.self.inside.refuted.items
       c.deref-clause-items.result.now c.args.self.now c.args.allowed.now c.deref-clause-items.ensures.value c.self.view_is
       (all_end (λ d. HasAllOf c.args.allowed.now d → ⊥) c.deref-clause-items.result.now c.loop-clause.clause-index c.loop-clause-test.false
       c.loop-clause.invariant) r),
