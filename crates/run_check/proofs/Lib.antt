@@ -1,7 +1,6 @@
 pub mod SettledLemmas
 pub mod VerdictLemmas
 pub mod CheckedLemmas
-pub mod FilesLemmas
 pub mod RecheckedLemmas
 pub mod TrimmedLemmas
 pub mod CountLemmas

@@ -20,15 +20,16 @@ use Rattle.run_input.specs.declared.status.Status.TheVariants.{Done}
 use Rattle.run_input.specs.declared.reply.Reply.{Reply}
 use Rattle.run_input.specs.Met.{Met, between, HasRead}
 use Rattle.run_input.specs.Input.{HasStation}
+use Rattle.run_input.specs.Answer.{log_input}
+use Rattle.run_input.specs.ThreeFiles.{AreThreeFiles}
+use Rattle.run_input.proofs.ThreeFilesLemmas.{read_three}
 use Rattle.run_check.specs.CheckLine.{claim_of}
 use Rattle.run_check.specs.Checked.{IsSheetAnswer}
 use Rattle.run_check.specs.CertifiedSheet.{CertifiesSheet}
 use Rattle.run_check.proofs.CheckedLemmas.{certified_whole}
 use Rattle.run_check.specs.declared.trimming.Finding.{Finding}
 use Rattle.run_check.specs.declared.trimming.Finding.TheVariants.{Answered, Left, PastLimits}
-use Rattle.run_check.specs.Files.{AreFiles}
 use Rattle.run_check.specs.Trimmed.{LeavesLines, TellsLeft, AreTrimmed, IsTrimAnswer}
-use Rattle.run_check.proofs.FilesLemmas.{read_files}
 use Rattle.run_check.proofs.WrittenLemmas.{tells_later}
 use Rattle.run_check.specs.Finding.{IsClaimFinding, IsSheetFinding, IsFinding}
 
@@ -103,15 +104,15 @@ finding_of file sheet log b s l f e first second third is h =
     (subst (λ (x : List ℕ). IsFinding x s l f) first h)))
 
 pub answered_trim : (input sheet log hints bytes said lines : List ℕ) (met : Met) (reply : Reply) →
-    AreFiles input sheet log met.before.contents bytes said lines → HasRead met 3 → IsFinding bytes said lines (Answered reply) →
+    AreThreeFiles input sheet (log_input 3 log) met.before.contents bytes said lines → HasRead met 3 → IsFinding bytes said lines (Answered reply) →
     IsTrimAnswer input sheet log hints met reply.status reply.text.items
-answered_trim input sheet log hints bytes said lines met reply files read h = read_files input sheet log met (AreTrimmed hints met) bytes said lines
-    reply.status reply.text.items files read (inl h)
+answered_trim input sheet log hints bytes said lines met reply files read h =
+    read_three input sheet (log_input 3 log) met (AreTrimmed hints met) bytes said lines reply.status reply.text.items files read (inl h)
 
 pub left_trim : (input sheet log hints bytes said lines : List ℕ) (old mid new : FilesAt) (r : TrimmedLog) (status : Status) (text : List ℕ) →
-    AreFiles input sheet log old.contents bytes said lines → HasRead (between old new) 3 →
+    AreThreeFiles input sheet (log_input 3 log) old.contents bytes said lines → HasRead (between old new) 3 →
     WhereTold old.contents mid.contents SameFiles → LeavesLines bytes said lines r → TellsLeft r hints (between mid new) status text →
     IsTrimAnswer input sheet log hints (between old new) status text
 left_trim input sheet log hints bytes said lines old mid new r status text files read same leaves told =
-    read_files input sheet log (between old new) (AreTrimmed hints (between old new)) bytes said lines status text files read
+    read_three input sheet (log_input 3 log) (between old new) (AreTrimmed hints (between old new)) bytes said lines status text files read
     (inr (r, leaves, tells_later r hints old mid new status text same told))

@@ -3,7 +3,6 @@ pub mod CheckLine
 pub mod Checked
 pub mod CertifiedSheet
 pub mod Texts
-pub mod Files
 pub mod Trimmed
 pub mod TrimCut
 pub mod Finding

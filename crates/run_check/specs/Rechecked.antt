@@ -12,13 +12,13 @@ use Rattle.log_check.specs.declared.hint_verdict.HintsVerdict.TheVariants.{Certi
 use Rattle.log_check.specs.HintsJudged.{HintsCertify, IsHintsJudged}
 use Rattle.run_input.specs.declared.status.Status.{Status}
 use Rattle.run_input.specs.Input.{HasStation}
-use Rattle.run_input.specs.Answer.{IsFileJudged, IsSheetRefused}
+use Rattle.run_input.specs.Answer.{log_input, IsFileJudged, IsSheetRefused}
 use Rattle.run_input.specs.Met.{Met}
+use Rattle.run_input.specs.ThreeFiles.{IsAnswerToThree}
 use Rattle.run_check.specs.CheckLine.{claimed, claim_of}
 use Rattle.run_check.specs.Checked.{IsFoundBroken}
 use Rattle.run_check.specs.CertifiedSheet.{ClaimsTruly}
 use Rattle.run_check.specs.Texts.{hints_line, TellsHints}
-use Rattle.run_check.specs.Files.{IsAnswerToFiles}
 
 -- the sheet's drawing is lawful, if there is one, and the answer tells the verdict on the hinted lines
 pub record AreHintsChecked (g : Graph) (o : EdgeOrder) (said : Sheet) (hints : List ℕ) (status : Status)
@@ -53,7 +53,8 @@ IsRechecked file sheet hints status text = IsFileJudged (λ g o. IsHintsClaimJud
 
 -- what it answers to the files of these three names, as they stand where it reads them
 abbrev pub IsRecheckAnswer : (input sheet hints : List ℕ) → Met → Status → List ℕ → Type 0
-IsRecheckAnswer input sheet hints met status text = IsAnswerToFiles input sheet hints met IsRechecked status text
+IsRecheckAnswer input sheet hints met status text =
+    IsAnswerToThree input sheet (log_input 3 hints) met IsRechecked status text
 
 -- the bytes are the text of the sheet, whose drawing is lawful, if it has one; and hinted lines that certify what it
 -- claims

@@ -13,11 +13,12 @@ use Rattle.run_input.specs.declared.status.Status.{Status}
 use Rattle.run_input.specs.declared.status.Status.TheVariants.{Done}
 use Rattle.run_input.specs.Input.{HasStation}
 use Rattle.run_input.specs.Met.{Met, HasRead}
+use Rattle.run_input.specs.Answer.{log_input}
+use Rattle.run_input.specs.ThreeFiles.{IsAnswerToThree, AreThreeFiles}
 use Rattle.run_check.specs.CheckLine.{claim_of}
 use Rattle.run_check.specs.Checked.{IsChecked, IsSheetAnswer}
 use Rattle.run_check.specs.CertifiedSheet.{CertifiesSheet}
 use Rattle.run_check.specs.Texts.{left_text, trimmed_line}
-use Rattle.run_check.specs.Files.{IsAnswerToFiles, AreFiles}
 
 -- what is left of a log for what a sheet claims of a station
 abbrev pub IsLeftFor : Graph → EdgeOrder → Sheet → (log : List ℕ) → TrimmedLog → Type 0
@@ -49,7 +50,7 @@ AreTrimmed hints met file sheet log status text =
 -- what trim answers to the files of three names
 abbrev pub IsTrimAnswer : (input sheet log hints : List ℕ) → Met → Status → List ℕ → Type 0
 IsTrimAnswer input sheet log hints met status text =
-    IsAnswerToFiles input sheet log met (AreTrimmed hints met) status text
+    IsAnswerToThree input sheet (log_input 3 log) met (AreTrimmed hints met) status text
 
 -- the three files were read, and no other, and this is left of the log
 pub record HasReadLeft (input sheet log : List ℕ) (met : Met) (r : TrimmedLog) : Type 0 where
@@ -57,7 +58,7 @@ pub record HasReadLeft (input sheet log : List ℕ) (met : Met) (r : TrimmedLog)
   pub bytes : List ℕ
   pub said : List ℕ
   pub lines : List ℕ
-  pub files : AreFiles input sheet log met.before.contents bytes said lines
+  pub files : AreThreeFiles input sheet (log_input 3 log) met.before.contents bytes said lines
   pub leaves : LeavesLines bytes said lines r
 
 -- there is something to trim: check would end with 0
@@ -82,7 +83,7 @@ pub record HasReadPastLimits (input sheet log : List ℕ) (met : Met) : Type 0 w
   pub bytes : List ℕ
   pub said : List ℕ
   pub lines : List ℕ
-  pub files : AreFiles input sheet log met.before.contents bytes said lines
+  pub files : AreThreeFiles input sheet (log_input 3 log) met.before.contents bytes said lines
   pub passes : FilesPassLimits bytes said lines
 
 -- the bytes begin the text of what is left

@@ -5,17 +5,16 @@
 //! a verdict has. `specs/Checked` says what a sheet and a log are answered, `specs/CertifiedSheet` when a log certifies
 //! a sheet's claim. `laws` says that each input has one answer, and which.
 //!
-//! `reading` reads the three files of `trim` and `recheck`. `trimming` has `log_trim` shorten a log that certifies the
-//! claim, and writes the rest (`writing`); of another log it says what `check` says. `rechecking` has `log_check` judge
-//! hinted lines. `specs/Texts` has the texts, `specs/Files`, `specs/Trimmed` and `specs/Rechecked` the answers.
-//! `hint_laws` says that `recheck` ends with 0 exactly where the lines certify the claim, and that it does on what
-//! `trim` left. Only `trim` shares code with the solver. `schematic_main` uses this crate.
+//! `trimming` has `log_trim` shorten a log that certifies the claim, and writes the rest (`writing`); of another log it
+//! says what `check` says. `rechecking` has `log_check` judge hinted lines. `specs/Texts` has the texts,
+//! `specs/Trimmed` and `specs/Rechecked` the answers. `hint_laws` says that `recheck` ends with 0 exactly where the
+//! lines certify the claim, and that it does on what `trim` left. Only `trim` shares code with the solver.
+//! `schematic_main` uses this crate.
 #![tactic(auto)]
 
 mod checking;
 mod hint_laws;
 mod laws;
-mod reading;
 mod rechecking;
 mod trim_cut;
 mod trimming;

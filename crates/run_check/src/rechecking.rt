@@ -10,14 +10,13 @@ ghost use Rattle.run_input.specs.Met.{between, ReadsInputs, IsUnwritten};
 ghost use Rattle.run_check.specs.CheckLine.{claim_of as claim_in};
 ghost use Rattle.run_check.specs.Rechecked.{IsHintsAnswer, IsHintsClaimJudged, IsRechecked, IsRecheckAnswer};
 
-use crate::reading::read_all;
 use crate::writing::verdict_reply;
 use crate::{broken_sheet, claim_of, claimed};
 use log_check::judge_hints;
 use outside_io::Files;
 use plan_core::{MAX_LOG_BYTES, OutOfMemory, Text};
 use plan_text::{Sheet, SheetFault, read_sheet};
-use run_input::{InputRefusal, Reply, RunFault, Station, fault_reply, station_in};
+use run_input::{InputRefusal, Reply, RunFault, Station, fault_reply, read_all, station_in};
 use std::alloc::Global;
 
 /// What is answered to a sheet and the bytes of hinted lines.
@@ -105,8 +104,8 @@ pub fn recheck<F: Files>(
     ensures later { (F.at files.old).read_faults ≤ (F.at files.new).read_faults }
     ensures same { WhereTold (F.at files.old).contents (F.at files.new).contents SameFiles }
 {
-    match read_all(alloc, input, sheet, hints, files) {
-        Ok(texts) => recheck_bytes(alloc, &texts.bytes, &texts.said, &texts.lines),
+    match read_all(alloc, input, sheet, hints, MAX_LOG_BYTES, files) {
+        Ok(texts) => recheck_bytes(alloc, &texts.first, &texts.second, &texts.third),
         Err(InputRefusal::Fault(fault)) => fault_reply(alloc, fault),
         Err(InputRefusal::Memory) => Err(OutOfMemory),
     }

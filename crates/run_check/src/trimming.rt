@@ -15,7 +15,6 @@ ghost use Rattle.run_check.specs.Trimmed.{IsTrimAnswer, HasReadCertified, HasRea
 ghost use Rattle.run_check.specs.Trimmed.{TellsLeft};
 ghost use Rattle.run_check.specs.Finding.{IsClaimFinding, IsSheetFinding, IsFinding};
 
-use crate::reading::read_all;
 use crate::trim_cut::TrimCut;
 use crate::writing::{text_of, trimmed_line};
 use crate::{broken_sheet, check_claim, claim_of};
@@ -23,7 +22,9 @@ use log_trim::{TrimFault, TrimmedLog, trim_log};
 use outside_io::{FileFault, Files, write_file};
 use plan_core::{MAX_LOG_BYTES, OutOfMemory, Text};
 use plan_text::{Sheet, SheetFault, read_sheet};
-use run_input::{InputRefusal, Reply, RunFault, Station, Status, fault_reply, station_in};
+use run_input::{
+    InputRefusal, Reply, RunFault, Station, Status, fault_reply, read_all, station_in,
+};
 use std::alloc::Global;
 
 /// What the three files give: an answer, or what is left of the log.
@@ -198,8 +199,8 @@ pub fn trim<F: Files>(
         (F.at files.new).write_faults }
     ensures later { (F.at files.old).read_faults ≤ (F.at files.new).read_faults }
 {
-    match read_all(alloc, input, sheet, log, files) {
-        Ok(texts) => match judge(alloc, &texts.bytes, &texts.said, &texts.lines)? {
+    match read_all(alloc, input, sheet, log, MAX_LOG_BYTES, files) {
+        Ok(texts) => match judge(alloc, &texts.first, &texts.second, &texts.third)? {
             Finding::Answered(reply) => Ok(reply),
             Finding::PastLimits => Err(TrimCut::Limits),
             Finding::Left(left) => write_left(alloc, &left, hints, files),

@@ -22,16 +22,19 @@ use Rattle.search_moved.specs.Told.{IsMovedEnd, IsMovedLeft}
 use Rattle.run_input.specs.declared.status.Status.{Status}
 use Rattle.run_input.specs.declared.status.Status.TheVariants as statuses
 use Rattle.run_input.specs.Met.{Met, between, HasRead, IsUnwritten, LeftSo}
+use Rattle.run_input.specs.Answer.{text_input}
+use Rattle.run_input.specs.ThreeFiles.{IsAnswerToThree}
 use Rattle.run_input.specs.SearchLog.{HasToldEnd, TellsIfNew, IsRunLog}
 use Rattle.run_input.proofs.DerivesLemmas.{tells_weaker}
+use Rattle.run_input.proofs.ThreeFilesLemmas.{three_weaker, read_three}
 use Rattle.run_input.specs.Written.{file_named}
 use Rattle.run_input.proofs.FiledLemmas.{log_later}
 use Rattle.run_input.proofs.LeavesLemmas.{NamedMay, leaves_weaker, leaves_later}
 use Rattle.run_explain_redraw.specs.MovedText.{fewest_found, moved_text}
 use Rattle.run_explain_redraw.specs.Redrawn.{RedrawJob, moved_in, status_of_moved, HasEndedMoved, IsLeftOfRedraw, HasSearchedMoved, IsRedrawn}
 use Rattle.run_explain_redraw.specs.Judged.{AreJudged, HaveFault}
-use Rattle.run_explain_redraw.specs.Answer.{IsAnswerToThree, IsRedrawAnswer, HaveFormerIn, HasReadFormer, IsLeftByRedraw, RedrawMayTell}
-use Rattle.run_explain_redraw.proofs.JudgedLemmas.{three_weaker, judged_weaker, read_three}
+use Rattle.run_explain_redraw.specs.Answer.{IsRedrawAnswer, HaveFormerIn, HasReadFormer, IsLeftByRedraw, RedrawMayTell}
+use Rattle.run_explain_redraw.proofs.JudgedLemmas.{judged_weaker}
 
 -- ---- the search
 
@@ -88,8 +91,8 @@ redrawn_on input former sheet asked old mid new traced g o points status text in
     let have = in_files.have in
     let Redrawn : Graph → EdgeOrder → Former → Status → List ℕ → Type 0 = λ g o points. IsRedrawn g o asked points
     (IsRunLog asked.log (between old new) traced) in
-    read_three input former sheet (between old new) (AreJudged Redrawn) in_files.bytes in_files.old in_files.said status text in_files.inputs read
-    (inl (
+    read_three input former (text_input 3 sheet) (between old new) (AreJudged Redrawn) in_files.bytes in_files.old in_files.said status text in_files.inputs
+    read (inl (
       g,
       o,
       have.has_station,
@@ -104,11 +107,11 @@ redrawn_on input former sheet asked old mid new traced g o points status text in
 
 -- a fault is answered whatever is asked
 pub rejected_on : (input former sheet : List ℕ) (asked : RedrawJob) (met : Met) (traced : Lines → Type 0) (status : Status) (text : List ℕ) →
-    IsAnswerToThree input former sheet met HaveFault status text → IsRedrawAnswer input former sheet asked met traced status text
+    IsAnswerToThree input former (text_input 3 sheet) met HaveFault status text → IsRedrawAnswer input former sheet asked met traced status text
 rejected_on input former sheet asked met traced status text =
     let None : Graph → EdgeOrder → Former → Status → List ℕ → Type 0 = λ g o points status text. ⊥ in
     let Redrawn : Graph → EdgeOrder → Former → Status → List ℕ → Type 0 = λ g o points. IsRedrawn g o asked points (IsRunLog asked.log met traced) in
-    three_weaker input former sheet met (AreJudged None) (AreJudged Redrawn) status text
+    three_weaker input former (text_input 3 sheet) met (AreJudged None) (AreJudged Redrawn) status text
     (λ bytes old said. judged_weaker None Redrawn bytes old said status text (λ g o points none. absurd none))
 
 -- ---- what is left, and what isn't written nor told

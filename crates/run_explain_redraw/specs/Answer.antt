@@ -9,31 +9,18 @@ use Rattle.refute_log.specs.Told.{Lines}
 use Rattle.refute_log.specs.FileLog.{BeginsLog}
 use Rattle.run_input.specs.declared.status.Status.{Status}
 use Rattle.run_input.specs.Met.{Met, HasRead}
-use Rattle.run_input.specs.Reading.{IsInput}
-use Rattle.run_input.specs.Answer.{text_input, IsAnswerAfter, IsAnswerOn}
+use Rattle.run_input.specs.Answer.{text_input}
+use Rattle.run_input.specs.ThreeFiles.{IsAnswerToThree, AreThreeFiles}
 use Rattle.run_input.specs.SearchLog.{IsRunLog}
 use Rattle.run_explain_redraw.specs.Redrawn.{RedrawJob, IsRedrawn, IsLeftOfRedraw}
 use Rattle.run_explain_redraw.specs.Judged.{AreJudged, HaveFormer}
-
--- the three files are read, as they stand then, before what they say is judged, and their bytes are answered so
-abbrev pub IsAnswerToThree : (input former sheet : List ℕ) → Met →
-    (List ℕ → List ℕ → List ℕ → Status → List ℕ → Type 0) → Status → List ℕ → Type 0
-IsAnswerToThree input former sheet met Answers status text =
-    IsAnswerOn (text_input 1 input) 0 met (λ bytes. IsAnswerOn (text_input 2 former) 1 met
-    (λ old. IsAnswerOn (text_input 3 sheet) 2 met (IsAnswerAfter 3 met (Answers bytes old)))) status text
 
 -- what redraw answers, with what the run met and what the trace was told
 abbrev pub IsRedrawAnswer : (input former sheet : List ℕ) → RedrawJob → Met → (traced : Lines → Type 0) → Status →
     List ℕ → Type 0
 IsRedrawAnswer input former sheet asked met traced status text =
-    IsAnswerToThree input former sheet met
+    IsAnswerToThree input former (text_input 3 sheet) met
     (AreJudged (λ g o points. IsRedrawn g o asked points (IsRunLog asked.log met traced))) status text
-
--- these are the bytes of the three files, and none is too long
-pub record AreInputs (input former sheet : List ℕ) (contents : Option Told) (bytes old said : List ℕ) : Type 0 where
-  pub is_input : IsInput (text_input 1 input) contents bytes
-  pub is_former : IsInput (text_input 2 former) contents old
-  pub is_sheet : IsInput (text_input 3 sheet) contents said
 
 -- the three files have this station and these former points
 pub record HaveFormerIn (input former sheet : List ℕ) (contents : Option Told) (g : Graph) (o : EdgeOrder)
@@ -41,7 +28,7 @@ pub record HaveFormerIn (input former sheet : List ℕ) (contents : Option Told)
   pub bytes : List ℕ
   pub old : List ℕ
   pub said : List ℕ
-  pub inputs : AreInputs input former sheet contents bytes old said
+  pub inputs : AreThreeFiles input former (text_input 3 sheet) contents bytes old said
   pub have : HaveFormer bytes old said g o points
 
 -- the three files were read, and no other, and have such: there is something to search

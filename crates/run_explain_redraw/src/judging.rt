@@ -9,16 +9,18 @@ ghost use Rattle.run_input.specs.Status.{IsRefused};
 ghost use Rattle.run_input.specs.Fault.{fault_line, fault_status};
 ghost use Rattle.run_input.specs.Input.{IsShort, HasStation};
 ghost use Rattle.run_input.specs.Met.{between, HasRead, ReadsInputs, IsUnwritten};
+ghost use Rattle.run_input.specs.Answer.{text_input};
+ghost use Rattle.run_input.specs.ThreeFiles.{IsAnswerToThree};
 ghost use Rattle.run_explain_redraw.specs.Judged.{HaveFault, HaveFormer};
-ghost use Rattle.run_explain_redraw.specs.Rejection.{RejectedWith, RejectsFault, IsUnreadOfThree};
-ghost use Rattle.run_explain_redraw.specs.Answer.{IsAnswerToThree, AreInputs, HaveFormerIn};
+ghost use Rattle.run_explain_redraw.specs.Rejection.{RejectedWith, RejectsFault};
+ghost use Rattle.run_explain_redraw.specs.Answer.{HaveFormerIn};
 
 use crate::former_points::former_points;
 use outside_io::{Files, push_text};
 use plan_core::{MAX_FILE_BYTES, OutOfMemory, Point, Text};
 use plan_geometry::Drawing;
 use plan_text::{SheetFault, read_drawing};
-use run_input::{InputRefusal, Reply, RunFault, Station, bytes_of, fault_reply, station_in};
+use run_input::{InputRefusal, Reply, RunFault, Station, fault_reply, read_all, station_in};
 use std::alloc::Global;
 
 /// A station, and where its nodes were.
@@ -129,38 +131,6 @@ fn judge(alloc: Global, bytes: &[u8], old: &[u8], said: &[u8]) -> Result<Known, 
     Ok(Known { station, former })
 }
 
-/// The bytes of the three files.
-#[derive(Drop)]
-struct Texts {
-    bytes: Vec<u8>,
-    old: Vec<u8>,
-    said: Vec<u8>,
-}
-
-/// Reads the three files, one after another.
-fn read_all<F: Files>(
-    alloc: Global,
-    input: &Text,
-    former: &Text,
-    sheet: &Text,
-    files: &mut F,
-) -> Result<Texts, InputRefusal>
-    ensures inputs { IfOk result (λ t. AreInputs input.now former.now sheet.now (F.at files.old).contents
-        t.bytes.items t.old.items t.said.items) }
-    ensures refusal { let met = between (F.at files.old) (F.at files.new) in
-        IfErr result (λ r. IsUnreadOfThree input.now former.now sheet.now met r) }
-    ensures reads { OnOk result (HasRead (between (F.at files.old) (F.at files.new)) 3) }
-    ensures reads_err { let met = between (F.at files.old) (F.at files.new) in OnErr result (ReadsInputs 3 ⊥ met) }
-    ensures unwritten { let met = between (F.at files.old) (F.at files.new) in IsUnwritten met }
-    ensures later { (F.at files.old).read_faults ≤ (F.at files.new).read_faults }
-    ensures same { WhereTold (F.at files.old).contents (F.at files.new).contents SameFiles }
-{
-    let bytes = bytes_of(alloc, 1, MAX_FILE_BYTES, input, files)?;
-    let old = bytes_of(alloc, 2, MAX_FILE_BYTES, former, files)?;
-    let said = bytes_of(alloc, 3, MAX_FILE_BYTES, sheet, files)?;
-    Ok(Texts { bytes, old, said })
-}
-
 /// The station and the former points of the three files, or what is answered where they have none.
 pub(crate) fn known_of<F: Files>(
     alloc: Global,
@@ -172,7 +142,7 @@ pub(crate) fn known_of<F: Files>(
     ensures have { IfOk result (λ k. HaveFormerIn input.now former.now sheet.now (F.at files.old).contents
         k.station.graph k.station.order k.former.items) }
     ensures rejected { let met = between (F.at files.old) (F.at files.new) in
-        IfErr result (RejectedWith (IsAnswerToThree input.now former.now sheet.now met HaveFault)) }
+        IfErr result (RejectedWith (IsAnswerToThree input.now former.now (text_input 3 sheet.now) met HaveFault)) }
     ensures refused { IfErr result (RejectedWith (λ status _. IsRefused status)) }
     ensures reads { OnOk result (HasRead (between (F.at files.old) (F.at files.new)) 3) }
     ensures reads_err { let met = between (F.at files.old) (F.at files.new) in OnErr result (ReadsInputs 3 ⊥ met) }
@@ -180,8 +150,8 @@ pub(crate) fn known_of<F: Files>(
     ensures later { (F.at files.old).read_faults ≤ (F.at files.new).read_faults }
     ensures same { WhereTold (F.at files.old).contents (F.at files.new).contents SameFiles }
 {
-    match read_all(alloc, input, former, sheet, files) {
-        Ok(texts) => judge(alloc, &texts.bytes, &texts.old, &texts.said),
+    match read_all(alloc, input, former, sheet, MAX_FILE_BYTES, files) {
+        Ok(texts) => judge(alloc, &texts.first, &texts.second, &texts.third),
         Err(InputRefusal::Fault(fault)) => Err(Rejected::With(fault_reply(alloc, fault)?)),
         Err(InputRefusal::Memory) => Err(Rejected::Memory),
     }

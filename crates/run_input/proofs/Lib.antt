@@ -7,3 +7,4 @@ pub mod SignalLemmas
 pub mod DerivesLemmas
 pub mod LeavesLemmas
 pub mod FiledLemmas
+pub mod ThreeFilesLemmas

@@ -9,3 +9,4 @@ pub mod Law
 pub mod Signals
 pub mod Reading
 pub mod Reply
+pub mod ThreeFiles

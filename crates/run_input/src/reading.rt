@@ -6,8 +6,9 @@ ghost use Rattle.track_order.specs.Order.{IsOrderOf};
 ghost use Rattle.plan_objects.specs.declared.places.SignalPlace.{SignalPlace as APlace};
 ghost use Rattle.run_input.specs.Answer.{input_file};
 ghost use Rattle.run_input.specs.Input.{IsLong, IsShort, IsStationOf};
-ghost use Rattle.run_input.specs.Met.{between, ReadsInputs, IsUnwritten};
+ghost use Rattle.run_input.specs.Met.{between, HasRead, ReadsInputs, IsUnwritten};
 ghost use Rattle.run_input.specs.Reading.{IsInput, IsUnreadInput, IsRefusalOf};
+ghost use Rattle.run_input.specs.ThreeFiles.{AreThreeFiles, IsUnreadOfThree};
 ghost use Rattle.run_input.specs.Signals.{IsSignalStationOf, IsSignalRefusalOf};
 
 use crate::fault::RunFault;
@@ -54,6 +55,46 @@ pub fn bytes_of<F: Files>(
         Err(FileFault::Failed) => Err(InputRefusal::Fault(RunFault::ReadFailed(number))),
         Err(FileFault::Memory) => Err(InputRefusal::Memory),
     }
+}
+
+/// The bytes of three files.
+#[derive(Drop)]
+pub struct ThreeFiles {
+    pub first: Vec<u8>,
+    pub second: Vec<u8>,
+    pub third: Vec<u8>,
+}
+
+/// The bytes of three inputs, which are the files of these names, read one after another: a railML file, another one or
+/// the text of a drawing, and one that may have `limit` bytes. Or that one of them is too long, or couldn't be read;
+/// what comes after it isn't read.
+pub fn read_all<F: Files>(
+    alloc: Global,
+    input: &Text,
+    second: &Text,
+    third: &Text,
+    limit: usize,
+    files: &mut F,
+) -> Result<ThreeFiles, InputRefusal>
+    requires { limit ≤ MAX_LOG_BYTES }
+    ensures inputs { IfOk result (λ t. AreThreeFiles input.now second.now (input_file 3 third.now limit)
+        (F.at files.old).contents t.first.items t.second.items t.third.items) }
+    ensures refusal { let met = between (F.at files.old) (F.at files.new) in
+        IfErr result (λ r. IsUnreadOfThree input.now second.now (input_file 3 third.now limit) met r) }
+    ensures reads { OnOk result (HasRead (between (F.at files.old) (F.at files.new)) 3) }
+    ensures reads_err { let met = between (F.at files.old) (F.at files.new) in OnErr result (ReadsInputs 3 ⊥ met) }
+    ensures unwritten { let met = between (F.at files.old) (F.at files.new) in IsUnwritten met }
+    ensures later { (F.at files.old).read_faults ≤ (F.at files.new).read_faults }
+    ensures same { WhereTold (F.at files.old).contents (F.at files.new).contents SameFiles }
+{
+    let bytes = bytes_of(alloc, 1, MAX_FILE_BYTES, input, files)?;
+    let next = bytes_of(alloc, 2, MAX_FILE_BYTES, second, files)?;
+    let last = bytes_of(alloc, 3, limit, third, files)?;
+    Ok(ThreeFiles {
+        first: bytes,
+        second: next,
+        third: last,
+    })
 }
 
 /// The station of the file of this name, or its first fault, or that it couldn't be read.

@@ -93,8 +93,8 @@ left_by input sheet log hints met line owes =
           said = said.bytes;
           lines = kept.bytes;
           files = record {
-            is_input = record { is_file = file.is; short = file.short };
-            is_sheet = record { is_file = said.is; short = said.short };
+            is_first = record { is_file = file.is; short = file.short };
+            is_second = record { is_file = said.is; short = said.short };
             is_third = record { is_file = kept.is; short = kept.short };
           };
           leaves = leaves;
@@ -121,14 +121,14 @@ own_hints input sheet log hints met next status text line owes files read checks
     let found : (name content : List ℕ) → files.now name ≡ Some content →
     IsFileWhereTold next.before.contents name content = λ name content is. subst (λ (c : Option Told). IsFileWhereTold c name content) (sym files.is_now)
     is in
-    let is_input = files.same_input ∙ at_name met.before.contents files.before input bytes files.is_before inputs.is_input.is_file in
-    let is_sheet = files.same_sheet ∙ at_name met.before.contents files.before sheet said files.is_before inputs.is_sheet.is_file in
+    let is_input = files.same_input ∙ at_name met.before.contents files.before input bytes files.is_before inputs.is_first.is_file in
+    let is_sheet = files.same_sheet ∙ at_name met.before.contents files.before sheet said files.is_before inputs.is_second.is_file in
     let left_there = stands (λ after. after hints ≡ Some (left_text r)) met.before.contents met.after.contents files.before files.after files.is_before
     files.is_after l.written in
     let is_hints = files.same_hints ∙ left_there in
-    let first = bytes_answered (text_input 1 input) 0 next bytes (OnSheet sheet hints next) status line told (found input bytes is_input) inputs.is_input.short
+    let first = bytes_answered (text_input 1 input) 0 next bytes (OnSheet sheet hints next) status line told (found input bytes is_input) inputs.is_first.short
     (λ fails. read (0, lit< tt, fails)) checks in
-    let second = bytes_answered (text_input 2 sheet) 1 next said (OnHints hints next bytes) status line told (found sheet said is_sheet) inputs.is_sheet.short
+    let second = bytes_answered (text_input 2 sheet) 1 next said (OnHints hints next bytes) status line told (found sheet said is_sheet) inputs.is_second.short
     (λ fails. read (1, lit< tt, fails)) first in
     let third =
     bytes_answered (log_input 3 hints) 2 next (left_text r) (IsAnswerAfter 3 next (IsRechecked bytes said)) status line told

@@ -54,12 +54,12 @@ redrawn_run input former sheet grid budget log met g o points status text told h
     let ins = have.inputs in
     let first =
     bytes_answered (text_input 1 input) 0 met have.bytes (λ bytes. IsAnswerOn (text_input 2 former) 1 met
-    (λ old. IsAnswerOn (text_input 3 sheet) 2 met (IsAnswerAfter 3 met (AreJudged R bytes old)))) status text told ins.is_input.is_file ins.is_input.short
+    (λ old. IsAnswerOn (text_input 3 sheet) 2 met (IsAnswerAfter 3 met (AreJudged R bytes old)))) status text told ins.is_first.is_file ins.is_first.short
     (λ fails. read (0, lit< tt, fails)) owes in
     let second =
     bytes_answered (text_input 2 former) 1 met have.old (λ old. IsAnswerOn (text_input 3 sheet) 2 met (IsAnswerAfter 3 met (AreJudged R have.bytes old))) status
-    text told ins.is_former.is_file ins.is_former.short (λ fails. read (1, lit< tt, fails)) first in
+    text told ins.is_second.is_file ins.is_second.short (λ fails. read (1, lit< tt, fails)) first in
     let third = bytes_answered (text_input 3 sheet) 2 met have.said (IsAnswerAfter 3 met (AreJudged R have.bytes have.old)) status text
-    told ins.is_sheet.is_file ins.is_sheet.short (λ fails. read (2, lit< tt, fails)) second in
+    told ins.is_third.is_file ins.is_third.short (λ fails. read (2, lit< tt, fails)) second in
     redrawn_ends have.bytes have.old have.said asked (IsRunLog log met (λ lines. ⊤)) g o points status text have.have
     (answered_at (λ x y. IsFormerJudged (R x y) x have.old have.said) have.bytes g o status text have.have.has_station third.1)

@@ -182,11 +182,11 @@ excludes_fewer told input former sheet grid g o points d other text files read l
     (text ≡ moved_text x grid given (fewest.Best e)) in
     let Q : Graph → EdgeOrder → Graph → EdgeOrder → Type 0 = λ x p y q. (given : Former) × IsOfFile (λ bytes. GivesFormer x y bytes given) sheet (Some told) ×
     says x p given in
-    let here = at_station (λ x p. OfStation (Some told) former (Q x p)) told input g o (files.bytes, files.inputs.is_input.is_file, have.has_station) so in
+    let here = at_station (λ x p. OfStation (Some told) former (Q x p)) told input g o (files.bytes, files.inputs.is_first.is_file, have.has_station) so in
     let found : Q g o have.old_graph have.old_order = at_station (Q g o) told former have.old_graph have.old_order
-    (files.old, files.inputs.is_former.is_file, have.old_station) here in
+    (files.old, files.inputs.is_second.is_file, have.old_station) here in
     let gives : GivesFormer g have.old_graph files.said found.0 = subst (λ (xs : List ℕ). GivesFormer g have.old_graph xs found.0)
-    (same_bytes told sheet files.said found.1.0 files.inputs.is_sheet.is_file found.1.1) found.1.2 in
+    (same_bytes told sheet files.said found.1.0 files.inputs.is_third.is_file found.1.1) found.1.2 in
     let same = one_given files.old g have.old_graph files.said found.0 points have.old_station.has_graph gives have.gives in
     let said : says g o points = subst (λ (given : Former). says g o given) same found.2 in
     let nodes = have.gives.are_former.same in
