@@ -5,6 +5,7 @@ use Rattle.run_input.specs.declared.status.Status.TheVariants.{Done}
 use Rattle.run_input.specs.Status.{IsRefused}
 use Rattle.run_input.specs.Met.{between}
 use Rattle.run_input.specs.Answer.{log_input}
+use Rattle.run_input.proofs.AnswerLemmas.{leaves_same}
 use Rattle.run_input.proofs.ThreeFilesLemmas.{unread_answer}
 use Rattle.run_check.specs.declared.trimming.Finding.TheVariants.{Answered, Left, PastLimits}
 use Rattle.run_check.specs.Trimmed.{LeavesLines, HasReadLeft, AreTrimmed}
@@ -39,6 +40,10 @@ returns-in-PastLimits-clause-limits g c = λ k.
           c.in_ok-reply-in-Ok.field-0 PastLimits c.deref.ensures.value c.deref-in-Ok.ensures.value
           c.deref-in-Ok-2.ensures.value c.in-PastLimits.is c.in_ok-reply-in-Ok.ensures;
     }
+
+pub returns-in-PastLimits-clause-leaves : goal.returns-in-PastLimits-clause-leaves
+returns-in-PastLimits-clause-leaves g c = leaves_same _ (g.F.Files.at c.args.files.now).contents (g.F.Files.at c.read_all.new.files).contents
+    c.in-Ok.ensures.same
 
 pub returns-in-Ok-clause-answer : goal.returns-in-Ok-clause-answer
 returns-in-Ok-clause-answer g c =
