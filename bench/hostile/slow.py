@@ -2,10 +2,13 @@
 """Measures how long commands take on hints, logs, railML files and sheets that are made to take long.
 
 Of each family of slow_families.py and slow_files.py files of doubling sizes are made, and the seconds of the processor are
-taken. The table has a line for each size: bytes, seconds, seconds for each megabyte, how often the seconds a byte of the
-ordinary kind, at the same size, that is, and the power of the bytes with which the seconds grow since the line before: 1 is
-linear. A family is slow where its last line has more than --times of the ordinary seconds, or where a run takes longer than
---limit; less than --floor seconds are never slow. `--count` says how many sizes there are.
+taken. A run's *work* is the bytes of the file and, of hints, the looks: the literals of each clause that a line names, once a
+line. A hint is good where all of these but one are false, so each is to be looked at, and no way is known to do with less.
+
+The table has a line for each size: bytes, looks, seconds, seconds for each million of work, how often those of the ordinary kind,
+at the same size, that is, and the power of the work with which the seconds grow since the line before: 1 is linear. A family is
+slow where its last line has more than --times of the ordinary seconds, or where a run takes longer than --limit; less than
+--floor seconds are never slow. `--count` says how many sizes there are.
 
 `--write` puts each family's last size into bench/results/slow.csv, from which docs/measured.md is made. There the power is that
 from the first size that takes 0.02 seconds to the last."""
@@ -24,6 +27,7 @@ import tempfile
 import time
 from dataclasses import dataclass
 from pathlib import Path
+from typing import Iterable
 
 sys.dont_write_bytecode = True
 
@@ -45,20 +49,25 @@ LARGE = 3_000_000
 # of fewer seconds no power is told
 FEW = 0.02
 TABLE = TOP / "bench/results/slow.csv"
-HEAD = ["command", "family", "MB", "s", "s for each MB", "times the ordinary", "power"]
+HEAD = ["command", "family", "MB", "looks, millions", "s", "s for each million", "times the ordinary", "power"]
 
 
 @dataclass
 class Measured:
-    """a run: the bytes of the file that was made, the seconds of the processor, its status, and whether it was ended"""
+    """a run: the bytes of the file that was made, the seconds of the processor, its status, whether it was ended, and the looks"""
     size: int
     seconds: float
     status: int
     was_ended: bool
+    looks: int = 0
+
+    def work(self) -> int:
+        """bytes and looks"""
+        return self.size + self.looks
 
     def rate(self) -> float:
-        """seconds for a megabyte"""
-        return self.seconds / self.size * 1e6
+        """seconds for a million of work"""
+        return self.seconds / self.work() * 1e6
 
 
 def timed(command: list[str], limit: float) -> tuple[float, int, bool]:
@@ -109,11 +118,30 @@ def material_of(words: argparse.Namespace) -> Material:
     return Material(random.Random(words.seed), clauses, variables, Path("hints").read_bytes().splitlines(), log)
 
 
+def looks_of(lines: Iterable[bytes], clauses: list[list[int]]) -> int:
+    """the literals of the clauses that hinted lines name, each clause once a line; these are the formula's clauses"""
+    lengths, known, looks = [len(clause) for clause in clauses], {}, 0
+    for line in lines:
+        if line[:2] not in (b"l ", b"r "):
+            continue
+        at = line.index(b" 0 ", 1)
+        hints = line[at + 3:]
+        if hints not in known:
+            known[hints] = sum(lengths[int(number) - 1] for number in set(hints.split()[:-1]))
+        looks += known[hints]
+        if line[:1] == b"l":
+            lengths.append(line.count(b" ", 0, at))
+    return looks
+
+
 def measure(words: argparse.Namespace, command: str, maker: Maker, material: Material, size: int) -> Measured:
     with open("made", "wb") as made:
         made.writelines(maker(material, size))
-    took = timed([str(words.program), *WORDS[command]], words.limit)
-    return Measured(Path("made").stat().st_size, *took)
+    took, looks = timed([str(words.program), *WORDS[command]], words.limit), 0
+    if command == "recheck":
+        with open("made", "rb") as lines:
+            looks = looks_of(lines, material.clauses)
+    return Measured(Path("made").stat().st_size, *took, looks)
 
 
 def is_refused(words: argparse.Namespace, command: str) -> bool:
@@ -126,22 +154,22 @@ def is_refused(words: argparse.Namespace, command: str) -> bool:
 
 def power_of(before: Measured | None, one: Measured) -> str:
     """the power with which the seconds grow; nothing where they are too few to say"""
-    if before is None or before.seconds < FEW or one.was_ended or one.size == before.size:
+    if before is None or before.seconds < FEW or one.was_ended or one.work() == before.work():
         return ""
-    return f"{math.log(one.seconds / before.seconds) / math.log(one.size / before.size):.2f}"
+    return f"{math.log(one.seconds / before.seconds) / math.log(one.work() / before.work()):.2f}"
 
 
 def row_of(command: str, family: str, measured: list[Measured], ordinary: float) -> list[str]:
     """what the table says of a family that was measured at these sizes; `ordinary` is the ordinary rate at the last one"""
     last, first = measured[-1], next((one for one in measured if one.seconds >= FEW), None)
     end = "ended" if last.was_ended else power_of(first, last) or "-"
-    numbers = [f"{last.size / 1e6:.3g}", f"{last.seconds:.3g}", f"{last.rate():.3f}", f"{last.rate() / ordinary:.1f}"]
+    numbers = [f"{last.size / 1e6:.3g}", f"{last.looks / 1e6:.3g}" if last.looks else "-", f"{last.seconds:.3g}", f"{last.rate():.3f}", f"{last.rate() / ordinary:.1f}"]
     return [command, family, *numbers, end]
 
 
 def line_of(command: str, family: str, one: Measured, ordinary: float, power: str) -> str:
     end = "ended at the limit" if one.was_ended else f"status {one.status}"
-    return (f"{command:8}{family:44}{one.size:12,}{one.seconds:10.3f} s{one.rate():10.3f} s/MB"
+    return (f"{command:8}{family:44}{one.size:12,}{one.looks:15,}{one.seconds:10.3f} s{one.rate():10.4f} s/million"
             f"{one.rate() / ordinary:9.1f} times  {power and 'power ' + power:10} {end}")
 
 
@@ -191,7 +219,7 @@ def write_table(rows: list[list[str]]) -> None:
 def main() -> int:
     parser = parser_of(__doc__ or "", 3)
     parser.add_argument("--least", type=int, default=1 << 16, help="the bytes of the smallest files (65,536)")
-    parser.add_argument("--times", type=float, default=20.0, help="how often the ordinary seconds a byte are slow (20)")
+    parser.add_argument("--times", type=float, default=20.0, help="how often the ordinary seconds for as much work are slow (20)")
     parser.add_argument("--limit", type=float, default=2.0, help="a run is ended after so many seconds of the processor (2)")
     parser.add_argument("--floor", type=float, default=0.3, help="so many seconds are never slow (0.3)")
     parser.add_argument("--only", default="", help="only families whose command and name have this text")

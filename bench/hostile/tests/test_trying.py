@@ -247,9 +247,16 @@ class Slow(unittest.TestCase):
     def test_a_row_of_the_table(self) -> None:
         sizes = [slow.Measured(1_000_000, 0.001, 0, False), slow.Measured(2_000_000, 0.03, 0, False),
                  slow.Measured(4_000_000, 0.06, 0, False), slow.Measured(8_000_000, 0.48, 0, False)]
-        self.assertEqual(slow.row_of("check", "x", sizes, 0.03), ["check", "x", "8", "0.48", "0.060", "2.0", "2.00"])
+        self.assertEqual(slow.row_of("check", "x", sizes, 0.03), ["check", "x", "8", "-", "0.48", "0.060", "2.0", "2.00"])
+        looked = [slow.Measured(1_000_000, 0.04, 0, False, 3_000_000), slow.Measured(2_000_000, 0.16, 0, False, 14_000_000)]
+        self.assertEqual(slow.row_of("recheck", "x", looked, 0.005), ["recheck", "x", "2", "14", "0.16", "0.010", "2.0", "1.00"])
         self.assertEqual(slow.row_of("check", "x", sizes[:1], 0.001)[-1], "-")
         self.assertEqual(slow.row_of("check", "x", [slow.Measured(4_000_000, 9.0, -9, True)], 0.03)[-1], "ended")
+
+    def test_looks_are_the_literals_of_named_clauses_once_a_line(self) -> None:
+        clauses = [[1, 2], [3, -1, 4]]
+        self.assertEqual(slow.looks_of([b"railplan-hints 1\n", b"l 1 2 4 0 2 1 2 0\n"], clauses), 5)
+        self.assertEqual(slow.looks_of([b"l 1 2 4 7 0 2 0\n", b"r 1 0 3 0\n", b"l 0 3 3 0\n", b"r 0 4 0\n"], clauses), 3 + 4 + 4 + 0)
 
     def test_a_family_that_is_refused_measures_nothing(self) -> None:
         for answer, refused in (("check BadHint line 245", True), ("hints Form line 2", True), ("check Lacks place 1", False)):
