@@ -41,11 +41,11 @@ pub lost_leaves : (r : Result Reply Cut) (P : Reply → Type 0) (old new : Optio
 lost_leaves (Ok reply) P old new May err left = absurd (cc)
 lost_leaves (Err cut) P old new May err left = left
 
-pub lost_unwritten : (r : Result Reply Cut) (P : Reply → Type 0) (May Unwritten : Type 0) → IsErr r → ((May → ⊥) → Unwritten) →
-    IsOkAnd r P ⊎ (May → ⊥) → Unwritten
-lost_unwritten (Ok reply) P May Unwritten err unwritten none = absurd (cc)
-lost_unwritten (Err cut) P May Unwritten err unwritten (inl answered) = absurd answered
-lost_unwritten (Err cut) P May Unwritten err unwritten (inr nothing) = unwritten nothing
+pub lost_unwritten : (r : Result Reply Cut) (P : Reply → Type 0) (May Same : Type 0) → IsErr r → ((May → ⊥) → Same) →
+    IsOkAnd r P ⊎ (May → ⊥) → Same
+lost_unwritten (Ok reply) P May Same err unwritten none = absurd (cc)
+lost_unwritten (Err cut) P May Same err unwritten (inl answered) = absurd answered
+lost_unwritten (Err cut) P May Same err unwritten (inr nothing) = unwritten nothing
 
 pub cut_unwritten : (cut : TrimCut) → cut_of_trim cut ≡ cuts.Unwritten → cut ≡ trims.Unwritten
 cut_unwritten trims.Unwritten is = refl
