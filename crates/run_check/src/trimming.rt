@@ -174,7 +174,7 @@ fn write_left<F: Files>(
 
 /// What `trim` answers: where `check` would end with other than 0, what that answers; and else it leaves the hinted
 /// lines that certify what the sheet claims under the name `hints`. `Limits` comes only where `check` would end with 0,
-/// and the log has more variables or words than hints are found in.
+/// and the log has too many variables or words to find hints; then no file is written.
 pub fn trim<F: Files>(
     alloc: Global,
     input: &Text,
@@ -195,6 +195,7 @@ pub fn trim<F: Files>(
         × IsLeftByTrim input.now sheet.now log.now hints.now met name bytes) }
     ensures limits { IsErrOf result TrimCut.Limits →
         HasReadPastLimits input.now sheet.now log.now (between (F.at files.old) (F.at files.new)) }
+    ensures limits_unwritten { IsErrOf result TrimCut.Limits → IsUnwritten (between (F.at files.old) (F.at files.new)) }
     ensures cause { IsErrOf result TrimCut.Unwritten → Rose (F.at files.old).write_faults
         (F.at files.new).write_faults }
     ensures later { (F.at files.old).read_faults ≤ (F.at files.new).read_faults }
