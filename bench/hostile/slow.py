@@ -159,11 +159,16 @@ def power_of(before: Measured | None, one: Measured) -> str:
     return f"{math.log(one.seconds / before.seconds) / math.log(one.work() / before.work()):.2f}"
 
 
+def millions(looks: int) -> str:
+    """so many looks in millions, and nothing where there are next to none"""
+    return "-" if looks < 1000 else f"{looks / 1e6:.3g}" if looks < 1e8 else f"{looks / 1e6:,.0f}"
+
+
 def row_of(command: str, family: str, measured: list[Measured], ordinary: float) -> list[str]:
     """what the table says of a family that was measured at these sizes; `ordinary` is the ordinary rate at the last one"""
     last, first = measured[-1], next((one for one in measured if one.seconds >= FEW), None)
     end = "ended" if last.was_ended else power_of(first, last) or "-"
-    numbers = [f"{last.size / 1e6:.3g}", f"{last.looks / 1e6:.3g}" if last.looks else "-", f"{last.seconds:.3g}", f"{last.rate():.3f}", f"{last.rate() / ordinary:.1f}"]
+    numbers = [f"{last.size / 1e6:.3g}", millions(last.looks), f"{last.seconds:.3g}", f"{last.rate():.3f}", f"{last.rate() / ordinary:.1f}"]
     return [command, family, *numbers, end]
 
 

@@ -253,6 +253,10 @@ class Slow(unittest.TestCase):
         self.assertEqual(slow.row_of("check", "x", sizes[:1], 0.001)[-1], "-")
         self.assertEqual(slow.row_of("check", "x", [slow.Measured(4_000_000, 9.0, -9, True)], 0.03)[-1], "ended")
 
+    def test_looks_in_millions(self) -> None:
+        self.assertEqual([slow.millions(looks) for looks in (0, 999, 2_326, 21_853_800, 7_837_181_004)],
+                         ["-", "-", "0.00233", "21.9", "7,837"])
+
     def test_looks_are_the_literals_of_named_clauses_once_a_line(self) -> None:
         clauses = [[1, 2], [3, -1, 4]]
         self.assertEqual(slow.looks_of([b"railplan-hints 1\n", b"l 1 2 4 0 2 1 2 0\n"], clauses), 5)
