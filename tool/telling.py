@@ -136,7 +136,8 @@ class Ending:
             written = " or ".join(it.word for it in self.line.files_written if it.at >= 0)
             return [Note(f"{written or 'the output'} couldn't be written. Is there room on the disk?")]
         if status == 7:
-            return [Note("there was no memory for this run. End other programs, or ask for a smaller grid")]
+            large = ", or the log is too large to find hints for" if self.line.command == "trim" else ""
+            return [Note(f"there was no memory for this run{large}. End other programs, or ask for a smaller grid")]
         if status > 128:
             return [Note(f"the program was ended by signal {status - 128}" +
                          (". Was there too little memory?" if status == 137 else ""))]

@@ -164,6 +164,11 @@ class Stopped(InClone):
                 self.assertEqual((found, out), (status, ""))
                 self.assertIn(piece, err)
 
+    def test_trim_without_memory_may_have_too_large_a_log(self):
+        self.script("crates/railplan_main/out/railplan_main", "#!/bin/sh\nexit 7\n")
+        self.assertIn("or the log is too large to find hints for", self.launch("trim", "one.xml", "s", "l", "h")[2])
+        self.assertNotIn("too large", self.launch("check", "one.xml", "s", "l")[2])
+
     def test_a_program_that_cannot_be_started(self):
         self.script("crates/railplan_main/out/railplan_main", "#!/nowhere\n")
         found, out, err = self.launch("graph", "one.xml")
