@@ -26,7 +26,6 @@ use Rattle.log_trim.specs.Shortened.{is_used, AllUsed, NamesLater, MarksUsed, le
 use Rattle.log_trim.proofs.UsedLemmas.{count_is}
 use Rattle.log_trim.proofs.HintedLemmas.{same_line}
 use Rattle.log_trim.proofs.ShortenLemmas.{IsRenumbering, good_renumbered, lean_renumbered, renumbering_kept, renumbering_left_out, renumbering_none}
-use Rattle.watch_arena.proofs.ChainLemmas.{contains_head}
 
 -- what a Learnt line is shortened to
 abbrev shortened_after : List Bool → List ℕ → ℕ → List Literal → List ℕ → HintLines → Bool → HintLines
@@ -165,7 +164,7 @@ cons_cases q p before h = elim (Contains-append_cases (p ∷ []) before q h) [
 cons_all : (wanted before places : List ℕ) (p q : ℕ) → ((r : ℕ) → Contains wanted r → Contains before r → Contains places r) → Contains wanted q →
     Contains (p ∷ before) q → Contains (p ∷ places) q
 cons_all wanted before places p q all asked among = elim (cons_cases q p before among) [
-  | inl is ↦ subst (λ r. Contains (p ∷ places) r) (sym is) (contains_head p places)
+  | inl is ↦ subst (λ r. Contains (p ∷ places) r) (sym is) (0, omega arith, refl)
   | inr later ↦ Contains-append_right (p ∷ []) places q (all q asked later)
 ]
 

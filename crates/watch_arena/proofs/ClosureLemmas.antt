@@ -1,5 +1,5 @@
 -- What holds once all is propagated.
-use Rattle.std.proofs.Common.{◌≡◌, ◌≢◌, ℕ, ◌+◌, ◌*◌, ◌/◌, ◌<◌, ◌≤◌, ◌⊎◌, List, [], length, take, get_or, refl, sym, ◌∙◌, ap, subst, inl, inr, arith}
+use Rattle.std.proofs.Common.{◌≡◌, ◌≢◌, ℕ, ◌+◌, ◌/◌, ◌<◌, ◌≤◌, ◌⊎◌, List, length, take, get_or, refl, sym, ◌∙◌, ap, subst, inl, inr, arith}
 use Rattle.std.specs.Prelude.{All, Contains}
 use Rattle.std.proofs.lemmas.Bool.{cases_lt}
 use Rattle.std.proofs.lemmas.List.{take_all, get_or-take}
@@ -8,12 +8,13 @@ use Rattle.cnf_core.specs.Lit.{Literal, literal_at, negate, has}
 use Rattle.cnf_core.specs.Clause.{Clauses}
 use Rattle.cnf_core.specs.Propagation.{LiteralSet, IsIn, IsUnit, IsClosed, Closure, IsConsistent, Falsified}
 use Rattle.cnf_core.proofs.TrailLemmas.{distinct_consistent}
-use Rattle.watch_arena.specs.Words.{arena_word, lit_of, other_of, IsStore}
+use Rattle.watch_arena.specs.Words.{arena_word, IsStore}
 use Rattle.watch_arena.specs.Trail.{Marks, IsMarks, IsLonger, advanced}
 use Rattle.cnf_core.specs.Trail.{Grows}
-use Rattle.watch_arena.specs.Walk.{lit_at, past_of, IsTrueNoLater, IsClauseAt, HoldsClauses, KeepsClauses, AreGuarded, HasWalked, IsClash, KeepsLits, Closes}
+use Rattle.watch_arena.specs.Walk.{lit_at, past_of, HasLit, IsClauseAt, HoldsClauses, AreGuarded, HasWalked, IsClash, Closes}
 use Rattle.watch_arena.specs.Walk.{Clashes, IsReasoned}
-use Rattle.watch_arena.proofs.ReasonLemmas.{text_kept, reasoned_text, reason_kept, reason_grown, none_because}
+use Rattle.watch_arena.proofs.ViewLemmas.{first_quiet, second_quiet}
+use Rattle.watch_arena.proofs.ReasonLemmas.{text_kept, reason_grown, none_because}
 use Rattle.cnf_core.proofs.GrowthLemmas.{grows_none, grows_more}
 use Rattle.watch_arena.proofs.WalkLemmas.{longer_none, longer_more}
 
@@ -49,59 +50,56 @@ made_more old mid new ws then now places a b = record {
       ∙ a.reasons i d lt;
 }
 
--- one clause of which each watch is true where the other is false
+-- one clause, a literal of which is true where one of its watches is false
 module _ (set : LiteralSet) (ws : List ℕ) (p : ℕ) (c : List Literal) (is : IsClauseAt ws p c) (two : 2 ≤ arena_word ws p)
     (differ : arena_word ws (p + 3 + 0) / 2 ≢ arena_word ws (p + 3 + 1) / 2) (consistent : IsConsistent set)
-    (first : IsIn set (negate (lit_at ws (p + 3 + 0))) → IsIn set (lit_at ws (p + 3 + 1)))
-    (second : IsIn set (negate (lit_at ws (p + 3 + 1))) → IsIn set (lit_at ws (p + 3 + 0))) where
+    (first : IsIn set (negate (lit_at ws (p + 3 + 0))) → (k : Literal) × HasLit ws p k × IsIn set k)
+    (second : IsIn set (negate (lit_at ws (p + 3 + 1))) → (k : Literal) × HasLit ws p k × IsIn set k) where
   first_in : Contains c (lit_at ws (p + 3 + 0))
   first_in = (is (lit_at ws (p + 3 + 0))).1 (0, omega arith, refl)
 
   second_in : Contains c (lit_at ws (p + 3 + 1))
   second_in = (is (lit_at ws (p + 3 + 1))).1 (1, omega arith, refl)
 
+  true_one : (l : Literal) → IsUnit set c l → (k : Literal) × HasLit ws p k × IsIn set k → IsIn set l
+  true_one l unit x = elim (All-contains (λ k. (k ≡ l) ⊎ IsIn set (negate k)) c x.0 unit.others ((is x.0).1 x.1)) [
+    | inl e ↦ subst (IsIn set) e x.2
+    | inr f ↦ absurd (consistent x.0 x.2 f)
+  ]
+
   pub clause_closed : (l : Literal) → IsUnit set c l → IsIn set l
   clause_closed l unit =
       elim (All-contains (λ k. (k ≡ l) ⊎ IsIn set (negate k)) c (lit_at ws (p + 3 + 0)) unit.others first_in) [
         | inl a ↦ elim (All-contains (λ k. (k ≡ l) ⊎ IsIn set (negate k)) c (lit_at ws (p + 3 + 1)) unit.others second_in) [
           | inl b ↦ absurd (differ (ap (λ (k : Literal). k.var) (a ∙ sym b)))
-          | inr f ↦ subst (IsIn set) a (second f)
+          | inr f ↦ true_one l unit (second f)
         ]
-        | inr f ↦ elim (All-contains (λ k. (k ≡ l) ⊎ IsIn set (negate k)) c (lit_at ws (p + 3 + 1)) unit.others second_in) [
-          | inl b ↦ subst (IsIn set) b (first f)
-          | inr g ↦ absurd (consistent (lit_at ws (p + 3 + 1)) (first f) g)
-        ]
+        | inr f ↦ true_one l unit (first f)
       ]
 
   pub clause_unfalsified : All (λ k. IsIn set (negate k)) c → ⊥
   clause_unfalsified all =
-      consistent (lit_at ws (p + 3 + 1)) (first (All-contains (λ k. IsIn set (negate k)) c (lit_at ws (p + 3 + 0)) all first_in))
-      (All-contains (λ k. IsIn set (negate k)) c (lit_at ws (p + 3 + 1)) all second_in)
+      let x = first (All-contains (λ k. IsIn set (negate k)) c (lit_at ws (p + 3 + 0)) all first_in) in
+      consistent x.0 x.2 (All-contains (λ k. IsIn set (negate k)) c x.0 all ((is x.0).1 x.1))
 
-module _ (m : Marks) (ws places : List ℕ) (marks : IsMarks m) (store : IsStore m.vars ws places) (quiet : AreGuarded ws places (past_of m) m [])
+module _ (m : Marks) (ws places : List ℕ) (marks : IsMarks m) (store : IsStore m.vars ws places) (quiet : AreGuarded ws places (past_of m) m)
     (all : m.front ≡ length m.lits) where
   past_all : past_of m ≡ has m.lits
   past_all = ap has (take_all m.front m.lits (omega arith))
 
-  first_true : (p : ℕ) → Contains places p → IsIn (has m.lits) (negate (lit_at ws (p + 3 + 0))) → IsIn (has m.lits) (lit_at ws (p + 3 + 1))
+  first_true : (p : ℕ) → Contains places p → IsIn (has m.lits) (negate (lit_at ws (p + 3 + 0))) → (k : Literal) × HasLit ws p k × IsIn (has m.lits) k
   first_true p c f =
-      let lit : lit_of (2 * p) ≡ p + 3 + 0 = omega arith in
-      let other : other_of (2 * p) ≡ p + 3 + 1 = omega arith in
-      let here : Contains places ((2 * p) / 2) = subst (λ n. Contains places n) (omega arith) c in
-      let f2 : IsIn (past_of m) (negate (lit_at ws (lit_of (2 * p)))) = subst (λ (s : LiteralSet). IsIn s (negate (lit_at ws (lit_of (2 * p))))) (sym past_all)
-      (subst (λ n. IsIn (has m.lits) (negate (lit_at ws n))) (sym lit) f) in
-      let held : IsTrueNoLater m (negate (lit_at ws (lit_of (2 * p)))) (lit_at ws (other_of (2 * p))) = quiet (2 * p) here refl f2 in
-      subst (λ n. IsIn (has m.lits) (lit_at ws n)) other held.now
+      let q = first_quiet m ws places (past_of m) quiet p c in
+      let h = q.held (subst (λ (s : LiteralSet). IsIn s (negate (lit_at ws (p + 3 + 0)))) (sym past_all) f) in
+      let x = h.2 in
+      (h.0, h.1, x.now)
 
-  second_true : (p : ℕ) → Contains places p → IsIn (has m.lits) (negate (lit_at ws (p + 3 + 1))) → IsIn (has m.lits) (lit_at ws (p + 3 + 0))
+  second_true : (p : ℕ) → Contains places p → IsIn (has m.lits) (negate (lit_at ws (p + 3 + 1))) → (k : Literal) × HasLit ws p k × IsIn (has m.lits) k
   second_true p c f =
-      let lit : lit_of (2 * p + 1) ≡ p + 3 + 1 = omega arith in
-      let other : other_of (2 * p + 1) ≡ p + 3 + 0 = omega arith in
-      let here : Contains places ((2 * p + 1) / 2) = subst (λ n. Contains places n) (omega arith) c in
-      let f2 : IsIn (past_of m) (negate (lit_at ws (lit_of (2 * p + 1)))) = subst (λ (s : LiteralSet). IsIn s (negate (lit_at ws (lit_of (2 * p + 1)))))
-      (sym past_all) (subst (λ n. IsIn (has m.lits) (negate (lit_at ws n))) (sym lit) f) in
-      let held : IsTrueNoLater m (negate (lit_at ws (lit_of (2 * p + 1)))) (lit_at ws (other_of (2 * p + 1))) = quiet (2 * p + 1) here refl f2 in
-      subst (λ n. IsIn (has m.lits) (lit_at ws n)) other held.now
+      let q = second_quiet m ws places (past_of m) quiet p c in
+      let h = q.held (subst (λ (s : LiteralSet). IsIn s (negate (lit_at ws (p + 3 + 1)))) (sym past_all) f) in
+      let x = h.2 in
+      (h.0, h.1, x.now)
 
   pub watched_closed : (clauses : Clauses) → HoldsClauses clauses ws places → IsClosed clauses (has m.lits)
   watched_closed clauses t = λ c among l unit.
@@ -122,7 +120,7 @@ module _ (m : Marks) (ws places : List ℕ) (marks : IsMarks m) (store : IsStore
       (distinct_consistent m.lits marks.distinct) (first_true d.0 d.1) (second_true d.0 d.1) f.each
 
 pub watched_closes : (old new : Marks) (start ws places : List ℕ) → IsMarks new → HasWalked old new start ws places → IsStore new.vars ws places →
-    AreGuarded ws places (past_of new) new [] → new.front ≡ length new.lits → Closes places start old.lits new.lits
+    AreGuarded ws places (past_of new) new → new.front ≡ length new.lits → Closes places start old.lits new.lits
 watched_closes old new start ws places marks made store quiet all = λ clauses t.
     let now = text_kept clauses start ws places made.text t in
     let grown = made.grows clauses t in
@@ -152,19 +150,6 @@ clash_clashes old new start ws places p made clash = λ clauses t.
     falsified : (k : Literal) → (n : ℕ) × (n < arena_word ws p) × (lit_at ws (p + 3 + n) ≡ k) → IsIn (has new.lits) (negate k)
     falsified k n = subst (λ (l : Literal). IsIn (has new.lits) (negate l)) n.2 (clash.false_all n.0 n.1)
 
-pub made_text : (old new : Marks) (ws then now places : List ℕ) → HasWalked old new ws then places → KeepsClauses places then now →
-    HasWalked old new ws now places
-made_text old new ws then now places a t = record {
-  longer = a.longer;
-  propagated = a.propagated;
-  because = λ i d from lt. reason_kept then now places (take i new.lits) (get_or new.lits i d) (get_or new.reasons (get_or new.lits i d).var 0) t
-      (a.because i d from lt);
-  grows = a.grows;
-  text = λ p c d is. t p c d (a.text p c d is);
-  reasoned = λ r. reasoned_text new then now places t (a.reasoned r);
-  reasons = a.reasons;
-}
-
 pub made_advanced : (old new : Marks) (ws now places : List ℕ) → HasWalked old new ws now places → HasWalked old (advanced new) ws now places
 made_advanced old new ws now places a =
     let l : IsLonger old new = a.longer in
@@ -184,10 +169,3 @@ made_advanced old new ws now places a =
           places = a.reasoned r in record { reason = x.reason; decided = x.decided; begins = x.begins };
       reasons = a.reasons;
     }
-
-pub clash_kept : (ws now places : List ℕ) (set : LiteralSet) (p : ℕ) → IsClash ws places set p → KeepsLits places ws now → IsClash now places set p
-clash_kept ws now places set p x k = record {
-  place = x.place;
-  false_all = λ j lt. let size = k.size p x.place in let lt2 : j < arena_word ws p = omega arith in subst (λ n. IsIn set (negate (literal_at n)))
-      (sym (k.lits p j x.place lt2)) (x.false_all j lt2);
-}

@@ -1,268 +1,268 @@
--- One more clause behind the words, and what was there stays.
-use Rattle.std.proofs.Common.{◌≡◌, ℕ, ◌+◌, ◌*◌, ◌/◌, ◌%◌, ◌<◌, ◌≤◌, List, [], ◌∷◌, ◌++◌, length, get_or, refl, sym, ◌∙◌, ap, subst, inl, inr, arith}
-use Rattle.std.specs.Prelude.{All, Contains, ◌^◌}
-use Rattle.std.proofs.lemmas.Bool.{cases_eq}
-use Rattle.std.proofs.lemmas.List.Elements.{All-weaker, Contains-push_cases, Contains-push, Contains-append_left}
-use Rattle.cnf_core.specs.Lit.{Literal, literal_at, word_of}
-use Rattle.cnf_core.specs.Clause.{AreDistinct, AreThere}
-use Rattle.cnf_core.specs.Times.{times}
-use Rattle.watch_arena.specs.declared.pairs.Pair.{Pair}
-use Rattle.watch_arena.specs.declared.clause_ref.ClauseRef.{ClauseRef}
-use Rattle.watch_arena.specs.Words.{arena_word, link_of, lit_of, other_of, block_of, IsBlock, IsStore, KeepsFront}
-use Rattle.watch_arena.specs.Chains.{HasChains}
-use Rattle.watch_arena.specs.Walk.{lit_at, lits_at, KeepsLits, IsLinked}
-use Rattle.watch_arena.specs.Pairs.{IsEntry, HasPairs, IsSplit, AreFiled, listed, both_listed}
-use Rattle.watch_arena.proofs.ChainLemmas.{path_stays}
-use Rattle.watch_arena.proofs.ChainWalkLemmas.{literal_word}
-use Rattle.watch_arena.proofs.TextLemmas.{upto_length}
-use Rattle.watch_arena.proofs.AttachLemmas.{attach_store, before, behind_lit, behind_length, behind_block, behind_lits}
-use Rattle.watch_arena.proofs.ListedLemmas.{listed_length, listed_here, listed_keeps, listed_right}
+-- Rows of which some watches are out: an entry goes, a clause's literals change places, clauses come, and entries come.
+use Rattle.std.proofs.Common.{◌≡◌, ◌≢◌, ℕ, ◌+◌, ◌*◌, ◌/◌, ◌%◌, ◌<◌, ◌≤◌, ◌⊎◌, List, [], ◌∷◌, ◌++◌, length, get_or, set, refl, sym, ◌∙◌, ap, subst, inl, inr}
+use Rattle.std.proofs.Common.{arith}
+use Rattle.std.proofs.Common.{length-set}
+use Rattle.std.specs.Prelude.{Contains}
+use Rattle.std.proofs.lemmas.Bool.{cases_lt, cases_eq}
+use Rattle.std.proofs.lemmas.List.{get_or-set_same, get_or-set_other}
+use Rattle.std.proofs.lemmas.List.Elements.{Contains-push_cases, Contains-push, Contains-append_left}
+use Rattle.cnf_core.specs.Lit.{Literal, literal_at}
+use Rattle.watch_arena.specs.declared.rows.Entry.{Entry}
+use Rattle.watch_arena.specs.Words.{arena_word, lit_of, IsStore, KeepsFront, Swapped}
+use Rattle.watch_arena.specs.Rows.{entry_at, without}
+use Rattle.watch_arena.specs.Walk.{HasLit, KeepsLits}
+use Rattle.watch_arena.specs.Filed.{place_at, entries_for, list_at, IsEntered, IsEntry, HasRows}
+use Rattle.watch_arena.proofs.ViewLemmas.{lit_kept}
+use Rattle.watch_arena.proofs.MoveLemmas.{swap_watch, swap_text}
+use Rattle.watch_arena.proofs.EntryLemmas.{weigh, weigh_here, weigh_other, entry_from, entry_one, entry_twice, IsMore, IsLess, less_without, room_for}
 
--- the clauses in front
-module _ (vars : ℕ) (ws new places : List ℕ) (h : IsStore vars ws places) (front : KeepsFront ws new) where
-  front_size : (q : ℕ) → Contains places q → arena_word new q ≡ arena_word ws q
-  front_size q c = let b = h.block q c in let within = b.within in front q (omega arith)
+-- what holds of one row that is another list now, and of all others
+pub by_any : (P : ℕ → List Entry → Type 0) (lists : List (List Entry)) (w : ℕ) (row : List Entry) → w < length lists → P w row →
+    ((v : ℕ) → v ≢ w → P v (list_at lists v)) → (v : ℕ) → P v (list_at (set lists w row) v)
+by_any P lists w row lt here other v = elim (cases_eq v w) [
+  | inl e ↦ subst (λ n. P n (list_at (set lists w row) n)) (sym e) (subst (P w) (sym (get_or-set_same lists w row [] lt)) here)
+  | inr ne ↦ subst (P v) (sym (get_or-set_other lists w v row [] ne)) (other v ne)
+]
 
-  pub front_lits : KeepsLits places ws new
-  front_lits = record {
-    size = front_size;
-    lits = λ q k c lt. let b = h.block q c in let within = b.within in front (q + 3 + k) (omega arith);
-  }
+pub by_list : (P : ℕ → List Entry → Type 0) (lists : List (List Entry)) (w : ℕ) (row : List Entry) → w < length lists → P w row →
+    ((v : ℕ) → v ≢ w → v < length lists → P v (list_at lists v)) → (v : ℕ) → v < length lists → P v (list_at (set lists w row) v)
+by_list P lists w row lt here other v below = by_any (λ n ys. n < length lists → P n ys) lists w row lt (λ _. here) other v below
 
-  front_watch : (t : ℕ) → Contains places (t / 2) → (arena_word new (lit_of t) ≡ arena_word ws (lit_of t)) ×
-      (arena_word new (link_of t) ≡ arena_word ws (link_of t)) × (arena_word new (other_of t) ≡ arena_word ws (other_of t))
-  front_watch t c =
-      let b = h.block (t / 2) c in
-      let two = b.two in
-      let within = b.within in
-      (front (lit_of t) (omega arith), front (link_of t) (omega arith), front (other_of t) (omega arith))
+-- the watches of clauses that stand apart
+module _ (vars : ℕ) (ws places : List ℕ) (h : IsStore vars ws places) where
+  pub same_watch : (s t : ℕ) → Contains places (s / 2) → t / 2 ≡ s / 2 → arena_word ws (lit_of t) ≡ arena_word ws (lit_of s) → t ≡ s
+  same_watch s t c half same = elim (cases_eq (t % 2) (s % 2)) [
+    | inl e ↦ omega arith
+    | inr ne ↦
+        let b = h.block (s / 2) c in
+        let two = b.two in
+        let place : lit_of t ≡ s / 2 + 3 + t % 2 = omega arith in
+        let is : arena_word ws (s / 2 + 3 + t % 2) ≡ arena_word ws (s / 2 + 3 + s % 2) = ap (arena_word ws) (sym place) ∙ same in
+        absurd (b.distinct (t % 2) (s % 2) (omega arith) (omega arith) ne (ap (λ n. n / 2) is))
+  ]
 
-  -- chains of them
-  front_chains : (heads longs : List ℕ) → ((q : ℕ) → Contains longs q → Contains places q) → HasChains ws heads longs [] → HasChains new heads longs []
-  front_chains heads longs among c = record {
-    chains = c.chains;
-    paths = λ w lt. path_stays ws new (arena_word heads w) (c.chains w) (λ t m. let x = c.own w t lt m in let f = front_watch t (among (t / 2) x.place) in f.1)
-        (c.paths w lt);
-    own = λ w t lt m. let x = c.own w t lt m in let f = front_watch t (among (t / 2) x.place) in record { place = x.place; lit = f.0 ∙ x.lit };
-    once = λ t m. let f = front_watch t (among (t / 2) m) in subst (λ v. times (c.chains v) t + times [] t ≡ 1) (sym f.0) (c.once t m);
-  }
+  module _ (lists : List (List Entry)) (from to : ℕ) (x : HasRows ws places lists from to) where
+    -- a row has at most one entry of a clause
+    pub row_once : (w p : ℕ) → w < length lists → entries_for (list_at lists w) p ≤ 1
+    row_once w p lt = elim (cases_lt 0 (entries_for (list_at lists w) p)) [
+      | inl some ↦
+          let k = entry_from (list_at lists w) p (omega arith) in
+          let y = x.right w k.0 lt k.1 in
+          let is : y.watch / 2 ≡ p = sym y.clause ∙ k.2 in
+          let one : entries_for (list_at lists w) p ≡ 1 = subst (λ n. entries_for (list_at lists w) n ≡ 1) is
+          (subst (λ n. entries_for (list_at lists n) (y.watch / 2) ≡ 1) y.lit (x.once y.watch y.place y.entered)) in
+          omega arith
+      | inr none ↦ omega arith
+    ]
 
-  -- entries of them
-  front_pair : (p v : ℕ) (pair : Pair) → IsEntry ws places v pair → IsEntry new (places ++ p ∷ []) v pair
-  front_pair p v pair y =
-      let f = front_watch y.watch y.is.place in
-      record {
-        watch = y.watch;
-        is = record { place = Contains-append_left places (p ∷ []) (y.watch / 2) y.is.place; two = front_size (y.watch / 2) y.is.place ∙ y.is.two };
-        lit = f.0 ∙ y.lit;
-        other = ap literal_at f.2 ∙ y.other;
-        clause = y.clause;
-      }
+    pub row_apart : (w j k : ℕ) → w < length lists → j < k → k < length (list_at lists w) → place_at (list_at lists w) j ≢ place_at (list_at lists w) k
+    row_apart w j k lt less below same = omega (
+      arith,
+      row_once w (place_at (list_at lists w) k) lt,
+      entry_twice (list_at lists w) j k (place_at (list_at lists w) k) less below same refl,
+    )
 
-  front_right : (p : ℕ) (lists : List (List Pair)) → HasPairs ws places lists → (v : ℕ) → v < length lists →
-      All (IsEntry new (places ++ p ∷ []) v) (get_or lists v [])
-  front_right p lists x v lt = All-weaker (IsEntry ws places v) (IsEntry new (places ++ p ∷ []) v) (λ pair y. front_pair p v pair y) (get_or lists v [])
-      (x.right v lt)
+    -- and none of a watch that is out
+    pub not_in : (s : ℕ) → Contains places (s / 2) → from ≤ s → s < to → arena_word ws (lit_of s) < length lists →
+        entries_for (list_at lists (arena_word ws (lit_of s))) (s / 2) ≡ 0
+    not_in s c ge lt below = elim (cases_lt 0 (entries_for (list_at lists (arena_word ws (lit_of s))) (s / 2))) [
+      | inl some ↦
+          let k = entry_from (list_at lists (arena_word ws (lit_of s))) (s / 2) (omega arith) in
+          let y = x.right (arena_word ws (lit_of s)) k.0 below k.1 in
+          let half : y.watch / 2 ≡ s / 2 = sym y.clause ∙ k.2 in
+          let same = same_watch s y.watch c half y.lit in
+          absurd (elim y.entered [ inl small ↦ omega arith | inr big ↦ omega arith ])
+      | inr none ↦ omega arith
+    ]
 
-  front_all : (lists : List (List Pair)) → HasPairs ws places lists → (s : ℕ) → Contains places (s / 2) → arena_word new (s / 2) ≡ 2 →
-      (pair : Pair) × Contains (get_or lists (arena_word new (lit_of s)) []) pair × (pair.other ≡ lit_at new (other_of s))
-  front_all lists x s c two =
-      let f = front_watch s c in
-      let y = x.all s (record { place = c; two = sym (front_size (s / 2) c) ∙ two }) in
-      (y.0, subst (λ v. Contains (get_or lists v []) y.0) (sym f.0) y.1, y.2 ∙ ap literal_at (sym f.2))
+  -- an entry of a watch comes to the row of its literal
+  module _ (lists : List (List Entry)) (s to : ℕ) (less : s < to) (x : HasRows ws places lists s to) (c : Contains places (s / 2))
+      (below : arena_word ws (lit_of s) < length lists) (e : Entry) (is : e.clause.0 ≡ s / 2) (other : HasLit ws (s / 2) e.other) (new : List Entry)
+      (more : IsMore (list_at lists (arena_word ws (lit_of s))) new e) where
+    abbrev w : ℕ
+    w = arena_word ws (lit_of s)
 
-  -- a longer clause comes
-  module _ (p : ℕ) (long : 3 ≤ arena_word new p) where
-    long_split : (longs : List ℕ) → IsSplit ws places longs → IsSplit new (places ++ p ∷ []) (longs ++ p ∷ [])
-    long_split longs x = record {
-      among = λ q c. elim (Contains-push_cases longs p q c) [
-        | inl old ↦ Contains-append_left places (p ∷ []) q (x.among q old)
-        | inr e ↦ subst (Contains (places ++ p ∷ [])) e (Contains-push places p)
+    weaker : (v : ℕ) (b : Entry) → IsEntry ws places s to v b → IsEntry ws places (s + 1) to v b
+    weaker v b y = record {
+      watch = y.watch;
+      clause = y.clause;
+      place = y.place;
+      lit = y.lit;
+      entered = elim y.entered [ inl small ↦ inl (omega arith) | inr big ↦ inr big ];
+      other = y.other;
+    }
+
+    right_here : (k : ℕ) → k < length new → IsEntry ws places (s + 1) to w (entry_at new k)
+    right_here k lk = elim (more.came k lk) [
+      | inl mine ↦ subst (IsEntry ws places (s + 1) to w) (sym mine)
+          (record { watch = s; clause = is; place = c; lit = refl; entered = inl (omega arith); other = other })
+      | inr old ↦ subst (IsEntry ws places (s + 1) to w) (sym old.2) (weaker w (entry_at (list_at lists w) old.0) (x.right w old.0 below old.1))
+    ]
+
+    once_here : entries_for new (s / 2) ≡ 1
+    once_here =
+        let times = more.times (s / 2) in
+        let none = not_in lists s to x s c (omega arith) less below in
+        let one = weigh_here (s / 2) e is in
+        omega arith
+
+    once_other : (t : ℕ) → Contains places (t / 2) → IsEntered s to t → arena_word ws (lit_of t) ≡ w → entries_for new (t / 2) ≡ 1
+    once_other t d entered same =
+        let apart : e.clause.0 ≢ t / 2 = (λ at.
+        let half : t / 2 ≡ s / 2 = sym at ∙ is in
+        let one = same_watch s t c half same in
+        elim entered [ inl small ↦ omega arith | inr big ↦ omega arith ]) in
+        let times = more.times (t / 2) in
+        let none = weigh_other (t / 2) e apart in
+        let was : entries_for (list_at lists w) (t / 2) ≡ 1 = subst (λ n. entries_for (list_at lists n) (t / 2) ≡ 1) same (x.once t d entered) in
+        omega arith
+
+    once_of : (t : ℕ) → Contains places (t / 2) → (t ≡ s) ⊎ IsEntered s to t → entries_for (list_at (set lists w new) (arena_word ws (lit_of t))) (t / 2) ≡ 1
+    once_of t d (inl same) = subst (λ n. entries_for (list_at (set lists w new) (arena_word ws (lit_of n))) (n / 2) ≡ 1) (sym same)
+        (ap (λ (row : List Entry). entries_for row (s / 2)) (get_or-set_same lists w new [] below) ∙ once_here)
+    once_of t d (inr entered) = elim (cases_eq (arena_word ws (lit_of t)) w) [
+      | inl same ↦ ap (λ n. entries_for (list_at (set lists w new) n) (t / 2)) same
+          ∙ ap (λ (row : List Entry). entries_for row (t / 2)) (get_or-set_same lists w new [] below) ∙ once_other t d entered same
+      | inr ne ↦ ap (λ (row : List Entry). entries_for row (t / 2)) (get_or-set_other lists w (arena_word ws (lit_of t)) new [] ne) ∙ x.once t d entered
+    ]
+
+    pub entered_rows : HasRows ws places (set lists w new) (s + 1) to
+    entered_rows = record {
+      right = λ v k lv lk. by_list (λ n (row : List Entry). (j : ℕ) → j < length row → IsEntry ws places (s + 1) to n (entry_at row j)) lists w new below
+          right_here (λ u ne lu j lj. weaker u (entry_at (list_at lists u) j) (x.right u j lu lj)) v (omega (arith, length-set lists w new)) k lk;
+      once = λ t d entered. once_of t d (elim (cases_eq t s) [
+        | inl same ↦ inl same
+        | inr ne ↦ inr (elim entered [ inl small ↦ inl (omega arith) | inr big ↦ inr big ])
+      ]);
+    }
+
+  -- the entry of a watch goes
+  module _ (lists : List (List Entry)) (x : HasRows ws places lists 0 0) (v i : ℕ) (below : v < length lists) (within : i < length (list_at lists v)) where
+    abbrev row : List Entry
+    row = list_at lists v
+
+    abbrev mine : IsEntry ws places 0 0 v (entry_at row i)
+    mine = x.right v i below within
+
+    abbrev out : ℕ
+    out = mine.watch
+
+    gone : entries_for (without row i) (out / 2) ≡ 0
+    gone =
+        let less = less_without row i within in
+        let times = less.times (out / 2) in
+        let one = weigh_here (out / 2) (entry_at row i) mine.clause in
+        let most = row_once lists 0 0 x v (out / 2) below in
+        omega arith
+
+    still : (u : ℕ) (b : Entry) (y : IsEntry ws places 0 0 u b) → y.watch ≢ out → IsEntry ws places out (out + 1) u b
+    still u b y ne = record {
+      watch = y.watch;
+      clause = y.clause;
+      place = y.place;
+      lit = y.lit;
+      entered = elim (cases_lt y.watch out) [ inl small ↦ inl small | inr big ↦ inr (omega arith) ];
+      other = y.other;
+    }
+
+    left_here : (k : ℕ) → k < length (without row i) → IsEntry ws places out (out + 1) v (entry_at (without row i) k)
+    left_here k lk =
+        let less = less_without row i within in
+        let old = less.came k lk in
+        let y = x.right v old.0 below old.1 in
+        subst (IsEntry ws places out (out + 1) v) (sym old.2) (still v (entry_at row old.0) y (λ same.
+        let at : place_at (without row i) k ≡ out / 2 = ap (λ (b : Entry). b.clause.0) old.2 ∙ y.clause ∙ ap (λ n. n / 2) same in
+        let one = entry_one (without row i) k (out / 2) lk at in
+        let none = gone in
+        omega arith))
+
+    left_other : (t : ℕ) → Contains places (t / 2) → t ≢ out → arena_word ws (lit_of t) ≡ v → entries_for (without row i) (t / 2) ≡ 1
+    left_other t d ne same =
+        let less = less_without row i within in
+        let apart : (entry_at row i).clause.0 ≢ t / 2 = (λ at.
+        let half : t / 2 ≡ out / 2 = sym at ∙ mine.clause in
+        ne (same_watch out t mine.place half (same ∙ sym mine.lit))) in
+        let times = less.times (t / 2) in
+        let none = weigh_other (t / 2) (entry_at row i) apart in
+        let was : entries_for row (t / 2) ≡ 1 = subst (λ n. entries_for (list_at lists n) (t / 2) ≡ 1) same (x.once t d (inr (omega arith))) in
+        omega arith
+
+    pub left_rows : HasRows ws places (set lists v (without row i)) out (out + 1)
+    left_rows = record {
+      right = λ u k lu lk. by_list (λ n (ys : List Entry). (j : ℕ) → j < length ys → IsEntry ws places out (out + 1) n (entry_at ys j)) lists v (without row i)
+          below left_here (λ n ne ln j lj. let y = x.right n j ln lj in still n (entry_at (list_at lists n) j) y
+          (λ same. ne (sym y.lit ∙ ap (λ t. arena_word ws (lit_of t)) same ∙ mine.lit))) u (omega (arith, length-set lists v (without row i))) k lk;
+      once = λ t d entered.
+          let ne : t ≢ out = (λ same. elim entered [ inl small ↦ omega arith | inr big ↦ omega arith ]) in
+          elim (cases_eq (arena_word ws (lit_of t)) v) [
+            | inl same ↦ ap (λ n. entries_for (list_at (set lists v (without row i)) n) (t / 2)) same
+                ∙ ap (λ (ys : List Entry). entries_for ys (t / 2)) (get_or-set_same lists v (without row i) [] below) ∙ left_other t d ne same
+            | inr other ↦ ap (λ (ys : List Entry). entries_for ys (t / 2)) (get_or-set_other lists v (arena_word ws (lit_of t)) (without row i) [] other)
+                ∙ x.once t d (inr (omega arith))
+          ];
+    }
+
+  -- the literal of a watch that is out changes places with one behind the watches
+  module _ (lists : List (List Entry)) (s k : ℕ) (x : HasRows ws places lists s (s + 1)) (c : Contains places (s / 2)) (from : 2 ≤ k)
+      (below : k < arena_word ws (s / 2)) (new : List ℕ) (d : Swapped ws new (s / 2 + 3 + s % 2) (s / 2 + 3 + k)) where
+    first_below : s % 2 < arena_word ws (s / 2)
+    first_below = omega arith
+
+    turned_watch : (t : ℕ) → Contains places (t / 2) → IsEntered s (s + 1) t → arena_word new (lit_of t) ≡ arena_word ws (lit_of t)
+    turned_watch t b entered = swap_watch vars ws new places (s / 2) (s % 2) k h c first_below below d t b (λ half.
+        let apart : t % 2 ≢ s % 2 = (λ same. elim entered [ inl small ↦ omega arith | inr big ↦ omega arith ]) in
+        (apart, omega arith))
+
+    pub turned_rows : HasRows new places lists s (s + 1)
+    turned_rows = record {
+      right = λ v j lv lj.
+          let y = x.right v j lv lj in
+          record {
+            watch = y.watch;
+            clause = y.clause;
+            place = y.place;
+            lit = turned_watch y.watch y.place y.entered ∙ y.lit;
+            entered = y.entered;
+            other = lit_kept ws new places (y.watch / 2) (entry_at (list_at lists v) j).other
+                (swap_text vars ws new places (s / 2) (s % 2) k h c first_below below d) y.place y.other;
+          };
+      once = λ t b entered. subst (λ n. entries_for (list_at lists n) (t / 2) ≡ 1) (sym (turned_watch t b entered)) (x.once t b entered);
+    }
+
+  -- a clause comes behind the words, and its watches are out
+  module _ (new : List ℕ) (lists : List (List Entry)) (x : HasRows ws places lists 0 0) (front : KeepsFront ws new) where
+    pub front_size : (q : ℕ) → Contains places q → arena_word new q ≡ arena_word ws q
+    front_size q c = let b = h.block q c in let within = b.within in front q (omega arith)
+
+    pub front_lits : KeepsLits places ws new
+    front_lits = record { size = front_size; lits = λ q k c lt. let b = h.block q c in let within = b.within in front (q + 3 + k) (omega arith) }
+
+    front_watch : (t : ℕ) → Contains places (t / 2) → arena_word new (lit_of t) ≡ arena_word ws (lit_of t)
+    front_watch t c = let b = h.block (t / 2) c in let two = b.two in let within = b.within in front (lit_of t) (omega arith)
+
+    front_lit : (q : ℕ) (l : Literal) → Contains places q → HasLit ws q l → HasLit new q l
+    front_lit q l c y =
+        let same = front_size q c in
+        let lt = y.1 in
+        (y.0, omega arith, ap literal_at (let kept = front_lits in kept.lits q y.0 c y.1) ∙ y.2)
+
+    apart : (t : ℕ) → Contains places (t / 2) → IsEntered (2 * length ws) (2 * length ws + 2) t
+    apart t c = let b = h.block (t / 2) c in let within = b.within in inl (omega arith)
+
+    pub behind_rows : HasRows new (places ++ length ws ∷ []) lists (2 * length ws) (2 * length ws + 2)
+    behind_rows = record {
+      right = λ v k lv lk.
+          let y = x.right v k lv lk in
+          record {
+            watch = y.watch;
+            clause = y.clause;
+            place = Contains-append_left places (length ws ∷ []) (y.watch / 2) y.place;
+            lit = front_watch y.watch y.place ∙ y.lit;
+            entered = apart y.watch y.place;
+            other = front_lit (y.watch / 2) (entry_at (list_at lists v) k).other y.place y.other;
+          };
+      once = λ t d entered. elim (Contains-push_cases places (length ws) (t / 2) d) [
+        | inl old ↦ subst (λ n. entries_for (list_at lists n) (t / 2) ≡ 1) (sym (front_watch t old)) (x.once t old (inr (omega arith)))
+        | inr mine ↦ absurd (elim entered [ inl small ↦ omega arith | inr big ↦ omega arith ])
       ];
-      long = λ q c. elim (Contains-push_cases longs p q c) [
-        | inl old ↦ let size = front_size q (x.among q old) in let three = x.long q old in omega arith
-        | inr e ↦ subst (λ n. 3 ≤ arena_word new n) e long
-      ];
-      rest = λ q c. elim (Contains-push_cases places p q c) [
-        | inl old ↦ elim (x.rest q old) [ inl two ↦ inl (front_size q old ∙ two) | inr is ↦ inr (Contains-append_left longs (p ∷ []) q is) ]
-        | inr e ↦ inr (subst (Contains (longs ++ p ∷ [])) e (Contains-push longs p))
-      ];
-    }
-
-    long_pairs : (lists : List (List Pair)) → HasPairs ws places lists → HasPairs new (places ++ p ∷ []) lists
-    long_pairs lists x = record {
-      right = front_right p lists x;
-      all = λ s y. elim (Contains-push_cases places p (s / 2) y.place) [
-        | inl old ↦ front_all lists x s old y.two
-        | inr e ↦ let size : arena_word new p ≡ arena_word new (s / 2) = ap (arena_word new) e in let two = y.two in absurd (omega arith)
-      ];
-    }
-
-  -- a clause of two literals comes
-  module _ (clause : ClauseRef) (two : arena_word new clause.0 ≡ 2) where
-    pair_split : (longs : List ℕ) → IsSplit ws places longs → IsSplit new (places ++ clause.0 ∷ []) longs
-    pair_split longs x = record {
-      among = λ q c. Contains-append_left places (clause.0 ∷ []) q (x.among q c);
-      long = λ q c. let size = front_size q (x.among q c) in let three = x.long q c in omega arith;
-      rest = λ q c. elim (Contains-push_cases places clause.0 q c) [
-        | inl old ↦ elim (x.rest q old) [ inl is ↦ inl (front_size q old ∙ is) | inr is ↦ inr is ]
-        | inr e ↦ inl (subst (λ n. arena_word new n ≡ 2) e two)
-      ];
-    }
-
-    -- the entry of one of its watches
-    own_pair : (s : ℕ) (o : Literal) → s / 2 ≡ clause.0 → lit_at new (other_of s) ≡ o →
-        IsEntry new (places ++ clause.0 ∷ []) (arena_word new (lit_of s)) (record { other = o; clause = clause })
-    own_pair s o e is = record {
-      watch = s;
-      is = record { place = subst (Contains (places ++ clause.0 ∷ [])) (sym e) (Contains-push places clause.0); two = ap (arena_word new) e ∙ two };
-      lit = refl;
-      other = is;
-      clause = sym e;
-    }
-
-    module _ (lists : List (List Pair)) (a b : Literal) (first : arena_word new (clause.0 + 3 + 0) ≡ word_of a)
-        (second : arena_word new (clause.0 + 3 + 1) ≡ word_of b) (below_a : word_of a < length lists) (below_b : word_of b < length lists) where
-      abbrev one : Pair
-      one = record { other = b; clause = clause }
-
-      abbrev other : Pair
-      other = record { other = a; clause = clause }
-
-      abbrev mid : List (List Pair)
-      mid = listed lists (word_of a) one
-
-      size : length mid ≡ length lists
-      size = listed_length lists (word_of a) one
-
-      lit_one : lit_of (2 * clause.0) ≡ clause.0 + 3 + 0
-      lit_one = omega arith
-
-      other_one : other_of (2 * clause.0) ≡ clause.0 + 3 + 1
-      other_one = omega arith
-
-      lit_other : lit_of (2 * clause.0 + 1) ≡ clause.0 + 3 + 1
-      lit_other = omega arith
-
-      other_other : other_of (2 * clause.0 + 1) ≡ clause.0 + 3 + 0
-      other_other = omega arith
-
-      is_one : IsEntry new (places ++ clause.0 ∷ []) (word_of a) one
-      is_one = subst (λ v. IsEntry new (places ++ clause.0 ∷ []) v one) (ap (arena_word new) lit_one
-          ∙ first) (own_pair (2 * clause.0) b (omega arith) (ap (lit_at new) other_one ∙ ap literal_at second ∙ literal_word b))
-
-      is_other : IsEntry new (places ++ clause.0 ∷ []) (word_of b) other
-      is_other = subst (λ v. IsEntry new (places ++ clause.0 ∷ []) v other) (ap (arena_word new) lit_other
-          ∙ second) (own_pair (2 * clause.0 + 1) a (omega arith) (ap (lit_at new) other_other ∙ ap literal_at first ∙ literal_word a))
-
-      kept : (v : ℕ) (x : Pair) → Contains (get_or lists v []) x → Contains (get_or (both_listed lists clause a b) v []) x
-      kept v x c = listed_keeps mid (word_of b) other v x (omega (arith, size)) (listed_keeps lists (word_of a) one v x below_a c)
-
-      new_all : (s : ℕ) → clause.0 ≡ s / 2 → (pair : Pair) × Contains (get_or (both_listed lists clause a b) (arena_word new (lit_of s)) []) pair ×
-          (pair.other ≡ lit_at new (other_of s))
-      new_all s e = elim (cases_eq (s % 2) 0) [
-        | inl z ↦
-            let at : lit_of s ≡ clause.0 + 3 + 0 = omega arith in
-            let at_other : other_of s ≡ clause.0 + 3 + 1 = omega arith in (
-              one,
-              subst (λ v. Contains (get_or (both_listed lists clause a b) v []) one)
-                  (sym (ap (arena_word new) at ∙ first)) (listed_keeps mid (word_of b) other (word_of a) one (omega (arith, size))
-                  (listed_here lists (word_of a) one below_a)),
-              sym (ap (lit_at new) at_other ∙ ap literal_at second ∙ literal_word b),
-            )
-        | inr n ↦
-            let at : lit_of s ≡ clause.0 + 3 + 1 = omega arith in
-            let at_other : other_of s ≡ clause.0 + 3 + 0 = omega arith in (
-              other,
-              subst (λ v. Contains (get_or (both_listed lists clause a b) v []) other)
-                  (sym (ap (arena_word new) at ∙ second)) (listed_here mid (word_of b) other (omega (arith, size))),
-              sym (ap (lit_at new) at_other ∙ ap literal_at first ∙ literal_word a),
-            )
-      ]
-
-      pair_pairs : HasPairs ws places lists → HasPairs new (places ++ clause.0 ∷ []) (both_listed lists clause a b)
-      pair_pairs x = record {
-        right = λ v lt. listed_right mid (word_of b) other new (places ++ clause.0 ∷ []) (omega (arith, size)) is_other
-            (λ w below. listed_right lists (word_of a) one new (places ++ clause.0 ∷ []) below_a is_one (front_right clause.0 lists x) w (omega (arith, size)))
-            v (omega (arith, size, listed_length mid (word_of b) other));
-        all = λ s y. elim (Contains-push_cases places clause.0 (s / 2) y.place) [
-          | inl old ↦ let z = front_all lists x s old y.two in (z.0, kept (arena_word new (lit_of s)) z.0 z.1, z.2)
-          | inr e ↦ new_all s e
-        ];
-      }
-
--- a clause of three literals or more is filed
-pub filed_long : (vars : ℕ) (ws new heads then places longs : List ℕ) (lists : List (List Pair)) (lits : List Literal) →
-    AreFiled vars ws heads places longs lists → IsLinked vars new then (longs ++ length ws ∷ []) → KeepsFront ws new →
-    lits_at new (length ws) ≡ lits → 3 ≤ length lits → AreFiled vars new then (places ++ length ws ∷ []) (longs ++ length ws ∷ []) lists
-filed_long vars ws new heads then places longs lists lits f linked front is three =
-    let store = linked.store in
-    let block : IsBlock vars new (length ws) = store.block (length ws) (Contains-push longs (length ws)) in
-    let within = block.within in
-    let some = f.some in
-    let long : 3 ≤ arena_word new (length ws) = omega (arith, upto_length new (length ws) (arena_word new (length ws)), ap length is) in
-    record {
-      some = omega arith;
-      store = attach_store vars ws new heads places (length ws) f.store refl store.room_limit front (omega arith) block f.size;
-      split = long_split vars ws new places f.store front (length ws) long longs f.split;
-      size = linked.size;
-      chains = linked.chains;
-      lists_size = f.lists_size;
-      pairs = long_pairs vars ws new places f.store front (length ws) long lists f.pairs;
-    }
-
--- what stands in chains is linked
-pub filed_linked : (vars : ℕ) (ws heads places longs : List ℕ) (lists : List (List Pair)) → AreFiled vars ws heads places longs lists →
-    IsLinked vars ws heads longs
-filed_linked vars ws heads places longs lists f =
-    let h = f.store in
-    let split = f.split in
-    record {
-      store = record {
-        vars_limit = h.vars_limit;
-        room_limit = h.room_limit;
-        block = λ p c. h.block p (split.among p c);
-        apart = λ p q c d lt. h.apart p q (split.among p c)
-            (split.among q d) lt;
-      };
-      size = f.size;
-      chains = f.chains;
-    }
-
--- a clause of two literals is filed
-pub filed_pair : (vars : ℕ) (ws heads places longs : List ℕ) (lists : List (List Pair)) (lits : List Literal) (clause : ClauseRef) (a b : Literal) →
-    AreFiled vars ws heads places longs lists → clause.0 ≡ length ws →
-    length ws + length lits + 3 < 2 ^ 30 → length lits ≡ 2 → AreThere vars lits → AreDistinct lits → get_or lits 0 a ≡ a → get_or lits 1 b ≡ b →
-    AreFiled vars (ws ++ block_of lits) heads (places ++ clause.0 ∷ []) longs (both_listed lists clause a b)
-filed_pair vars ws heads places longs lists lits clause a b f is small two there distinct at_a at_b =
-    let new = ws ++ block_of lits in
-    let some = f.some in
-    let two_more : 2 ≤ length lits = omega arith in
-    let front : KeepsFront ws new = before vars ws lits some two_more there distinct in
-    let size = behind_length vars ws lits some two_more there distinct in
-    let block : IsBlock vars new (length ws) = behind_block vars ws lits some two_more there distinct in
-    let block_here : IsBlock vars new clause.0 = subst (IsBlock vars new) (sym is) block in
-    let lists_size = f.lists_size in
-    let len : arena_word new clause.0 ≡ 2 =
-    sym (upto_length new clause.0 (arena_word new clause.0)) ∙ ap (λ n. length (lits_at new n)) is
-    ∙ ap length (behind_lits vars ws lits some two_more there distinct) ∙ two in
-    let first : arena_word new (clause.0 + 3 + 0) ≡ word_of a =
-    ap (λ n. arena_word new (n + 3 + 0)) is ∙ behind_lit vars ws lits some two_more there distinct 0 a (omega arith) ∙ ap word_of at_a in
-    let second : arena_word new (clause.0 + 3 + 1) ≡ word_of b =
-    ap (λ n. arena_word new (n + 3 + 1)) is ∙ behind_lit vars ws lits some two_more there distinct 1 b (omega arith) ∙ ap word_of at_b in
-    let word_a = block_here.lits 0 (omega arith) in
-    let word_b = block_here.lits 1 (omega arith) in
-    let below_a = word_a.below in
-    let below_b = word_b.below in
-    record {
-      some = omega arith;
-      store = attach_store vars ws new heads places clause.0 f.store is (omega arith) front (omega arith) block_here f.size;
-      split = pair_split vars ws new places f.store front clause len longs f.split;
-      size = f.size;
-      chains = let split = f.split in front_chains vars ws new places f.store front heads longs split.among f.chains;
-      lists_size = listed_length (listed lists (word_of a) (record {
-        other = b;
-        clause = clause;
-      })) (word_of b) (record { other = a; clause = clause }) ∙ listed_length lists (word_of a) (record { other = b; clause = clause }) ∙ lists_size;
-      pairs = pair_pairs vars ws new places f.store front clause len lists a b first second (omega arith) (omega arith) f.pairs;
     }

@@ -12,7 +12,7 @@ use Rattle.cnf_core.proofs.TrailLemmas.{front_includes, push_keeps, distinct_con
 use Rattle.watch_arena.specs.Trail.{Marks, IsMarks, opened, level_end, undone, widened, with_lit, trail_level, place_of, IsUnset}
 use Rattle.watch_arena.specs.Walk.{past_of, IsTrueNoLater, IsReasonFor, IsReasoned, AreRight}
 use Rattle.watch_arena.specs.declared.clause_ref.ClauseRef.{ClauseRef}
-use Rattle.watch_arena.specs.Arena.{Attached, AreWatched, AreReasoned, MayBeSet, IsHeldBy, watch_at}
+use Rattle.watch_arena.specs.Arena.{Attached, IsKept, AreWatched, AreReasoned, MayBeSet, IsHeldBy, attached_at, watch_at}
 use Rattle.watch_arena.proofs.CutLemmas.{level_step, level_most}
 use Rattle.watch_arena.proofs.WalkLemmas.{held_more}
 use Rattle.watch_arena.proofs.ReasonLemmas.{reasoned_root, reasoned_unit}
@@ -67,11 +67,8 @@ module _ (m : Marks) (level : ℕ) (marks : IsMarks m) (le : level ≤ length m.
         ],
       )
 
-  pub right_undone : (a b : Literal) → AreRight m a b → AreRight (undone m level) a b
-  right_undone a b r = record {
-    first = λ f. held (negate a) b (r.first (was_past (negate a) f)) f;
-    second = λ f. held (negate b) a (r.second (was_past (negate b) f)) f;
-  }
+  pub kept_undone : (c : List Literal) (a : Literal) → IsKept m c a → IsKept (undone m level) c a
+  kept_undone c a k = record { kept = λ f. let h = k.kept (was_past (negate a) f) in (h.0, h.1, held (negate a) h.0 h.2 f) }
     where
       -- what is left of the propagated literals was propagated
       was_past : (l : Literal) → IsIn (past_of (undone m level)) l → IsIn (past_of m) l
@@ -147,10 +144,11 @@ module _ (m : Marks) (level : ℕ) (marks : IsMarks m) (le : level ≤ length m.
 past_with : (m : Marks) (l : Literal) (reason : ℕ) → IsMarks m → past_of (with_lit m l reason) ≡ past_of m
 past_with m l reason marks = ap has (take-append-le m.front m.lits (l ∷ []) marks.front)
 
-pub right_with : (m : Marks) (l a b : Literal) (reason : ℕ) → IsMarks m → AreRight m a b → AreRight (with_lit m l reason) a b
-right_with m l a b reason marks r = record {
-  first = λ f. held_more m l (negate a) b reason marks (r.first (subst (λ (s : LiteralSet). IsIn s (negate a)) (past_with m l reason marks) f));
-  second = λ f. held_more m l (negate b) a reason marks (r.second (subst (λ (s : LiteralSet). IsIn s (negate b)) (past_with m l reason marks) f));
+pub kept_with : (m : Marks) (l : Literal) (reason : ℕ) (c : List Literal) (a : Literal) → IsMarks m → IsKept m c a → IsKept (with_lit m l reason) c a
+kept_with m l reason c a marks k = record {
+  kept = λ f.
+      let h = k.kept (subst (λ (s : LiteralSet). IsIn s (negate a)) (past_with m l reason marks) f) in
+      (h.0, h.1, held_more m l (negate a) h.0 reason marks h.2);
 }
 
 past_within : (m : Marks) (l : Literal) → IsIn (past_of m) l → IsIn (has m.lits) l
@@ -182,10 +180,11 @@ right_set m a b reason marks unset late = record {
 }
 
 -- a level begins with a literal
-pub right_decided : (m : Marks) (l a b : Literal) → IsMarks m → AreRight m a b → AreRight (with_lit (opened m) l 0) a b
-right_decided m l a b marks r = record {
-  first = λ f. held (negate a) b (r.first (subst (λ (s : LiteralSet). IsIn s (negate a)) (past_with m l 0 marks) f));
-  second = λ f. held (negate b) a (r.second (subst (λ (s : LiteralSet). IsIn s (negate b)) (past_with m l 0 marks) f));
+pub kept_decided : (m : Marks) (l : Literal) (c : List Literal) (a : Literal) → IsMarks m → IsKept m c a → IsKept (with_lit (opened m) l 0) c a
+kept_decided m l c a marks k = record {
+  kept = λ f.
+      let h = k.kept (subst (λ (s : LiteralSet). IsIn s (negate a)) (past_with m l 0 marks) f) in
+      (h.0, h.1, held (negate a) h.0 h.2);
 }
   where
     held : (f o : Literal) → IsTrueNoLater m f o → IsTrueNoLater (with_lit (opened m) l 0) f o
@@ -205,11 +204,8 @@ right_decided m l a b marks r = record {
     }
 
 -- further variables come
-pub right_widened : (m : Marks) (n : ℕ) (a b : Literal) → AreRight m a b → AreRight (widened m n) a b
-right_widened m n a b r = record {
-  first = λ f. let h = r.first f in record { now = h.now; back = h.back };
-  second = λ f. let h = r.second f in record { now = h.now; back = h.back };
-}
+pub kept_widened : (m : Marks) (n : ℕ) (c : List Literal) (a : Literal) → IsKept m c a → IsKept (widened m n) c a
+kept_widened m n c a k = record { kept = λ f. let h = k.kept f in let x = h.2 in (h.0, h.1, record { now = x.now; back = x.back }) }
 
 -- the other of two literals, by their levels
 pub right_other : (m : Marks) (a b : Literal) → AreRight m b a → AreRight m a b
@@ -265,16 +261,28 @@ reasoned_widened m n ws places r = record {
 
 -- the same of all clauses of an arena
 pub watched_with : (a : Attached) (m : Marks) (l : Literal) (reason : ℕ) → IsMarks m → AreWatched a m → AreWatched a (with_lit m l reason)
-watched_with a m l reason marks w = record { right = λ p c. right_with m l (watch_at a p 0) (watch_at a p 1) reason marks (w.right p c) }
+watched_with a m l reason marks w = record {
+  first = λ p c. kept_with m l reason (attached_at a p) (watch_at a p 0) marks (w.first p c);
+  second = λ p c. kept_with m l reason (attached_at a p) (watch_at a p 1) marks (w.second p c);
+}
 
 pub watched_decided : (a : Attached) (m : Marks) (l : Literal) → IsMarks m → AreWatched a m → AreWatched a (with_lit (opened m) l 0)
-watched_decided a m l marks w = record { right = λ p c. right_decided m l (watch_at a p 0) (watch_at a p 1) marks (w.right p c) }
+watched_decided a m l marks w = record {
+  first = λ p c. kept_decided m l (attached_at a p) (watch_at a p 0) marks (w.first p c);
+  second = λ p c. kept_decided m l (attached_at a p) (watch_at a p 1) marks (w.second p c);
+}
 
 pub watched_undone : (a : Attached) (m : Marks) (level : ℕ) → IsMarks m → level ≤ length m.cuts → AreWatched a m → AreWatched a (undone m level)
-watched_undone a m level marks le w = record { right = λ p c. right_undone m level marks le (watch_at a p 0) (watch_at a p 1) (w.right p c) }
+watched_undone a m level marks le w = record {
+  first = λ p c. kept_undone m level marks le (attached_at a p) (watch_at a p 0) (w.first p c);
+  second = λ p c. kept_undone m level marks le (attached_at a p) (watch_at a p 1) (w.second p c);
+}
 
 pub watched_widened : (a : Attached) (m : Marks) (n : ℕ) → AreWatched a m → AreWatched a (widened m n)
-watched_widened a m n w = record { right = λ p c. right_widened m n (watch_at a p 0) (watch_at a p 1) (w.right p c) }
+watched_widened a m n w = record {
+  first = λ p c. kept_widened m n (attached_at a p) (watch_at a p 0) (w.first p c);
+  second = λ p c. kept_widened m n (attached_at a p) (watch_at a p 1) (w.second p c);
+}
 
 pub reasoned_set : (a : Attached) (m : Marks) (l : Literal) (r : Option ClauseRef) → IsMarks m → IsThere m.vars l → IsUnset m.lits l → MayBeSet a m l r →
     AreReasoned a m → AreReasoned a (with_lit m l (place_of r))

@@ -1,27 +1,42 @@
--- The reason of a literal that a step sets.
-use Rattle.std.proofs.Common.{◌≢◌, ◌/◌, List, [], ◌∷◌, ◌++◌, ℕ, take, get_or, set}
+-- What a literal that a clause leaves alone adds to a trail.
+use Rattle.std.proofs.Common.{◌≡◌, ℕ, ◌/◌, ◌≤◌, List, [], ◌∷◌, ◌++◌, arith, refl}
+use Rattle.std.specs.Prelude.{Contains}
 use Rattle.cnf_core.specs.Lit.{Literal, literal_at, negate, has}
 use Rattle.cnf_core.specs.Clause.{IsThere}
 use Rattle.cnf_core.specs.Propagation.{IsIn}
+use Rattle.cnf_core.proofs.GrowthLemmas.{grows_none}
+use Rattle.watch_arena.specs.Words.{arena_word, lit_of, IsStore}
 use Rattle.watch_arena.specs.Trail.{Marks, IsMarks, with_lit}
-use Rattle.watch_arena.specs.Walk.{done_of, IsWalking, IsAlone, IsReasoned, KeepsClauses, AddsReasons}
-use Rattle.watch_arena.proofs.WalkLemmas.{ready}
-use Rattle.watch_arena.proofs.ReasonLemmas.{reasoned_unit, unit_because, reason_kept, alone_reason}
+use Rattle.watch_arena.specs.Walk.{IsAlone, KeepsClauses, HasWalked}
+use Rattle.watch_arena.proofs.WalkLemmas.{alone_grows, longer_unit, longer_none, unit_keeps}
+use Rattle.watch_arena.proofs.ReasonLemmas.{reasoned_unit, reasoned_text, unit_because, none_because, alone_reason}
 
-pub visited_reasoned : (m : Marks) (ws heads places : List ℕ) (w s : ℕ) → IsWalking m ws heads places (done_of m) w s → s ≢ 0 →
-    IsIn (has m.lits) (negate (literal_at w)) → IsMarks m → (l : Literal) → IsThere m.vars l → IsAlone ws m.lits s l → IsReasoned m ws places →
-    IsReasoned (with_lit m l (s / 2)) ws places
-visited_reasoned m ws heads places w s k some false_now marks l there a r =
-    let x = ready m ws heads places (done_of m) w s k some in
-    let h = k.store in
-    let b = h.block (s / 2) x.place in
-    reasoned_unit m l (s / 2) marks there a.unset ws places r b.from (alone_reason ws places m.lits w s l x.place x.two x.lit false_now a)
+pub alone_made : (m : Marks) (ws places : List ℕ) (w s : ℕ) (l : Literal) → IsStore m.vars ws places → Contains places (s / 2) →
+    arena_word ws (lit_of s) ≡ w → IsIn (has m.lits) (negate (literal_at w)) → IsMarks m → IsThere m.vars l → IsAlone ws m.lits s l →
+    HasWalked m (with_lit m l (s / 2)) ws ws places
+alone_made m ws places w s l h place lit false_now marks there a =
+    let b = h.block (s / 2) place in
+    let two = b.two in
+    let from = b.from in
+    let reason = alone_reason ws places m.lits w s l place two lit false_now a in
+    record {
+      longer = longer_unit m l (s / 2);
+      propagated = omega arith;
+      because = unit_because m l (s / 2) marks there a.unset ws places reason;
+      grows = alone_grows ws places m.lits w s l place two lit false_now a;
+      text = λ p c d is. is;
+      reasoned = λ r. reasoned_unit m l (s / 2) marks there a.unset ws places r from reason;
+      reasons = unit_keeps m l (s / 2) a.unset;
+    }
 
-pub visited_because : (m : Marks) (ws heads places : List ℕ) (w s : ℕ) → IsWalking m ws heads places (done_of m) w s → s ≢ 0 →
-    IsIn (has m.lits) (negate (literal_at w)) → IsMarks m → (l : Literal) → IsThere m.vars l → IsAlone ws m.lits s l → (new : List ℕ) →
-    KeepsClauses places ws new → AddsReasons m (with_lit m l (s / 2)) new places
-visited_because m ws heads places w s k some false_now marks l there a new keeps = λ i d from lt.
-    let x = ready m ws heads places (done_of m) w s k some in
-    reason_kept ws new places (take i (m.lits ++ l ∷ [])) (get_or (m.lits ++ l ∷ []) i d)
-    (get_or (set m.reasons l.var (s / 2)) (get_or (m.lits ++ l ∷ []) i d).var 0) keeps
-    (unit_because m l (s / 2) marks there a.unset ws places (alone_reason ws places m.lits w s l x.place x.two x.lit false_now a) i d from lt)
+-- literals of a clause change places, and no literal comes to the trail
+pub text_made : (m : Marks) (ws new places : List ℕ) → KeepsClauses places ws new → HasWalked m m ws new places
+text_made m ws new places text = record {
+  longer = longer_none m;
+  propagated = omega arith;
+  because = none_because m new places;
+  grows = λ clauses t. grows_none clauses m.lits;
+  text = text;
+  reasoned = reasoned_text m ws new places text;
+  reasons = λ i d lt. refl;
+}

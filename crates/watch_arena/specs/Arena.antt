@@ -6,10 +6,11 @@ use Rattle.cnf_core.specs.Lit.{Literal, negate, has}
 use Rattle.cnf_core.specs.Clause.{Clauses, AreDistinct, AreThere}
 use Rattle.cnf_core.specs.Propagation.{IsIn, SameLiterals}
 use Rattle.watch_arena.specs.declared.clause_ref.ClauseRef.{ClauseRef}
-use Rattle.watch_arena.specs.declared.pairs.Pair.{Pair}
-use Rattle.watch_arena.specs.Pairs.{AreFiled}
+use Rattle.watch_arena.specs.Rows.{Rowed}
+use Rattle.watch_arena.specs.Filed.{AreFiled}
 use Rattle.watch_arena.specs.Trail.{Marks, IsUnset}
-use Rattle.watch_arena.specs.Walk.{lit_at, lits_at, AreRight, IsReasoned, IsReasonFor, AddsReasons}
+use Rattle.watch_arena.specs.Walk.{lit_at, lits_at, past_of, IsTrueNoLater, AreRight, IsReasoned, IsReasonFor}
+use Rattle.watch_arena.specs.Walk.{AddsReasons}
 
 -- the number of variables, the most words, the words of the clauses behind one that stands for
 -- none, the places of the clauses, and how many clauses were looked at
@@ -31,12 +32,12 @@ attached_of vars room words places visits = record {
       visits;
 }
 
--- what each arena keeps: every watch of a longer clause stands once in the chain of its literal, every
--- chain ends, and every clause of two literals stands in the lists of both
-pub record IsArena (vars room : ℕ) (words heads places longs : List ℕ) (lists : List (List Pair)) : Type 0 where
+-- what each arena keeps: every watch has one entry in the row of its literal, and every row has place for all clauses
+-- that have its literal
+pub record IsArena (vars room : ℕ) (words places : List ℕ) (rows : Rowed) : Type 0 where
   pub vars_limit : vars ≤ VARS
   pub room_limit : room ≤ ROOM
-  pub filed : AreFiled vars words heads places longs lists
+  pub filed : AreFiled vars words places rows
 
 -- the literals of the clause at a place, in their present order
 abbrev pub attached_at : Attached → ℕ → List Literal
@@ -69,10 +70,14 @@ pub record IsSameText (old new : Attached) : Type 0 where
 abbrev pub watch_at : Attached → ℕ → ℕ → Literal
 watch_at a p i = lit_at a.words (p + 3 + i)
 
--- the arena is watched on the trail: for each clause, a false watch is still to be propagated, or
--- the other watch is true at no later level
+-- where a watch of a clause is false and propagated, a literal of the clause is true at no later level
+pub record IsKept (m : Marks) (clause : List Literal) (a : Literal) : Type 0 where
+  pub kept : IsIn (past_of m) (negate a) → (l : Literal) × Contains clause l × IsTrueNoLater m (negate a) l
+
+-- the arena is watched on the trail: so it is of the first two literals of each clause
 pub record AreWatched (a : Attached) (m : Marks) : Type 0 where
-  pub right : (p : ℕ) → Contains a.places p → AreRight m (watch_at a p 0) (watch_at a p 1)
+  pub first : (p : ℕ) → Contains a.places p → IsKept m (attached_at a p) (watch_at a p 0)
+  pub second : (p : ℕ) → Contains a.places p → IsKept m (attached_at a p) (watch_at a p 1)
 
 -- the trail is reasoned: each literal with a reason follows from it by literals in front, and each
 -- level above 0 begins with its one literal without a reason

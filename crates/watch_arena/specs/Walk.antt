@@ -1,16 +1,14 @@
--- The walk of one chain.
--- A walk goes through the chain of a literal that became false. Where the other watch isn't true and a
--- further literal isn't false, that one changes places with the false one, and its chain gets the watch;
--- where there is none, the other watch becomes true, or the clause is falsified.
+-- Looks at clauses, and what a walk of rows adds to a trail.
+-- A walk goes through the row of a literal that became false. Where the entry's literal isn't true, the clause is
+-- looked at: where the other watch isn't true and a further literal isn't false, that one changes places with the false
+-- one, and its row gets the entry; where there is none, the other watch becomes true, or the clause is falsified.
 use Rattle.std.specs.Prelude.{◌≡◌, ◌≢◌, ◌≤◌, ◌<◌, ◌⊎◌, ◌↔◌, take, ℕ, zero, suc, ◌+◌, ◌*◌, ◌/◌, Option, Some, None}
 use Rattle.std.specs.Prelude.{List, [], ◌∷◌, ◌++◌, Contains, length, slice_index, slice_index_or}
 use Rattle.cnf_core.specs.Lit.{Literal, negate, literal_at, has}
 use Rattle.cnf_core.specs.Clause.{Clauses}
 use Rattle.cnf_core.specs.Propagation.{LiteralSet, IsIn, IsUnit, Falsifies, IsClosure}
 use Rattle.cnf_core.specs.Trail.{Grows}
-use Rattle.watch_arena.specs.Words.{arena_word, link_of, lit_of, other_of, IsStore}
-use Rattle.cnf_core.specs.Times.{times}
-use Rattle.watch_arena.specs.Chains.{steps, Path, IsWatch, HasChains}
+use Rattle.watch_arena.specs.Words.{arena_word, lit_of, other_of}
 use Rattle.watch_arena.specs.Trail.{IsUnset, Marks, IsLonger}
 use Rattle.watch_arena.specs.declared.looks.Look.{Look}
 use Rattle.watch_arena.specs.declared.looks.Look.TheVariants.{True, Move, Unit as Alone, Falsified}
@@ -49,9 +47,13 @@ pub record IsFalsified (ws : List ℕ) (set : LiteralSet) (s : ℕ) : Type 0 whe
   pub other : IsIn set (negate (lit_at ws (other_of s)))
   pub rest : RestFalse ws set (s / 2)
 
+-- the literal is that of the clause's other watch
+abbrev pub IsOther : List ℕ → ℕ → Literal → Type 0
+IsOther ws s l = l ≡ lit_at ws (other_of s)
+
 abbrev pub IsLook : List ℕ → List Literal → ℕ → Look → Type 0
-IsLook ws lits s True = IsIn (has lits) (lit_at ws (other_of s))
-IsLook ws lits s (Move k) = IsMove ws (has lits) (s / 2) k
+IsLook ws lits s (True l) = IsOther ws s l × IsIn (has lits) l
+IsLook ws lits s (Move k l) = IsOther ws s l × IsMove ws (has lits) (s / 2) k
 IsLook ws lits s (Alone l) = IsAlone ws lits s l
 IsLook ws lits s Falsified = IsFalsified ws (has lits) s
 
@@ -60,15 +62,21 @@ pub record IsTrueNoLater (m : Marks) (f l : Literal) : Type 0 where
   pub now : IsIn (has m.lits) l
   pub back : (n : ℕ) → Contains m.cuts n → IsIn (has (take n m.lits)) f → IsIn (has (take n m.lits)) l
 
--- for each watch that isn't out: where it is false by the literals that are done, the other one is
--- true at no later level
-abbrev pub AreGuarded : List ℕ → List ℕ → LiteralSet → Marks → List ℕ → Type 0
-AreGuarded ws places done m out = (s : ℕ) → Contains places (s / 2) → times out s ≡ 0 →
-    IsIn done (negate (lit_at ws (lit_of s))) → IsTrueNoLater m (negate (lit_at ws (lit_of s))) (lit_at ws (other_of s))
+-- the clause at a place has this literal, wherever it stands
+abbrev pub HasLit : List ℕ → ℕ → Literal → Type 0
+HasLit ws p l = (k : ℕ) × (k < arena_word ws p) × (lit_at ws (p + 3 + k) ≡ l)
+
+-- where a literal is false by those that are done, one of the clause is true at no later level
+pub record IsQuiet (ws : List ℕ) (done : LiteralSet) (m : Marks) (p : ℕ) (a : Literal) : Type 0 where
+  pub held : IsIn done (negate a) → (l : Literal) × HasLit ws p l × IsTrueNoLater m (negate a) l
+
+-- each watch is quiet
+abbrev pub AreGuarded : List ℕ → List ℕ → LiteralSet → Marks → Type 0
+AreGuarded ws places done m = (s : ℕ) → Contains places (s / 2) → IsQuiet ws done m (s / 2) (lit_at ws (lit_of s))
 
 -- the literals of the clause at a place, in any order
 abbrev pub IsClauseAt : List ℕ → ℕ → List Literal → Type 0
-IsClauseAt ws p c = (l : Literal) → Contains c l ↔ ((k : ℕ) × (k < arena_word ws p) × (lit_at ws (p + 3 + k) ≡ l))
+IsClauseAt ws p c = (l : Literal) → Contains c l ↔ HasLit ws p l
 
 -- the words hold these clauses and no others
 pub record HoldsClauses (clauses : Clauses) (ws places : List ℕ) : Type 0 where
@@ -104,39 +112,6 @@ done_of m = has (take (m.front + 1) m.lits)
 -- the literals that were propagated
 abbrev pub past_of : Marks → LiteralSet
 past_of m = has (take m.front m.lits)
-
--- those watches of the chain of a literal that are still to be looked at
-pub record IsWalking (m : Marks) (ws heads places : List ℕ) (done : LiteralSet) (w next : ℕ) : Type 0 where
-  pub rest : List ℕ
-  pub store : IsStore m.vars ws places
-  pub size : length heads ≡ 2 * m.vars + 2
-  pub chains : HasChains ws heads places rest
-  pub path : Path ws next rest
-  pub own : (s : ℕ) → Contains rest s → IsWatch ws places w s
-  pub quiet : AreGuarded ws places done m rest
-
--- the first of those watches is taken, and these are left
-pub record IsOpened (m : Marks) (ws heads places : List ℕ) (done : LiteralSet) (w s : ℕ) (rest : List ℕ) : Type 0 where
-  pub store : IsStore m.vars ws places
-  pub size : length heads ≡ 2 * m.vars + 2
-  pub chains : HasChains ws heads places (s ∷ rest)
-  pub path : Path ws (arena_word ws (link_of s)) rest
-  pub place : Contains places (s / 2)
-  pub own : (t : ℕ) → Contains rest t → IsWatch ws places w t
-  pub quiet : AreGuarded ws places done m (s ∷ rest)
-
--- a step was made: one watch less is left
-pub record IsStepped (m : Marks) (ws new then places : List ℕ) (done : LiteralSet) (w s next : ℕ) : Type 0 where
-  pub walking : IsWalking m new then places done w next
-  pub fewer : steps (2 * length new) new next < steps (2 * length ws) ws s
-
--- no watch is out: each false watch is still to be propagated, or the other one is true at no later
--- level
-pub record IsWatched (m : Marks) (ws heads places : List ℕ) (done : LiteralSet) : Type 0 where
-  pub store : IsStore m.vars ws places
-  pub size : length heads ≡ 2 * m.vars + 2
-  pub chains : HasChains ws heads places []
-  pub quiet : AreGuarded ws places done m []
 
 -- the reasons of the old trail's variables stay
 abbrev pub KeepsReasons : Marks → Marks → Type 0
@@ -184,23 +159,8 @@ Closes places ws old new = (clauses : Clauses) → HoldsClauses clauses ws place
 abbrev pub Clashes : List ℕ → List ℕ → List Literal → Type 0
 Clashes places ws old = (clauses : Clauses) → HoldsClauses clauses ws places → Falsifies clauses (has old)
 
--- every watch stands in the chain of its literal
-pub record IsLinked (vars : ℕ) (ws heads places : List ℕ) : Type 0 where
-  pub store : IsStore vars ws places
-  pub size : length heads ≡ 2 * vars + 2
-  pub chains : HasChains ws heads places []
-
 -- two literals may be watched: where one is false and propagated, the other one is true at no later
--- level; contracts say it of each clause, and walks of each watch (`AreGuarded`)
+-- level; `attach` asks for it
 pub record AreRight (m : Marks) (a b : Literal) : Type 0 where
   pub first : IsIn (past_of m) (negate a) → IsTrueNoLater m (negate a) b
   pub second : IsIn (past_of m) (negate b) → IsTrueNoLater m (negate b) a
-
--- the same but for the two watches of the clause at a place, which has these words as first literals
-pub record IsUnlinked (vars : ℕ) (ws heads places : List ℕ) (p a b : ℕ) : Type 0 where
-  pub store : IsStore vars ws places
-  pub size : length heads ≡ 2 * vars + 2
-  pub chains : HasChains ws heads places ((2 * p) ∷ (2 * p + 1) ∷ [])
-  pub place : Contains places p
-  pub first : arena_word ws (p + 3 + 0) ≡ a
-  pub second : arena_word ws (p + 3 + 1) ≡ b

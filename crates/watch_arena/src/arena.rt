@@ -14,27 +14,25 @@ ghost use Rattle.watch_arena.specs.Arena.{MayBeWatched, IsClashOf, attached_at, 
 use crate::attach::attach;
 use crate::clause_ref::ClauseRef;
 use crate::fault::ArenaFault;
-use crate::pairs::{Pairs, add_lists};
+use crate::rows::Rows;
 use crate::trail::Trail;
 use crate::walks::propagate;
-use cnf_core::{Lit, ROOM, VARS, lengthen};
+use cnf_core::{Lit, ROOM, VARS};
 use plan_core::OutOfMemory;
 use std::alloc::Global;
 use std::marker::Model;
 
-/// Clauses. The words hold for each its length, two links and its literals. One of two literals is whole in the lists
-/// of both. A longer one is in the chains of its two watches, which are its first two literals. Each literal has a
-/// chain, which leads from its head through the links of the watches to 0.
+/// Clauses. The words hold for each its length, two words that are free, and its literals. Its watches are its first
+/// two literals. Each literal has a row, with an entry for each clause that it is a watch of: first those of two
+/// literals, then the longer ones. A row has place for each clause that has its literal, so that a watch moves without
+/// memory.
 #[derive(Drop)]
 pub struct Arena {
     vars: u32,
     room: u32,
     words: Vec<u32>,
-    heads: Vec<u32>,
+    rows: Rows,
     places: Vec<u32>,
-    longs: Vec<u32>,
-    lists: Vec<Pairs>,
-    alloc: Global,
     visits: u64,
 }
 
@@ -45,18 +43,7 @@ impl Model for Arena {
 
     ghost view = { λ a. attached_of a.vars a.room a.words.items a.places.items a.visits };
 
-    ghost invariant = { λ a. IsArena a.vars a.room a.words.items a.heads.items a.places.items a.longs.items
-        a.lists.items };
-}
-
-/// The lists of the literals of so many variables, which have no clause.
-fn lists_for(alloc: Global, vars: u32) -> Result<Vec<Pairs>, OutOfMemory>
-    requires { vars ≤ VARS }
-    ensures { IfOk result (λ l. l.items ≡ replicate (2 * vars + 2) []) }
-{
-    let mut lists = Vec::new(alloc);
-    add_lists(alloc, &mut lists, 2 * vars as usize + 2)?;
-    Ok(lists)
+    ghost invariant = { λ a. IsArena a.vars a.room a.words.items a.places.items a.rows };
 }
 
 impl Arena {
@@ -71,15 +58,14 @@ impl Arena {
         ensures visits { IfOk result (λ a. a.visits ≡ 0) }
         ensures watched { IfOk result (λ a. (m : Marks) → AreWatched a m) }
     {
+        let mut rows = Rows::new(alloc);
+        rows.add(2 * vars as usize + 2)?;
         Ok(Arena {
             vars,
             room,
             words: vec![in alloc; 0; 1]?,
-            heads: vec![in alloc; 0; 2 * vars as usize + 2]?,
+            rows,
             places: Vec::new(alloc),
-            longs: Vec::new(alloc),
-            lists: lists_for(alloc, vars)?,
-            alloc,
             visits: 0,
         })
     }
@@ -92,15 +78,7 @@ impl Arena {
         ensures watched { (m : Marks) → AreWatched self.old m → AreWatched self.new m }
         ensures reasoned { (m : Marks) → AreReasoned self.old m → AreReasoned self.new m }
     {
-        let before = self.heads.len();
-        lengthen(&mut self.heads, 2 * n as usize, 0)?;
-        match add_lists(self.alloc, &mut self.lists, 2 * n as usize) {
-            Ok(()) => {}
-            Err(e) => {
-                self.heads.truncate(before);
-                return Err(e);
-            }
-        }
+        self.rows.add(2 * n as usize)?;
         self.vars += n;
         Ok(())
     }
@@ -154,10 +132,8 @@ impl Arena {
     {
         propagate(
             &mut self.words,
-            &mut self.heads,
+            &mut self.rows,
             &self.places,
-            &self.longs,
-            &self.lists,
             trail,
             &mut self.visits,
         )
@@ -184,10 +160,8 @@ impl Arena {
     {
         attach(
             &mut self.words,
-            &mut self.heads,
+            &mut self.rows,
             &mut self.places,
-            &mut self.longs,
-            &mut self.lists,
             trail,
             lits,
             self.room,

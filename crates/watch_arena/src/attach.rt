@@ -1,17 +1,17 @@
 // Attaching clauses.
 ghost use Rattle.std.specs.Prelude.{◌≡◌, ◌≤◌, ◌<◌, ◌+◌, ◌*◌, ◌^◌, ◌∷◌, ◌++◌, [], length, OnOk, OnErr, IfOk, IsErrOf};
-ghost use Rattle.std.specs.Prelude.{false, take, ℕ, ◌↔◌};
+ghost use Rattle.std.specs.Prelude.{false, true, take, ◌↔◌, All};
 ghost use Rattle.cnf_core.specs.Lit.{word_of};
 ghost use Rattle.cnf_core.specs.Clause.{AreDistinct, AreThere};
-ghost use Rattle.watch_arena.specs.Words.{arena_word, block_of, KeepsFront};
-ghost use Rattle.watch_arena.specs.Pairs.{AreFiled, both_listed};
+ghost use Rattle.watch_arena.specs.Words.{arena_word, block_of, HasWords, KeepsFront};
+ghost use Rattle.watch_arena.specs.Rows.{IsRoomier, room_of};
+ghost use Rattle.watch_arena.specs.Filed.{AreFiled, IsEntering};
 ghost use Rattle.watch_arena.specs.declared.fault.ArenaFault.TheVariants.{Room};
-ghost use Rattle.watch_arena.specs.Walk.{IsLinked, IsUnlinked, KeepsLits, lits_at};
+ghost use Rattle.watch_arena.specs.Walk.{lits_at};
 
-use crate::chains::push;
 use crate::clause_ref::ClauseRef;
 use crate::fault::ArenaFault;
-use crate::pairs::{Pair, Pairs};
+use crate::rows::{Entry, Rows};
 use crate::trail::Trail;
 use cnf_core::Lit;
 use plan_core::OutOfMemory;
@@ -47,209 +47,99 @@ fn append(words: &mut Vec<u32>, lits: &[Lit]) -> Result<(), OutOfMemory>
     }
 }
 
-/// Puts both watches of a clause into the chains of their literals.
-fn link_both(
-    words: &mut [u32],
-    heads: &mut [u32],
-    places: &[u32],
-    trail: &Trail,
-    p: u32,
-    a: u32,
-    b: u32,
-)
-    requires { IsUnlinked trail.now.vars words.old heads.old places.now p a b }
-    ensures linked { IsLinked trail.now.vars words.new heads.new places.now }
-    ensures lits { KeepsLits places.now words.old words.new }
-    ensures front { (i : ℕ) → i ≤ p → arena_word words.new i ≡ arena_word words.old i }
+/// Gives the rows of all literals of a clause place for it, or those of some of them where memory fails.
+fn make_room_for(rows: &mut Rows, lits: &[Lit]) -> Result<(), OutOfMemory>
+    requires { All (λ l. word_of l < length rows.old.lists) lits.now }
+    ensures kept { IsRoomier rows.old rows.new }
+    ensures more { OnOk result (All (λ l. room_of rows.old (word_of l) < room_of rows.new (word_of l)) lits.now) }
 {
-    push(words, heads, 2 * p, a);
-    push(words, heads, 2 * p + 1, b);
-}
-
-/// Puts a clause behind the others and its place behind the places, and both its watches into the chains of their
-/// literals; or nothing of it.
-fn append_linked(
-    words: &mut Vec<u32>,
-    heads: &mut [u32],
-    places: &mut Vec<u32>,
-    trail: &Trail,
-    lits: &[Lit],
-) -> Result<(), OutOfMemory>
-    requires linked { IsLinked trail.now.vars words.old.items heads.old places.old.items }
-    requires some { 1 ≤ length words.old.items }
-    requires room { length words.old.items + length lits.now + 3 < 2 ^ 30 }
-    requires two { 2 ≤ length lits.now }
-    requires there { AreThere trail.now.vars lits.now }
-    requires distinct { AreDistinct lits.now }
-    ensures linked { OnOk result (IsLinked trail.now.vars words.new.items heads.new places.new.items) }
-    ensures clause { OnOk result (lits_at words.new.items (length words.old.items) ≡ lits.now) }
-    ensures others { OnOk result (KeepsFront words.old.items words.new.items) }
-    ensures size { OnOk result (length words.new.items ≡ length words.old.items + length lits.now + 3) }
-    ensures places { OnOk result (places.new.items ≡ places.old.items ++ length words.old.items ∷ []) }
-    ensures words { OnErr result (words.new.items ≡ words.old.items) }
-    ensures heads { OnErr result (heads.new ≡ heads.old) }
-    ensures placed { OnErr result (places.new.items ≡ places.old.items) }
-{
-    let before = words.len();
-    let p = before as u32;
-    append(words, lits)?;
-    match places.push(p) {
-        Ok(()) => {}
-        Err(_) => {
-            words.truncate(before);
-            return Err(OutOfMemory);
-        }
+    for l in lits {
+        rows.make_room(*l)?;
     }
-    link_both(
-        words,
-        heads,
-        places,
-        trail,
-        p,
-        lits[0].word(),
-        lits[1].word(),
-    );
     Ok(())
 }
 
-/// Appends a clause of three literals or more, or nothing of it.
-fn append_long(
+/// Puts a clause behind the others and its place behind the places, or nothing of it.
+fn append_placed(
     words: &mut Vec<u32>,
-    heads: &mut [u32],
     places: &mut Vec<u32>,
-    longs: &mut Vec<u32>,
-    lists: &[Pairs],
-    trail: &Trail,
     lits: &[Lit],
 ) -> Result<(), OutOfMemory>
-    requires filed { AreFiled trail.now.vars words.old.items heads.old places.old.items longs.old.items lists.now }
     requires room { length words.old.items + length lits.now + 3 < 2 ^ 30 }
-    requires three { 3 ≤ length lits.now }
-    requires there { AreThere trail.now.vars lits.now }
-    requires distinct { AreDistinct lits.now }
-    ensures filed { AreFiled trail.now.vars words.new.items heads.new places.new.items longs.new.items lists.now }
-    ensures clause { OnOk result (lits_at words.new.items (length words.old.items) ≡ lits.now) }
-    ensures others { OnOk result (KeepsFront words.old.items words.new.items) }
-    ensures size { OnOk result (length words.new.items ≡ length words.old.items + length lits.now + 3) }
+    ensures words { OnOk result (words.new.items ≡ words.old.items ++ block_of lits.now) }
     ensures places { OnOk result (places.new.items ≡ places.old.items ++ length words.old.items ∷ []) }
-    ensures words { OnErr result (words.new.items ≡ words.old.items) }
-    ensures placed { OnErr result (places.new.items ≡ places.old.items) }
-{
-    let before = places.len();
-    places.push(words.len() as u32)?;
-    match append_linked(words, heads, longs, trail, lits) {
-        Ok(()) => Ok(()),
-        Err(e) => {
-            places.truncate(before);
-            Err(e)
-        }
-    }
-}
-
-/// Puts a clause of two literals into the lists of both, or into none where memory fails.
-fn list_both(lists: &mut [Pairs], clause: ClauseRef, a: Lit, b: Lit) -> Result<(), OutOfMemory>
-    requires first { word_of a < length lists.old }
-    requires second { word_of b < length lists.old }
-    ensures both { OnOk result (lists.new ≡ both_listed lists.old clause a b) }
-    ensures none { OnErr result (lists.new ≡ lists.old) }
-{
-    lists[a.word() as usize].push(Pair { other: b, clause })?;
-    match lists[b.word() as usize].push(Pair { other: a, clause }) {
-        Ok(()) => Ok(()),
-        Err(e) => {
-            lists[a.word() as usize].pop();
-            Err(e)
-        }
-    }
-}
-
-/// Puts the place of a clause of two literals behind the others, and the clause into their lists; or nothing of it.
-fn keep_pair(
-    places: &mut Vec<u32>,
-    lists: &mut [Pairs],
-    clause: ClauseRef,
-    a: Lit,
-    b: Lit,
-) -> Result<(), OutOfMemory>
-    requires first { word_of a < length lists.old }
-    requires second { word_of b < length lists.old }
-    ensures both { OnOk result (lists.new ≡ both_listed lists.old clause a b) }
-    ensures places { OnOk result (places.new.items ≡ places.old.items ++ clause.0 ∷ []) }
-    ensures none { OnErr result (lists.new ≡ lists.old) }
-    ensures placed { OnErr result (places.new.items ≡ places.old.items) }
-{
-    let before = places.len();
-    places.push(clause.0)?;
-    match list_both(lists, clause, a, b) {
-        Ok(()) => Ok(()),
-        Err(e) => {
-            places.truncate(before);
-            Err(e)
-        }
-    }
-}
-
-/// Appends a clause of two literals, or nothing of it.
-fn append_pair(
-    words: &mut Vec<u32>,
-    heads: &[u32],
-    places: &mut Vec<u32>,
-    longs: &[u32],
-    lists: &mut [Pairs],
-    trail: &Trail,
-    lits: &[Lit],
-) -> Result<(), OutOfMemory>
-    requires filed { AreFiled trail.now.vars words.old.items heads.now places.old.items longs.now lists.old }
-    requires room { length words.old.items + length lits.now + 3 < 2 ^ 30 }
-    requires two { length lits.now ≡ 2 }
-    requires there { AreThere trail.now.vars lits.now }
-    requires distinct { AreDistinct lits.now }
-    ensures filed { AreFiled trail.now.vars words.new.items heads.now places.new.items longs.now lists.new }
-    ensures clause { OnOk result (lits_at words.new.items (length words.old.items) ≡ lits.now) }
-    ensures others { OnOk result (KeepsFront words.old.items words.new.items) }
-    ensures size { OnOk result (length words.new.items ≡ length words.old.items + length lits.now + 3) }
-    ensures places { OnOk result (places.new.items ≡ places.old.items ++ length words.old.items ∷ []) }
-    ensures words { OnErr result (words.new.items ≡ words.old.items) }
-    ensures placed { OnErr result (places.new.items ≡ places.old.items) }
+    ensures no_words { OnErr result (words.new.items ≡ words.old.items) }
+    ensures no_places { OnErr result (places.new.items ≡ places.old.items) }
 {
     let before = words.len();
     append(words, lits)?;
-    match keep_pair(places, lists, ClauseRef(before as u32), lits[0], lits[1]) {
+    match places.push(before as u32) {
         Ok(()) => Ok(()),
-        Err(e) => {
+        Err(_) => {
             words.truncate(before);
-            Err(e)
+            Err(OutOfMemory)
         }
     }
 }
 
-/// Appends a clause: one of two literals into lists, a longer one into chains; or nothing of it.
-fn append_clause(
-    words: &mut Vec<u32>,
-    heads: &mut [u32],
-    places: &mut Vec<u32>,
-    longs: &mut Vec<u32>,
-    lists: &mut [Pairs],
+/// Puts a clause of two literals into the rows of both.
+fn enter_pair(
+    rows: &mut Rows,
+    words: &[u32],
+    places: &[u32],
     trail: &Trail,
-    lits: &[Lit],
-) -> Result<(), OutOfMemory>
-    requires filed { AreFiled trail.now.vars words.old.items heads.old places.old.items longs.old.items lists.old }
-    requires room { length words.old.items + length lits.now + 3 < 2 ^ 30 }
-    requires two { 2 ≤ length lits.now }
-    requires there { AreThere trail.now.vars lits.now }
-    requires distinct { AreDistinct lits.now }
-    ensures filed { AreFiled trail.now.vars words.new.items heads.new places.new.items longs.new.items lists.new }
-    ensures clause { OnOk result (lits_at words.new.items (length words.old.items) ≡ lits.now) }
-    ensures others { OnOk result (KeepsFront words.old.items words.new.items) }
-    ensures size { OnOk result (length words.new.items ≡ length words.old.items + length lits.now + 3) }
-    ensures places { OnOk result (places.new.items ≡ places.old.items ++ length words.old.items ∷ []) }
-    ensures words { OnErr result (words.new.items ≡ words.old.items) }
-    ensures placed { OnErr result (places.new.items ≡ places.old.items) }
+    clause: ClauseRef,
+    a: Lit,
+    b: Lit,
+)
+    requires entering { IsEntering trail.now.vars words.now places.now rows.old clause.0 (2 * clause.0) }
+    requires words { HasWords words.now clause.0 a b }
+    requires two { arena_word words.now clause.0 ≡ 2 }
+    ensures { AreFiled trail.now.vars words.now places.now rows.new }
 {
-    if lits.len() == 2 {
-        return append_pair(words, heads, places, longs, lists, trail, lits);
+    rows.push_pair(a.word(), Entry { other: b, clause });
+    rows.push_pair(b.word(), Entry { other: a, clause });
+}
+
+/// Puts a clause into the rows of its first two literals, behind those that are there.
+fn enter_long(
+    rows: &mut Rows,
+    words: &[u32],
+    places: &[u32],
+    trail: &Trail,
+    clause: ClauseRef,
+    a: Lit,
+    b: Lit,
+)
+    requires entering { IsEntering trail.now.vars words.now places.now rows.old clause.0 (2 * clause.0) }
+    requires words { HasWords words.now clause.0 a b }
+    ensures { AreFiled trail.now.vars words.now places.now rows.new }
+{
+    rows.push(a.word(), Entry { other: b, clause });
+    rows.push(b.word(), Entry { other: a, clause });
+}
+
+/// Puts a clause into the rows of its first two literals.
+fn enter(
+    rows: &mut Rows,
+    words: &[u32],
+    places: &[u32],
+    trail: &Trail,
+    clause: ClauseRef,
+    a: Lit,
+    b: Lit,
+    is_pair: bool,
+)
+    requires entering { IsEntering trail.now.vars words.now places.now rows.old clause.0 (2 * clause.0) }
+    requires words { HasWords words.now clause.0 a b }
+    requires pair { is_pair ≡ true → arena_word words.now clause.0 ≡ 2 }
+    ensures { AreFiled trail.now.vars words.now places.now rows.new }
+{
+    if is_pair {
+        enter_pair(rows, words, places, trail, clause, a, b);
+        return;
     }
-    append_long(words, heads, places, longs, lists, trail, lits)
+    enter_long(rows, words, places, trail, clause, a, b);
 }
 
 /// Whether a further clause of so many literals is within the room.
@@ -262,23 +152,52 @@ fn has_room(before: usize, n: usize, room: u32) -> bool
     n <= room as usize && before + n + 2 <= room as usize
 }
 
+/// Appends a clause, with its first two literals as watches; or nothing of it.
+fn append_clause(
+    words: &mut Vec<u32>,
+    rows: &mut Rows,
+    places: &mut Vec<u32>,
+    trail: &Trail,
+    lits: &[Lit],
+) -> Result<(), OutOfMemory>
+    requires filed { AreFiled trail.now.vars words.old.items places.old.items rows.old }
+    requires room { length words.old.items + length lits.now + 3 < 2 ^ 30 }
+    requires two { 2 ≤ length lits.now }
+    requires there { AreThere trail.now.vars lits.now }
+    requires distinct { AreDistinct lits.now }
+    ensures filed { AreFiled trail.now.vars words.new.items places.new.items rows.new }
+    ensures clause { OnOk result (lits_at words.new.items (length words.old.items) ≡ lits.now) }
+    ensures others { OnOk result (KeepsFront words.old.items words.new.items) }
+    ensures size { OnOk result (length words.new.items ≡ length words.old.items + length lits.now + 3) }
+    ensures places { OnOk result (places.new.items ≡ places.old.items ++ length words.old.items ∷ []) }
+    ensures words { OnErr result (words.new.items ≡ words.old.items) }
+    ensures placed { OnErr result (places.new.items ≡ places.old.items) }
+{
+    let clause = ClauseRef(words.len() as u32);
+    make_room_for(rows, lits)?;
+    append_placed(words, places, lits)?;
+    let is_pair = lits.len() == 2;
+    enter(
+        rows, words, places, trail, clause, lits[0], lits[1], is_pair,
+    );
+    Ok(())
+}
+
 /// Attaches a clause, with its first two literals as watches. The answer is its reference.
 pub fn attach(
     words: &mut Vec<u32>,
-    heads: &mut [u32],
+    rows: &mut Rows,
     places: &mut Vec<u32>,
-    longs: &mut Vec<u32>,
-    lists: &mut [Pairs],
     trail: &Trail,
     lits: &[Lit],
     room: u32,
 ) -> Result<ClauseRef, ArenaFault>
-    requires filed { AreFiled trail.now.vars words.old.items heads.old places.old.items longs.old.items lists.old }
+    requires filed { AreFiled trail.now.vars words.old.items places.old.items rows.old }
     requires room { room < 2 ^ 28 + 1 }
     requires two { 2 ≤ length lits.now }
     requires there { AreThere trail.now.vars lits.now }
     requires distinct { AreDistinct lits.now }
-    ensures filed { AreFiled trail.now.vars words.new.items heads.new places.new.items longs.new.items lists.new }
+    ensures filed { AreFiled trail.now.vars words.new.items places.new.items rows.new }
     ensures clause { IfOk result (λ c. lits_at words.new.items c.0 ≡ lits.now) }
     ensures others { OnOk result (KeepsFront words.old.items words.new.items) }
     ensures size { OnOk result (length words.new.items ≡ length words.old.items + length lits.now + 3) }
@@ -291,6 +210,6 @@ pub fn attach(
     if !has_room(before, lits.len(), room) {
         return Err(ArenaFault::Room);
     }
-    append_clause(words, heads, places, longs, lists, trail, lits)?;
+    append_clause(words, rows, places, trail, lits)?;
     Ok(ClauseRef(before as u32))
 }

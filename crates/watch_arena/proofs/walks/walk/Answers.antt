@@ -1,73 +1,92 @@
-use Rattle.std.proofs.Common.{arith, length, ◌∙◌, ◌≡◌, ◌<◌, ap, subst, sym, get_or, refl}
-use Rattle.cnf_core.specs.Lit.{literal_at, negate, has, word_of}
+use Rattle.std.proofs.Common.{◌≡◌, ◌<◌, ℕ, ◌+◌, ◌∙◌, length, get_or, refl, sym, subst, ap, arith}
+use Rattle.cnf_core.specs.Lit.{literal_at, negate, word_of, has}
 use Rattle.watch_arena.specs.Trail.{Marks}
-use Rattle.watch_arena.specs.Walk.{IsWatched, HasWalked, past_of}
-use Rattle.watch_arena.proofs.WordLemmas.{wrote_set}
-use Rattle.watch_arena.proofs.WalkLemmas.{ready}
-use Rattle.watch_arena.proofs.ClosureLemmas.{made_none, made_more, made_text, made_advanced, clash_kept}
-use Rattle.watch_arena.proofs.ChainWalkLemmas.{finished, all_false, next_false, next_fresh, starting, front_stays, watched_advanced, next_word}
-use Rattle.watch_arena.proofs.LeavesLemmas.{leaves_none, leaves_more}
+use Rattle.watch_arena.specs.Rows.{row_of, pairs_of}
+use Rattle.watch_arena.specs.Walk.{HasWalked, done_of, past_of}
+use Rattle.watch_arena.specs.Filed.{IsWalking, IsWatched}
+use Rattle.watch_arena.proofs.NextLemmas.{next_false, next_fresh, next_word, front_stays}
+use Rattle.watch_arena.proofs.ClosureLemmas.{made_more, made_advanced}
+use Rattle.watch_arena.proofs.VisitLemmas.{walking_start, walking_end}
 use Rattle.watch_arena.proofs.walks.walk.Goals as goal
 
-pub loop-s-init : goal.loop-s-init
-loop-s-init c =
+pub len_of-requires : goal.len_of-requires
+len_of-requires c =
+    let x = c.requires.watched in
+    let f = x.filed in
+    let size = f.size in
+    let word : c.word-w.result ≡ word_of (negate c.lit-l.result) = c.word-w.ensures.value ∙ ap word_of c.negated.ensures in
+    omega (arith, next_word c.args.trail.now.vars c.lit-l.result c.lit-l.ensures.there)
+
+pub walk_pairs-requires-clause-walking : goal.walk_pairs-requires-clause-walking
+walk_pairs-requires-clause-walking c =
+    let m = c.args.trail.now in
+    let x = c.requires.watched in
+    let f = x.filed in
+    let size = f.size in
+    let is : get_or m.lits m.front c.lit-l.result ≡ c.lit-l.result = ap (λ n. get_or m.lits n c.lit-l.result) (sym c.propagated.ensures.value)
+    ∙ c.lit-l.ensures.value in
+    let word : c.word-w.result ≡ word_of (negate c.lit-l.result) = c.word-w.ensures.value ∙ ap word_of c.negated.ensures in
+    walking_start c.args.trail.now c.lit-l.result c.word-w.result c.args.words.now c.args.places.now c.args.rows.now c.propagated.ensures.marks
+    c.requires.front is word (omega (arith, next_word m.vars c.lit-l.result c.lit-l.ensures.there)) c.requires.watched
+
+pub walk_pairs-requires-clause-false_now : goal.walk_pairs-requires-clause-false_now
+walk_pairs-requires-clause-false_now c =
     let m = c.args.trail.now in
     let is : get_or m.lits m.front c.lit-l.result ≡ c.lit-l.result = ap (λ n. get_or m.lits n c.lit-l.result) (sym c.propagated.ensures.value)
     ∙ c.lit-l.ensures.value in
     let word : c.word-w.result ≡ word_of (negate c.lit-l.result) = c.word-w.ensures.value ∙ ap word_of c.negated.ensures in
-    let lt : c.word-w.result < length c.args.heads.now = omega (arith, next_word m.vars c.lit-l.result c.lit-l.ensures.there, c.requires.watched.size) in
-    record {
-      marks = c.propagated.ensures.marks;
-      front = refl;
-      below = c.requires.front;
-      made = made_none m c.args.words.now c.args.places.now;
-      walking = starting m c.lit-l.result c.word-w.result c.propagated.ensures.marks c.requires.front is word c.args.words.now c.args.heads.now _
-          c.args.places.now c.requires.watched lt (wrote_set c.args.heads.now c.word-w.result 0 lt);
-      false_now = next_false m c.lit-l.result c.word-w.result c.propagated.ensures.marks c.requires.front is word;
-      others = leaves_none c.args.places.now c.args.words.now;
-      counted = omega arith;
-      fresh = next_fresh m c.lit-l.result c.word-w.result c.propagated.ensures.marks c.requires.front is word;
-    }
+    next_false m c.lit-l.result c.word-w.result c.propagated.ensures.marks c.requires.front is word
 
-pub loop-s-preserved : goal.loop-s-preserved
-loop-s-preserved c =
-    let i = c.loop-s.invariant in
-    let e = c.in-Some.ensures in
-    let longer = e.made.longer in
-    record {
-      marks = e.marks;
-      front = e.front ∙ i.front;
-      below = let more = longer.longer in let below = i.below in let same = e.front in omega arith;
-      made = made_more c.args.trail.now c.loop-s.trail c.visit.new.trail _ _ _ _ i.made e.made;
-      walking = let x = e.stepped in x.walking;
-      false_now = longer.keeps (negate (literal_at c.word-w.result)) i.false_now;
-      others = leaves_more _ _ _ _ i.others e.others;
-      counted = let one = c.saturating_add.ensures in omega arith;
-      fresh = front_stays c.loop-s.trail c.visit.new.trail longer e.front i.marks (negate (literal_at c.word-w.result)) ∙ i.fresh;
-    }
+pub walk_pairs-requires-clause-fresh : goal.walk_pairs-requires-clause-fresh
+walk_pairs-requires-clause-fresh c =
+    let m = c.args.trail.now in
+    let is : get_or m.lits m.front c.lit-l.result ≡ c.lit-l.result = ap (λ n. get_or m.lits n c.lit-l.result) (sym c.propagated.ensures.value)
+    ∙ c.lit-l.ensures.value in
+    let word : c.word-w.result ≡ word_of (negate c.lit-l.result) = c.word-w.ensures.value ∙ ap word_of c.negated.ensures in
+    next_fresh m c.lit-l.result c.word-w.result c.propagated.ensures.marks c.requires.front is word
 
-pub returns-in-None-clause-made : goal.returns-in-None-clause-made
-returns-in-None-clause-made c = made_text _ _ _ _ _ _ (made_more c.args.trail.now c.loop-s.trail c.visit.new.trail _ _ _ _ c.loop-s.invariant.made
-    c.in-None.ensures.made) c.put_back.ensures.text
+pub walk_longs-requires-clause-walking : goal.walk_longs-requires-clause-walking
+walk_longs-requires-clause-walking c = c.walk_pairs.ensures.walking c.in_default.is
 
-pub returns-in-None-clause-clash : goal.returns-in-None-clause-clash
-returns-in-None-clause-clash c =
-    let x = c.in-None.ensures.walking refl in
-    let r = ready _ _ _ _ _ _ _ x c.loop-s-test.true in
-    let longer = c.in-None.ensures.made.longer in
-    clash_kept _ _ _ _ _ (record {
-      place = r.place;
-      false_all = all_false c.visit.new.words (has c.visit.new.trail.lits) c.word-w.result c.loop-s.s r.lit
-          (longer.keeps (negate (literal_at c.word-w.result)) c.loop-s.invariant.false_now) (c.in-None.ensures.falsified refl);
-    }) c.put_back.ensures.lits
+pub walk_longs-requires-clause-false_now : goal.walk_longs-requires-clause-false_now
+walk_longs-requires-clause-false_now c =
+    let m = c.args.trail.now in
+    let longer = c.walk_pairs.ensures.made.longer in
+    let is : get_or m.lits m.front c.lit-l.result ≡ c.lit-l.result = ap (λ n. get_or m.lits n c.lit-l.result) (sym c.propagated.ensures.value)
+    ∙ c.lit-l.ensures.value in
+    let word : c.word-w.result ≡ word_of (negate c.lit-l.result) = c.word-w.ensures.value ∙ ap word_of c.negated.ensures in
+    longer.keeps (negate (literal_at c.word-w.result)) (next_false m c.lit-l.result c.word-w.result c.propagated.ensures.marks c.requires.front is word)
+
+pub walk_longs-requires-clause-fresh : goal.walk_longs-requires-clause-fresh
+walk_longs-requires-clause-fresh c =
+    let m = c.args.trail.now in
+    let is : get_or m.lits m.front c.lit-l.result ≡ c.lit-l.result = ap (λ n. get_or m.lits n c.lit-l.result) (sym c.propagated.ensures.value)
+    ∙ c.lit-l.ensures.value in
+    let word : c.word-w.result ≡ word_of (negate c.lit-l.result) = c.word-w.ensures.value ∙ ap word_of c.negated.ensures in
+    front_stays c.args.trail.now c.walk_pairs.new.trail c.walk_pairs.ensures.made.longer c.walk_pairs.ensures.front c.propagated.ensures.marks
+    (negate (literal_at c.word-w.result)) ∙ next_fresh m c.lit-l.result c.word-w.result c.propagated.ensures.marks c.requires.front is word
+
+pub walk_longs-requires-clause-front : goal.walk_longs-requires-clause-front
+walk_longs-requires-clause-front c =
+    let longer = c.walk_pairs.ensures.made.longer in
+    let more = longer.longer in
+    let same = c.walk_pairs.ensures.front in
+    let front = c.requires.front in
+    omega arith
+
+pub returns-in-Some-clause-made : goal.returns-in-Some-clause-made
+returns-in-Some-clause-made c = c.walk_pairs.ensures.made
+
+pub returns-in-Some-walk_longs-clause-made : goal.returns-in-Some-walk_longs-clause-made
+returns-in-Some-walk_longs-clause-made c = made_more c.args.trail.now c.walk_pairs.new.trail c.walk_longs.new.trail _ _ _ _ c.walk_pairs.ensures.made
+    c.walk_longs.ensures.made
 
 pub returns-clause-made : goal.returns-clause-made
-returns-clause-made c = subst (λ (m : Marks). HasWalked c.args.trail.now m c.args.words.now c.loop-s.words c.args.places.now) (sym c.advance.ensures.value)
-    (made_advanced _ _ _ _ _ c.loop-s.invariant.made)
+returns-clause-made c = subst (λ (m : Marks). HasWalked c.args.trail.now m c.args.words.now c.walk_longs.new.words c.args.places.now)
+    (sym c.advance.ensures.value)
+    (made_advanced _ _ _ _ _ (made_more c.args.trail.now c.walk_pairs.new.trail c.walk_longs.new.trail _ _ _ _ c.walk_pairs.ensures.made
+    c.walk_longs.ensures.made))
 
 pub returns-clause-watched : goal.returns-clause-watched
-returns-clause-watched c = subst (λ (m : Marks). IsWatched m c.loop-s.words c.loop-s.heads c.args.places.now (past_of m)) (sym c.advance.ensures.value)
-    (watched_advanced c.loop-s.trail _ _ _ (finished c.loop-s.trail _ _ _ _ _ _ c.loop-s.invariant.walking c.loop-s-test.false))
-
-pub returns-in-None-clause-others : goal.returns-in-None-clause-others
-returns-in-None-clause-others c = leaves_more _ _ _ _ (leaves_more _ _ _ _ c.loop-s.invariant.others c.in-None.ensures.others) c.put_back.ensures.others
+returns-clause-watched c = subst (λ (m : Marks). IsWatched m c.walk_longs.new.words c.args.places.now c.walk_longs.new.rows (past_of m))
+    (sym c.advance.ensures.value) (walking_end c.walk_longs.new.trail _ _ _ _ _ (c.walk_longs.ensures.walking c.in_default-walk_longs.is))

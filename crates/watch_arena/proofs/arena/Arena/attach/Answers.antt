@@ -7,24 +7,24 @@ use Rattle.watch_arena.proofs.arena.Arena.attach.Goals as goal
 
 pub returns-clause-others : goal.returns-clause-others
 returns-clause-others c =
-    let x = answered c.self.inside.vars c.self.inside.room c.self.inside.visits c.self.inside.words.items c.self.inside.heads.items c.self.inside.places.items
-    c.self.inside.longs.items c.self.inside.lists.items c.attach.new.words.items c.attach.new.places.items c.args.lits.now c.attach.result
+    let x = answered c.self.inside.vars c.self.inside.room c.self.inside.visits c.self.inside.words.items c.self.inside.places.items c.self.inside.rows
+    c.attach.new.words.items c.attach.new.places.items c.args.lits.now c.attach.result
     c.self.invariant c.attach.ensures.others c.attach.ensures.places c.attach.ensures.clause c.attach.ensures.words c.attach.ensures.placed in
     subst (λ (a : Attached). IsMoreText a (attached_of c.self.inside.vars c.self.inside.room c.attach.new.words.items c.attach.new.places.items
     c.self.inside.visits)) c.self.view_is x.others
 
 pub returns-clause-watched : goal.returns-clause-watched
 returns-clause-watched c =
-    let x = answered c.self.inside.vars c.self.inside.room c.self.inside.visits c.self.inside.words.items c.self.inside.heads.items c.self.inside.places.items
-    c.self.inside.longs.items c.self.inside.lists.items c.attach.new.words.items c.attach.new.places.items c.args.lits.now c.attach.result
+    let x = answered c.self.inside.vars c.self.inside.room c.self.inside.visits c.self.inside.words.items c.self.inside.places.items c.self.inside.rows
+    c.attach.new.words.items c.attach.new.places.items c.args.lits.now c.attach.result
     c.self.invariant c.attach.ensures.others c.attach.ensures.places c.attach.ensures.clause c.attach.ensures.words c.attach.ensures.placed in
     subst (λ (a : Attached). OnOk c.attach.result ((m : Marks) → AreWatched a m → MayBeWatched m c.args.lits.now → AreWatched
     (attached_of c.self.inside.vars c.self.inside.room c.attach.new.words.items c.attach.new.places.items c.self.inside.visits) m)) c.self.view_is x.watched
 
 pub returns-clause-reasoned : goal.returns-clause-reasoned
 returns-clause-reasoned c =
-    let x = answered c.self.inside.vars c.self.inside.room c.self.inside.visits c.self.inside.words.items c.self.inside.heads.items c.self.inside.places.items
-    c.self.inside.longs.items c.self.inside.lists.items c.attach.new.words.items c.attach.new.places.items c.args.lits.now c.attach.result
+    let x = answered c.self.inside.vars c.self.inside.room c.self.inside.visits c.self.inside.words.items c.self.inside.places.items c.self.inside.rows
+    c.attach.new.words.items c.attach.new.places.items c.args.lits.now c.attach.result
     c.self.invariant c.attach.ensures.others c.attach.ensures.places c.attach.ensures.clause c.attach.ensures.words c.attach.ensures.placed in
     subst (λ (a : Attached). (m : Marks) → AreReasoned a m → AreReasoned (attached_of c.self.inside.vars c.self.inside.room c.attach.new.words.items
     c.attach.new.places.items c.self.inside.visits) m) c.self.view_is x.reasoned
@@ -33,6 +33,6 @@ pub returns-clause-attached : goal.returns-clause-attached
 returns-clause-attached c =
     let a = c.self.inside in
     let new = c.attach.new in
-    are_attached a.vars a.room new.words.items new.heads new.places.items new.longs.items new.lists a.visits
-    (arena_attached a.vars a.room a.words.items a.heads.items a.places.items a.longs.items a.lists.items a.visits c.args.trail.now.vars c.args.self.now
-    new.words.items new.heads new.places.items new.longs.items new.lists c.self.invariant c.self.view_is c.requires.vars c.attach.ensures.filed)
+    are_attached a.vars a.room new.words.items new.places.items new.rows a.visits
+    (arena_attached a.vars a.room a.words.items a.places.items a.rows a.visits c.args.trail.now.vars c.args.self.now
+    new.words.items new.places.items new.rows c.self.invariant c.self.view_is c.requires.vars c.attach.ensures.filed)

@@ -19,4 +19,4 @@ returns-clause-value c =
     len_is _ _ _ _ _ c.args.self.now c.args.clause.0 c.index.result.now c.self.view_is short c.index.ensures
 
 pub returns-clause-attached : goal.returns-clause-attached
-returns-clause-attached c = subst (λ (a : Attached). AreAttached a) c.self.view_is (are_attached _ _ _ _ _ _ _ c.self.inside.visits c.self.invariant)
+returns-clause-attached c = subst (λ (a : Attached). AreAttached a) c.self.view_is (are_attached _ _ _ _ _ c.self.inside.visits c.self.invariant)

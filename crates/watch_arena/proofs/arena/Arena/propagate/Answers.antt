@@ -2,8 +2,7 @@ use Rattle.std.proofs.Common.{rules, ◌≡◌, ◌∙◌, sym, subst, List, ℕ
 use Rattle.std.proofs.lemmas.List.{take_at}
 use Rattle.std.specs.Vec.{with_items}
 use Rattle.watch_arena.specs.Walk.{past_of}
-use Rattle.watch_arena.specs.declared.pairs.Pair.{Pair}
-use Rattle.watch_arena.specs.Pairs.{AreAllWatched}
+use Rattle.watch_arena.specs.Filed.{IsWatched}
 use Rattle.watch_arena.proofs.ArenaLemmas.{arena_watched, propagated, closes, falsifies, clash_of, some_weaker}
 use Rattle.watch_arena.proofs.arena.Arena.propagate.Goals as goal
 
@@ -11,16 +10,10 @@ pub propagate-requires : goal.propagate-requires
 propagate-requires c =
     let m = c.args.trail.now in
     let a = c.self.inside in
-    let w = arena_watched a.vars a.room a.words.items a.heads.items a.places.items a.longs.items a.lists.items a.visits c.args.self.now c.self.invariant
-    c.self.view_is m c.requires.vars c.requires.watched in
-    subst (λ (x : List ℕ). AreAllWatched m x c.deref_mut-2.result.now c.deref.result.now c.deref-2.result.now c.deref-3.result.now (past_of m))
-    (sym c.deref_mut.ensures.value)
-    (subst (λ (x : List ℕ). AreAllWatched m a.words.items x c.deref.result.now c.deref-2.result.now c.deref-3.result.now (past_of m))
-    (sym c.deref_mut-2.ensures.value)
-    (subst (λ (x : List ℕ). AreAllWatched m a.words.items a.heads.items x c.deref-2.result.now c.deref-3.result.now (past_of m)) (sym c.deref.ensures.value)
-    (subst (λ (x : List ℕ). AreAllWatched m a.words.items a.heads.items a.places.items x c.deref-3.result.now (past_of m)) (sym c.deref-2.ensures.value)
-    (subst (λ (x : List (List Pair)). AreAllWatched m a.words.items a.heads.items a.places.items a.longs.items x (past_of m)) (sym c.deref-3.ensures.value)
-    w))))
+    let w = arena_watched a.vars a.room a.words.items a.places.items a.rows a.visits c.args.self.now c.self.invariant c.self.view_is m c.requires.vars
+    c.requires.watched in
+    subst (λ (x : List ℕ). IsWatched m x c.deref.result.now a.rows (past_of m)) (sym c.deref_mut.ensures.value)
+    (subst (λ (x : List ℕ). IsWatched m a.words.items x a.rows (past_of m)) (sym c.deref.ensures.value) w)
 
 pub returns-clause-watched : goal.returns-clause-watched
 returns-clause-watched c =
@@ -30,8 +23,8 @@ returns-clause-watched c =
     let items : words.items ≡ c.propagate.new.words = take_at c.propagate.new.words (drop (length c.propagate.new.words) c.self.inside.words.items)
     (vec_len c.self.inside.words) (size ∙ len) in
     let x = propagated c.args.self.now c.self.inside.vars c.self.inside.room c.self.inside.visits c.propagate.new.visits c.self.inside.words.items
-    c.self.inside.places.items c.deref_mut.result.now c.deref.result.now c.deref-2.result.now c.deref-3.result.now c.propagate.new.words words.items
-    c.propagate.new.heads c.args.trail.now c.propagate.new.trail
+    c.self.inside.places.items c.deref_mut.result.now c.deref.result.now c.propagate.new.rows c.propagate.new.words words.items c.args.trail.now
+    c.propagate.new.trail
     c.self.view_is c.deref_mut.ensures.value c.deref.ensures.value items size c.propagate.ensures.made c.propagate.ensures.watched in
     x.watched
 
@@ -43,8 +36,8 @@ returns-clause-reasoned c =
     let items : words.items ≡ c.propagate.new.words = take_at c.propagate.new.words (drop (length c.propagate.new.words) c.self.inside.words.items)
     (vec_len c.self.inside.words) (size ∙ len) in
     let x = propagated c.args.self.now c.self.inside.vars c.self.inside.room c.self.inside.visits c.propagate.new.visits c.self.inside.words.items
-    c.self.inside.places.items c.deref_mut.result.now c.deref.result.now c.deref-2.result.now c.deref-3.result.now c.propagate.new.words words.items
-    c.propagate.new.heads c.args.trail.now c.propagate.new.trail
+    c.self.inside.places.items c.deref_mut.result.now c.deref.result.now c.propagate.new.rows c.propagate.new.words words.items c.args.trail.now
+    c.propagate.new.trail
     c.self.view_is c.deref_mut.ensures.value c.deref.ensures.value items size c.propagate.ensures.made c.propagate.ensures.watched in
     x.reasoned
 
@@ -56,8 +49,8 @@ returns-clause-because c =
     let items : words.items ≡ c.propagate.new.words = take_at c.propagate.new.words (drop (length c.propagate.new.words) c.self.inside.words.items)
     (vec_len c.self.inside.words) (size ∙ len) in
     let x = propagated c.args.self.now c.self.inside.vars c.self.inside.room c.self.inside.visits c.propagate.new.visits c.self.inside.words.items
-    c.self.inside.places.items c.deref_mut.result.now c.deref.result.now c.deref-2.result.now c.deref-3.result.now c.propagate.new.words words.items
-    c.propagate.new.heads c.args.trail.now c.propagate.new.trail
+    c.self.inside.places.items c.deref_mut.result.now c.deref.result.now c.propagate.new.rows c.propagate.new.words words.items c.args.trail.now
+    c.propagate.new.trail
     c.self.view_is c.deref_mut.ensures.value c.deref.ensures.value items size c.propagate.ensures.made c.propagate.ensures.watched in
     x.because
 
@@ -69,8 +62,8 @@ returns-clause-text c =
     let items : words.items ≡ c.propagate.new.words = take_at c.propagate.new.words (drop (length c.propagate.new.words) c.self.inside.words.items)
     (vec_len c.self.inside.words) (size ∙ len) in
     let x = propagated c.args.self.now c.self.inside.vars c.self.inside.room c.self.inside.visits c.propagate.new.visits c.self.inside.words.items
-    c.self.inside.places.items c.deref_mut.result.now c.deref.result.now c.deref-2.result.now c.deref-3.result.now c.propagate.new.words words.items
-    c.propagate.new.heads c.args.trail.now c.propagate.new.trail
+    c.self.inside.places.items c.deref_mut.result.now c.deref.result.now c.propagate.new.rows c.propagate.new.words words.items c.args.trail.now
+    c.propagate.new.trail
     c.self.view_is c.deref_mut.ensures.value c.deref.ensures.value items size c.propagate.ensures.made c.propagate.ensures.watched in
     x.text
 
@@ -82,8 +75,8 @@ returns-clause-grows c =
     let items : words.items ≡ c.propagate.new.words = take_at c.propagate.new.words (drop (length c.propagate.new.words) c.self.inside.words.items)
     (vec_len c.self.inside.words) (size ∙ len) in
     let x = propagated c.args.self.now c.self.inside.vars c.self.inside.room c.self.inside.visits c.propagate.new.visits c.self.inside.words.items
-    c.self.inside.places.items c.deref_mut.result.now c.deref.result.now c.deref-2.result.now c.deref-3.result.now c.propagate.new.words words.items
-    c.propagate.new.heads c.args.trail.now c.propagate.new.trail
+    c.self.inside.places.items c.deref_mut.result.now c.deref.result.now c.propagate.new.rows c.propagate.new.words words.items c.args.trail.now
+    c.propagate.new.trail
     c.self.view_is c.deref_mut.ensures.value c.deref.ensures.value items size c.propagate.ensures.made c.propagate.ensures.watched in
     x.grows
 
