@@ -53,9 +53,9 @@ pub fn bounds_are_small_and_named()
         words_of (clauses_of_bound g x grid b) ≤ most_words_of_bound g grid b.cap }
     ensures vars { (g : Graph) (x : DrawingVars) (grid : GridSize) (b : Bound) → 1 ≤ parts g →
         size_of_bound g x grid b ≤ most_size_of_bound g grid b.cap }
-    ensures named { (e : Encoding) (c : Criterion) (cap k : ℕ) → IsWhole e → IsGrid e.grid → e.formula.vars ≤ VARS →
-        cap ≤ limit_of e.graph e.grid c → 1 ≤ k → k ≤ cap →
-        IsNamed (clauses_behind e (bound_behind e c cap)) (e.formula.vars + k) }
+    ensures named { (e : Encoding) (c : Criterion) (n k : ℕ) → IsWhole e → IsGrid e.grid → e.formula.vars ≤ VARS →
+        n ≤ limit_of e.graph e.grid c → 1 ≤ k → k ≤ n →
+        IsNamed (clauses_behind e (bound_behind e c n)) (e.formula.vars + k) }
     ensures forced { (g : Graph) (x : DrawingVars) (grid : GridSize) (b : Bound) (k : ℕ) →
         b.cap ≤ limit_of g grid b.criterion → 1 ≤ k → k ≤ b.cap → reach_of g grid b.criterion < k →
         Contains (clauses_of_bound g x grid b) (negative_of (b.last + k) ∷ []) }
