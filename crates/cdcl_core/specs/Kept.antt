@@ -13,8 +13,8 @@ use Rattle.cdcl_core.specs.declared.answer.Answer.{Answer}
 use Rattle.cdcl_core.specs.declared.answer.Answer.TheVariants.{Model, Refuted, Spent, Room}
 
 -- the most words, the variables, the clauses that were given or learnt (in no certain order, nor are
--- their literals) and their words, how many were learnt, how many were looked at, the latest model, the
--- assumptions that were refuted last, and whether a call has failed
+-- their literals) and their words, how many were learnt, how many entries of watched clauses propagation
+-- has gone through, the latest model, the assumptions that were refuted last, and whether a call has failed
 pub record Kept : Type 0 where
   pub room : ℕ
   pub vars : ℕ

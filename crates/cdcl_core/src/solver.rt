@@ -203,7 +203,7 @@ impl Solver {
         self.search.learnt
     }
 
-    /// How many clauses propagation has looked at; a count that stops at its type's end.
+    /// How many entries of watched clauses propagation has gone through; a count that stops at its type's end.
     pub fn visits(&self) -> u64
         ensures { result ≡ self.now.visits }
     {

@@ -13,7 +13,7 @@ use Rattle.watch_arena.specs.Walk.{lit_at, lits_at, past_of, IsTrueNoLater, AreR
 use Rattle.watch_arena.specs.Walk.{AddsReasons}
 
 -- the number of variables, the most words, the words of the clauses behind one that stands for
--- none, the places of the clauses, and how many clauses were looked at
+-- none, the places of the clauses, and how many entries of rows were gone through
 pub record Attached : Type 0 where
   pub vars : ℕ
   pub room : ℕ
@@ -74,7 +74,8 @@ watch_at a p i = lit_at a.words (p + 3 + i)
 pub record IsKept (m : Marks) (clause : List Literal) (a : Literal) : Type 0 where
   pub kept : IsIn (past_of m) (negate a) → (l : Literal) × Contains clause l × IsTrueNoLater m (negate a) l
 
--- the arena is watched on the trail: so it is of the first two literals of each clause
+-- the arena is watched on the trail: where one of the first two literals of a clause is false and propagated, a literal
+-- of the clause is true at no later level
 pub record AreWatched (a : Attached) (m : Marks) : Type 0 where
   pub first : (p : ℕ) → Contains a.places p → IsKept m (attached_at a p) (watch_at a p 0)
   pub second : (p : ℕ) → Contains a.places p → IsKept m (attached_at a p) (watch_at a p 1)

@@ -5,13 +5,13 @@
 use Rattle.std.specs.Prelude.{◌≡◌, ◌≢◌, ◌≤◌, ◌<◌, ◌⊎◌, ℕ, ◌+◌, ◌*◌, ◌/◌, nat_eq, List, [], Contains, length}
 use Rattle.std.specs.Prelude.{slice_index_or}
 use Rattle.std.specs.List.{count_by}
-use Rattle.cnf_core.specs.Lit.{Literal, literal_at, negate, has}
+use Rattle.cnf_core.specs.Lit.{Literal, literal_at, has}
 use Rattle.cnf_core.specs.Propagation.{LiteralSet}
 use Rattle.watch_arena.specs.declared.rows.Entry.{Entry}
 use Rattle.watch_arena.specs.Rows.{Rowed, entry_at, row_of, pairs_of, room_of}
 use Rattle.watch_arena.specs.Words.{arena_word, lit_of, IsStore}
 use Rattle.watch_arena.specs.Trail.{Marks}
-use Rattle.watch_arena.specs.Walk.{lit_at, lits_at, HasLit, IsQuiet, done_of, past_of}
+use Rattle.watch_arena.specs.Walk.{lits_at, HasLit, IsQuiet}
 
 -- the place of the clause of an entry
 abbrev pub place_at : List Entry → ℕ → ℕ

@@ -160,7 +160,7 @@ abbrev pub Clashes : List ℕ → List ℕ → List Literal → Type 0
 Clashes places ws old = (clauses : Clauses) → HoldsClauses clauses ws places → Falsifies clauses (has old)
 
 -- two literals may be watched: where one is false and propagated, the other one is true at no later
--- level; `attach` asks for it
+-- level. Where the first two of a clause may be, the arena stays watched when `attach` takes it
 pub record AreRight (m : Marks) (a b : Literal) : Type 0 where
   pub first : IsIn (past_of m) (negate a) → IsTrueNoLater m (negate a) b
   pub second : IsIn (past_of m) (negate b) → IsTrueNoLater m (negate b) a

@@ -1,6 +1,6 @@
 // Watched clauses.
 ghost use Rattle.std.specs.Prelude.{◌≡◌, ◌≤◌, ◌<◌, ◌+◌, ◌*◌, ◌↔◌, ◌∷◌, ◌++◌, ℕ, Contains, length, slice_index_or, []};
-ghost use Rattle.std.specs.Prelude.{IfSome, IfOk, OnOk, OnErr, IsErrOf, replicate};
+ghost use Rattle.std.specs.Prelude.{IfSome, IfOk, OnOk, OnErr, IsErrOf};
 ghost use Rattle.cnf_core.specs.Clause.{AreDistinct, AreThere};
 ghost use Rattle.cnf_core.specs.Lit.{has};
 ghost use Rattle.cnf_core.specs.Propagation.{Falsifies, IsClosure};
@@ -101,7 +101,8 @@ impl Arena {
         Lit::from_word(self.words[(clause.0 + 3 + i) as usize])
     }
 
-    /// How many clauses `propagate` has looked at; a count that stops at its type's end.
+    /// How many entries of rows `propagate` has gone through, each for a clause that a false literal watches; those behind
+    /// a clash of two literals aren't counted, unless they are of two literals too. The count stops at its type's end.
     pub fn visits(&self) -> u64
         ensures { result ≡ self.now.visits }
     {

@@ -1,7 +1,7 @@
 // Rows: of each literal the clauses that it is a watch of.
 ghost use Rattle.std.specs.Prelude.{◌≡◌, ◌≤◌, ◌<◌, ◌+◌, ◌^◌, OnOk, OnErr, length, take};
 ghost use Rattle.cnf_core.specs.Lit.{word_of};
-ghost use Rattle.watch_arena.specs.Rows.{AreRows, rowed_of, row_at, space_at, entries_of, entry_at, no_rows, more_rows};
+ghost use Rattle.watch_arena.specs.Rows.{AreRows, rowed_of, space_at, entries_of, entry_at, no_rows, more_rows};
 ghost use Rattle.watch_arena.specs.Rows.{with_room, with_row, pushed, paired, without, with_other};
 ghost use Rattle.watch_arena.specs.Rows.{row_of, pairs_of, room_of};
 
@@ -27,7 +27,7 @@ pub struct Row {
     len: u32,
 }
 
-/// How many clauses have a literal, and for how many entries its row has place.
+/// For how many clauses the row of a literal was asked to have place, and for how many entries it has.
 #[derive(Clone, Copy)]
 pub struct Space {
     clauses: u32,

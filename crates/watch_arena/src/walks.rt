@@ -80,7 +80,7 @@ fn walk_longs(
 }
 
 /// Walks the row of the next literal that became false. The answer is a clause all of whose literals are
-/// false. The clauses of the row are counted.
+/// false. The clauses of two literals are counted, and the longer ones where no clause before them is false.
 fn walk(
     words: &mut [u32],
     rows: &mut Rows,
@@ -99,10 +99,12 @@ fn walk(
 {
     let l = trail.lit(trail.propagated());
     let w = l.negated().word();
-    *visits = visits.saturating_add(rows.len_of(w) as u64);
+    let pairs = rows.pairs_of(w);
+    *visits = visits.saturating_add(u64::from(pairs));
     if let Some(clash) = walk_pairs(rows, words, places, trail, w) {
         return Some(clash);
     }
+    *visits = visits.saturating_add(u64::from(rows.len_of(w).saturating_sub(pairs)));
     if let Some(clash) = walk_longs(words, rows, places, trail, w) {
         return Some(clash);
     }
