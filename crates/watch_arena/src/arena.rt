@@ -101,8 +101,8 @@ impl Arena {
         Lit::from_word(self.words[(clause.0 + 3 + i) as usize])
     }
 
-    /// How many entries of rows `propagate` has gone through, each for a clause that a false literal watches; those behind
-    /// a clash of two literals aren't counted, unless they are of two literals too. The count stops at its type's end.
+    /// How many entries `propagate` has gone through, each for a clause that a false literal watches. Behind a
+    /// false clause of two literals no longer clause is counted. The count stops at its type's end.
     pub fn visits(&self) -> u64
         ensures { result ≡ self.now.visits }
     {
