@@ -56,8 +56,8 @@ fn ask_twice(alloc: Global) -> Result<(), Fail> {
     if ask(&mut case, 20)? != (Some(Answer::Spent), 20, false) {
         return Err(Fail::new("a budget is spent"));
     }
-    if ask(&mut case, 100_000)? != (Some(Answer::Refuted), 793, true) {
-        return Err(Fail::new("it is refuted by 793 learnt clauses"));
+    if ask(&mut case, 100_000)? != (Some(Answer::Refuted), 875, true) {
+        return Err(Fail::new("it is refuted by 875 learnt clauses"));
     }
     Ok(())
 }
