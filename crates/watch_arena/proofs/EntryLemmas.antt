@@ -4,7 +4,7 @@ use Rattle.std.proofs.Common.{map}
 use Rattle.std.proofs.Common.{refl, sym, ◌∙◌, ap, subst, inl, inr, arith, length-set, length-take-le}
 use Rattle.std.specs.Prelude.{Contains, nat_eq}
 use Rattle.std.specs.List.{count_by, sum_by, filter, IsDistinct}
-use Rattle.std.proofs.lemmas.Bool.{cases_lt, cases_eq, false_from_ne_true}
+use Rattle.std.proofs.lemmas.Bool.{cases_lt, cases_eq, false_from_ne_true, eqb-true}
 use Rattle.std.proofs.lemmas.Bool.Decides.{eqb_tells}
 use Rattle.std.proofs.lemmas.Cmp.{nat_eq_equiv}
 use Rattle.std.proofs.lemmas.List.{get_or-take, get_or-map, get_or-set_same, get_or-set_other, get_or_append_left, get_or_push, get_or_default, length-map}
@@ -166,16 +166,13 @@ filter_in : (f : ℕ → Bool) (ps : List ℕ) (p : ℕ) → Contains ps p → f
 filter_in f [] p c t = let lt = c.1 in absurd (omega arith)
 filter_in f (q ∷ ps) p c t = filter_step f q ps p t (λ h. filter_in f ps p h t) c.0 c.1 c.2
 
-same_from_eqb : (a b : ℕ) → eqb a b ≡ true → a ≡ b
-same_from_eqb a b t = elim (eqb_tells a b) [ inl e ↦ e.1 | inr e ↦ absurd (let f = e.0 in cc) ]
-
 pub room_for : (row : List Entry) (ps : List ℕ) (f : ℕ → Bool) →
     ((k : ℕ) → k < length row → Contains ps (place_at row k) × (f (place_at row k) ≡ true)) →
     ((j k : ℕ) → j < k → k < length row → place_at row j ≢ place_at row k) → length row ≤ count_by f ps
 room_for row ps f among apart =
     let size = length-map row (λ (e : Entry). e.clause.0) in
     let le = length-le_from_is_member nat_eq_equiv places (filter f ps) distinct (λ q h. list_any-from_Contains nat_eq_equiv q (filter f ps)
-    (passes q (Contains-from_any same_from_eqb q places h))) in
+    (passes q (Contains-from_any eqb-true q places h))) in
     omega (arith, length-filter f ps)
   where
     places : List ℕ
@@ -188,7 +185,7 @@ room_for row ps f among apart =
     distinct = IsDistinct-from_apart eqb places (λ j k d lt below.
         let size = length-map row (λ (e : Entry). e.clause.0) in
         false_from_ne_true (eqb (get_or places j d) (get_or places k d)) (λ t. apart j k lt (omega arith)
-        (sym (place_is j d (omega arith)) ∙ same_from_eqb (get_or places j d) (get_or places k d) t ∙ place_is k d (omega arith))))
+        (sym (place_is j d (omega arith)) ∙ eqb-true (get_or places j d) (get_or places k d) t ∙ place_is k d (omega arith))))
 
     passes : (q : ℕ) → Contains places q → Contains (filter f ps) q
     passes q c =

@@ -6,6 +6,7 @@ use Rattle.std.specs.Prelude.{Contains}
 use Rattle.std.specs.List.{count_by}
 use Rattle.std.proofs.lemmas.Bool.{false_from_ne_true}
 use Rattle.std.proofs.lemmas.List.Sums.{sum_by-cons, sum_by_push}
+use Rattle.plan_core.proofs.TruthFacts.{same_when}
 use Rattle.cnf_core.specs.Lit.{Literal, literal_at, has}
 use Rattle.cnf_core.specs.Propagation.{SameLiterals}
 use Rattle.cnf_core.proofs.PropagationLemmas.{contains_from_has, has_from_contains}
@@ -41,15 +42,10 @@ counts_same f g (p ∷ ps) same =
     let rest = counts_same f g ps (λ q c. let lt = c.1 in same q (suc c.0, omega arith, c.2)) in
     omega (arith, sum_by-cons (λ q. cond (f q) 1 0) p ps, sum_by-cons (λ q. cond (g q) 1 0) p ps)
 
-bool_same : (a b : Bool) → (a ≡ true → b ≡ true) → (b ≡ true → a ≡ true) → a ≡ b
-bool_same true b f g = sym (f refl)
-bool_same false true f g = g refl
-bool_same false false f g = refl
-
 has_same : (c d : List Literal) (l : Literal) → SameLiterals c d → has c l ≡ has d l
 has_same c d l same =
     let both = same l in
-    bool_same (has c l) (has d l) (λ t. has_from_contains d l (both.0 (contains_from_has c l t)))
+    same_when (has c l) (has d l) (λ t. has_from_contains d l (both.0 (contains_from_has c l t)))
     (λ t. has_from_contains c l (both.1 (contains_from_has d l t)))
 
 -- literals that change places within a clause leave the number
