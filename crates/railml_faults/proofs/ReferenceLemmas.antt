@@ -7,11 +7,12 @@ use Rattle.std.specs.Option.{is_none, option_and_then}
 use Rattle.railml_read.specs.declared.rows.Elem.{Elem}
 use Rattle.railml_read.specs.declared.rows.ElemKind.{ElemKind}
 use Rattle.railml_read.specs.declared.rows.ElemKind.TheVariants.{Connection}
-use Rattle.railml_faults.specs.Rows.{same_kind, bears_id, id_of, BearsId, IsConnectionNamed}
+use Rattle.railml_faults.specs.Rows.{same_kind, is_of_kind, id_of, IsConnectionNamed}
 use Rattle.railml_faults.specs.Faults.{AreIdsDistinct, RefersTo, RefersToNone, IsNotReferredBack}
-use Rattle.railml_faults.specs.Ids.{IdNumbers, number_in, connection_id, reference_of, HasIdAt, KeepsIds}
+use Rattle.railml_faults.specs.Ids.{IdNumbers, number_in, connection_in, reference_of, KeepsIds}
 use Rattle.railml_faults.specs.Tables.{IsReferredTo, IsTargetOf, HasTargets, IsNotAnswered}
-use Rattle.railml_faults.proofs.IdLemmas.{one_row, row_at, under}
+use Rattle.railml_faults.proofs.IdLemmas.{one_row, row_at, under, connection_bears}
+use Rattle.railml_faults.proofs.Family.{of_kind}
 
 is_connection : (kind : ElemKind) → same_kind kind Connection ≡ true → kind ≡ Connection
 is_connection Connection h = refl
@@ -26,42 +27,41 @@ refers row name h = let parts = under (same_kind row.kind Connection) row.attrs.
 reference : (row : Elem) (name : List ℕ) → RefersTo row name → reference_of row ≡ Some name
 reference row name h = ap (λ k. if same_kind k Connection then row.attrs.reference else None) h.connection ∙ h.refers
 
-named : (rows : List Elem) (n j : ℕ) (id : List ℕ) (h : HasIdAt connection_id rows n j id) → IsConnectionNamed rows j id h.row
-named rows n j id h = let parts = under (same_kind h.row.kind Connection) h.row.attrs.id id h.has in record {
-  is = h.is;
-  connection = is_connection h.row.kind parts.0;
-  has = parts.1;
-}
-
-names : (row : Elem) (id : List ℕ) → row.kind ≡ Connection → row.attrs.id ≡ Some id → connection_id row ≡ Some id
-names row id kind has = ap (λ k. if same_kind k Connection then row.attrs.id else None) kind ∙ has
-
 -- ---- the table of what is referred to
 
-pub target_entry : (rows : List Elem) (numbers : IdNumbers) (row : Elem) (target : Option ℕ) →
-    KeepsIds connection_id rows (length rows) numbers → target ≡ option_and_then (number_in numbers) (reference_of row) → IsTargetOf rows row target
+pub target_entry : (rows : List Elem) (numbers : IdNumbers) (row : Elem) (target : Option ℕ) → KeepsIds rows (length rows) numbers →
+    target ≡ option_and_then (connection_in rows numbers) (reference_of row) → IsTargetOf rows row target
 target_entry rows numbers row target kept is = subst (IsTargetOf rows row) (sym is) (by (reference_of row) refl)
   where
-    unnamed : (name : List ℕ) → reference_of row ≡ Some name → number_in numbers name ≡ None → (j : ℕ) → IsReferredTo rows row j → ⊥
-    unnamed name e gone j h =
-        let same : name ≡ h.name = same_Some name h.name (sym e ∙ reference row h.name h.refers) in
-        kept.missed h.name j (subst (λ q. number_in numbers q ≡ None) same gone) (record {
-          row = h.other;
-          before = slice_get_within rows j h.other h.named.is;
-          is = h.named.is;
-          has = names h.other h.name h.named.connection h.named.has;
-        })
+    under_name : (name : List ℕ) → reference_of row ≡ Some name → (j : ℕ) (h : IsReferredTo rows row j) → IsConnectionNamed rows j name h.other
+    under_name name e j h =
+        let same : h.name ≡ name = same_Some h.name name (sym (reference row h.name h.refers) ∙ e) in
+        subst (λ q. IsConnectionNamed rows j q h.other) same h.named
 
-    found : (name : List ℕ) → reference_of row ≡ Some name → (o : Option ℕ) → number_in numbers name ≡ o → IsTargetOf rows row o
-    found name e None gone = unnamed name e gone
-    found name e (Some j) at = let h = kept.found name j at in record {
-      name = name;
-      other = h.row;
-      refers = refers row name e;
-      named = named rows (length rows) j name h;
-    }
+    within : (j : ℕ) → IsReferredTo rows row j → j < length rows
+    within j h = slice_get_within rows j h.other h.named.is
 
-    by : (o : Option (List ℕ)) → reference_of row ≡ o → IsTargetOf rows row (option_and_then (number_in numbers) o)
+    -- a number that is kept, of a connection or of another row
+    judged : (name : List ℕ) → reference_of row ≡ Some name → (j : ℕ) → number_in numbers name ≡ Some j → (b : Bool) → is_of_kind rows Connection j ≡ b →
+        IsTargetOf rows row (if b then Some j else None)
+    judged name e j at true t =
+        let bears = (kept.found name j at).1 in
+        let (other, is_other, kind) = of_kind rows Connection j t in
+        let same : bears.row ≡ other = one_row rows j bears.row other bears.is is_other in
+        record {
+          name = name;
+          other = bears.row;
+          refers = refers row name e;
+          named = record { is = bears.is; connection = ap (λ (r : Elem). r.kind) same ∙ kind; has = bears.has };
+        }
+    judged name e j at false t = λ k h. true≢false (sym (kept.connection name j k h.other at (within k h) (under_name name e k h)) ∙ t)
+
+    found : (name : List ℕ) → reference_of row ≡ Some name → (o : Option ℕ) → number_in numbers name ≡ o →
+        IsTargetOf rows row (option_and_then (λ j. if is_of_kind rows Connection j then Some j else None) o)
+    found name e None gone = λ j h. kept.missed name j gone (within j h) (connection_bears rows j name h.other (under_name name e j h))
+    found name e (Some j) at = judged name e j at (is_of_kind rows Connection j) refl
+
+    by : (o : Option (List ℕ)) → reference_of row ≡ o → IsTargetOf rows row (option_and_then (connection_in rows numbers) o)
     by None e = λ j h. none-some h.name (sym e ∙ reference row h.name h.refers)
     by (Some name) e = found name e (number_in numbers name) refl
 
@@ -108,23 +108,28 @@ not_answered rows row (Some j) t h =
       },
     )
 
-bears : (rows : List Elem) (j : ℕ) (id : List ℕ) (row : Elem) → IsConnectionNamed rows j id row → BearsId rows j id
-bears rows j id row h = record { row = row; is = h.is; bears = ap bears_id h.connection; has = h.has }
-
 -- two connections of one name are one
 one_connection : (rows : List Elem) (i j : ℕ) (id : List ℕ) (a b : Elem) → AreIdsDistinct rows → IsConnectionNamed rows i id a → IsConnectionNamed rows j id b →
     i ≡ j
 one_connection rows i j id a b distinct first second = by (cases_lt i j) (cases_lt j i)
   where
     by : (i < j) ⊎ (j ≤ i) → (j < i) ⊎ (i ≤ j) → i ≡ j
-    by (inl before) o = absurd (distinct j (id, record { here = bears rows j id b second; earlier = i; before = before; there = bears rows i id a first }))
+    by (inl before) o = absurd (distinct j (
+      id,
+      record {
+        here = connection_bears rows j id b second;
+        earlier = i;
+        before = before;
+        there = connection_bears rows i id a first;
+      },
+    ))
     by (inr from) (inl before) = absurd (distinct i (
       id,
       record {
-        here = bears rows i id a first;
+        here = connection_bears rows i id a first;
         earlier = j;
         before = before;
-        there = bears rows j id b second;
+        there = connection_bears rows j id b second;
       },
     ))
     by (inr from) (inr other) = omega arith

@@ -1,12 +1,13 @@
 -- Ids: which row's number an id is kept with.
 -- Private contracts alone cite this module.
-use Rattle.std.specs.Prelude.{◌≡◌, ◌<◌, ℕ, if◌then◌else◌, List, Option, Some, None, bytes_eq, slice_get, ⊤}
+use Rattle.std.specs.Prelude.{◌≡◌, ◌<◌, ℕ, true, if◌then◌else◌, List, Option, Some, None, bytes_eq, ⊤}
 use Rattle.std.specs.Borrow.{Bor}
+use Rattle.std.specs.Option.{option_and_then}
 use Rattle.indexmap.specs.IndexMap.{IndexMap, get_by}
 use Rattle.railml_read.specs.declared.rows.Elem.{Elem}
 use Rattle.railml_read.specs.declared.rows.ElemKind.TheVariants.{Connection}
 use Rattle.railml_faults.specs.declared.hashes.IdHashes.{IdHashes}
-use Rattle.railml_faults.specs.Rows.{same_kind, bears_id}
+use Rattle.railml_faults.specs.Rows.{same_kind, bears_id, is_of_kind, BearsId, IsConnectionNamed}
 
 -- numbers of rows by their ids
 abbrev pub IdNumbers : Type 0
@@ -15,6 +16,11 @@ IdNumbers = IndexMap (Bor (List ℕ)) ℕ IdHashes
 -- the number that an id is kept with
 abbrev pub number_in : IdNumbers → List ℕ → Option ℕ
 number_in numbers id = get_by (λ k. bytes_eq id k.now) numbers
+
+-- the number of the connection of this name, if the number that the name is kept with is a connection's
+abbrev pub connection_in : List Elem → IdNumbers → List ℕ → Option ℕ
+connection_in rows numbers name =
+    option_and_then (λ j. if is_of_kind rows Connection j then Some j else None) (number_in numbers name)
 
 -- one id has this number from now on, and each other the number that it had
 abbrev pub KeepsNumber : IdNumbers → IdNumbers → List ℕ → ℕ → Type 0
@@ -25,18 +31,20 @@ KeepsNumber old new id number = (q : List ℕ) → number_in new q
 abbrev pub own_id : Elem → Option (List ℕ)
 own_id row = if bears_id row.kind then row.attrs.id else None
 
--- a connection's id, if it has one
-abbrev pub connection_id : Elem → Option (List ℕ)
-connection_id row = if same_kind row.kind Connection then row.attrs.id else None
-
 -- the name that a connection refers to, if it has a reference
 abbrev pub reference_of : Elem → Option (List ℕ)
 reference_of row = if same_kind row.kind Connection then row.attrs.reference else None
 
--- a row's id, if it has one, has this number from now on
-abbrev pub AddsId : IdNumbers → IdNumbers → Option (List ℕ) → ℕ → Type 0
-AddsId old new None number = (q : List ℕ) → number_in new q ≡ number_in old q
-AddsId old new (Some id) number = KeepsNumber old new id number
+-- the number that a row's id is kept with once the row is seen: a connection's own, and of another row the one that
+-- the id had, if it had one
+abbrev pub next_number : Elem → Option ℕ → ℕ → ℕ
+next_number row None number = number
+next_number row (Some had) number = if same_kind row.kind Connection then number else had
+
+-- a row's id, if it has one, is kept once the row is seen
+abbrev pub AddsId : IdNumbers → IdNumbers → Elem → ℕ → Option (List ℕ) → Type 0
+AddsId old new row number None = (q : List ℕ) → number_in new q ≡ number_in old q
+AddsId old new row number (Some id) = KeepsNumber old new id (next_number row (number_in old id) number)
 
 -- there is an id, and it is kept; where there is one, it isn't
 abbrev pub IsKnownId : IdNumbers → Option (List ℕ) → Type 0
@@ -47,14 +55,10 @@ abbrev pub IsNewId : IdNumbers → Option (List ℕ) → Type 0
 IsNewId numbers None = ⊤
 IsNewId numbers (Some id) = number_in numbers id ≡ None
 
--- row j, one of the first n, has this id
-pub record HasIdAt (id_at : Elem → Option (List ℕ)) (rows : List Elem) (n j : ℕ) (id : List ℕ) : Type 0 where
-  pub row : Elem
-  pub before : j < n
-  pub is : slice_get rows j ≡ Some row
-  pub has : id_at row ≡ Some id
-
--- ids of the first n rows are kept with the number of a row that has them, and no id is left out
-pub record KeepsIds (id_at : Elem → Option (List ℕ)) (rows : List Elem) (n : ℕ) (numbers : IdNumbers) : Type 0 where
-  pub found : (id : List ℕ) (j : ℕ) → number_in numbers id ≡ Some j → HasIdAt id_at rows n j id
-  pub missed : (id : List ℕ) (j : ℕ) → number_in numbers id ≡ None → HasIdAt id_at rows n j id → ⊥
+-- ids of the first n rows are kept with the number of a row that bears them, a connection's where one of these
+-- connections bears them, and no id is left out
+pub record KeepsIds (rows : List Elem) (n : ℕ) (numbers : IdNumbers) : Type 0 where
+  pub found : (id : List ℕ) (j : ℕ) → number_in numbers id ≡ Some j → (j < n) × BearsId rows j id
+  pub connection : (id : List ℕ) (j k : ℕ) (other : Elem) → number_in numbers id ≡ Some j → k < n →
+      IsConnectionNamed rows k id other → is_of_kind rows Connection j ≡ true
+  pub missed : (id : List ℕ) (j : ℕ) → number_in numbers id ≡ None → j < n → BearsId rows j id → ⊥

@@ -11,7 +11,8 @@ use Rattle.railml_read.specs.declared.rows.ElemKind.{ElemKind}
 use Rattle.railml_read.specs.declared.rows.ElemKind.TheVariants.{Topology, Begin, End, Switch, Crossing, Connection}
 use Rattle.railml_faults.specs.declared.tables.Tables.{Tables}
 use Rattle.railml_faults.specs.Rows.{all_children, children, is_of_kind, id_of, HasPosition, IsConnectionNamed}
-use Rattle.railml_faults.specs.Faults.{RefersTo, AreOrientedAlike}
+use Rattle.railml_faults.specs.Faults.{RefersTo, Repeats, AreOrientedAlike}
+use Rattle.plan_core.specs.Searching.{FindsFirst}
 
 -- the one entry of a list that has just one
 abbrev pub only_of : List ℕ → Option ℕ
@@ -96,6 +97,7 @@ pub record AreTablesOf (rows : List Elem) (t : Tables) : Type 0 where
   pub begins : HasOnlyChildren rows Begin t.begins.items
   pub ends : HasOnlyChildren rows End t.ends.items
   pub connections : HasOnlyChildren rows Connection t.connections.items
+  pub repeated : FindsFirst (λ i _. Repeats rows i) rows t.repeated
   pub targets : HasTargets rows t.targets.items
   pub positions : HasPositions rows t.positions.items
 

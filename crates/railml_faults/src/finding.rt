@@ -1,5 +1,4 @@
 // Which fault rows have, by its number and then by its place.
-ghost use Rattle.std.specs.Prelude.{IfOk};
 ghost use Rattle.railml_read.specs.Formed.{AreFormed};
 ghost use Rattle.railml_faults.specs.Faults.{number_of};
 ghost use Rattle.plan_core.specs.Searching.{FindsFirst};
@@ -9,7 +8,6 @@ ghost use Rattle.railml_faults.specs.Telling.{HasKind, HasNoneBelow, FindsLowest
 use crate::TopologyWhat;
 use crate::bad_ids::first_bad_id;
 use crate::courses::{first_bad_course, first_bad_orientation};
-use crate::ids::first_repeated;
 use crate::missing::first_missing;
 use crate::numbers::first_bad_number;
 use crate::outside::first_outside;
@@ -17,9 +15,8 @@ use crate::parts::first_without_parts;
 use crate::references::{first_not_mutual, first_self_ref, first_unknown_ref};
 use crate::tables::Tables;
 use crate::tracks::track_at;
-use plan_core::{MAX_TRACKS, OutOfMemory};
+use plan_core::MAX_TRACKS;
 use railml_read::Elem;
-use std::alloc::Global;
 
 /// The faults in the order of their numbers, in which they are looked for.
 const IN_ORDER: [TopologyWhat; 13] = [
@@ -47,48 +44,39 @@ pub(crate) struct Finding {
 
 /// The first row that has a fault of this kind, where no row has one of a kind before it. That there is no track is a
 /// fault of no row.
-fn first_with(
-    alloc: Global,
-    rows: &[Elem],
-    tables: &Tables,
-    what: TopologyWhat,
-) -> Result<Option<usize>, OutOfMemory>
+fn first_with(rows: &[Elem], tables: &Tables, what: TopologyWhat) -> Option<usize>
     requires formed { AreFormed rows.now }
     requires tables { AreTablesOf rows.now tables.now }
     requires lower { HasNoneBelow rows.now (number_of what) }
-    ensures { IfOk result (λ found. FindsFirst (HasKind rows.now what) rows.now found) }
+    ensures { FindsFirst (HasKind rows.now what) rows.now result }
 {
     match what {
-        TopologyWhat::NoTracks => Ok(None),
-        TopologyWhat::TooMany => Ok(track_at(rows, MAX_TRACKS)),
-        TopologyWhat::Missing => Ok(first_missing(rows)),
-        TopologyWhat::Id => Ok(first_bad_id(rows)),
-        TopologyWhat::RepeatedId => first_repeated(alloc, rows),
-        TopologyWhat::Number => Ok(first_bad_number(rows)),
-        TopologyWhat::UnknownRef => Ok(first_unknown_ref(rows, &tables.targets)),
-        TopologyWhat::NotMutual => Ok(first_not_mutual(rows, &tables.targets)),
-        TopologyWhat::SelfRef => Ok(first_self_ref(rows)),
-        TopologyWhat::EndKind => Ok(first_without_parts(rows, tables)),
-        TopologyWhat::Course => Ok(first_bad_course(rows)),
-        TopologyWhat::Orientation => Ok(first_bad_orientation(rows)),
-        TopologyWhat::OutsideTrack => Ok(first_outside(rows, tables)),
+        TopologyWhat::NoTracks => None,
+        TopologyWhat::TooMany => track_at(rows, MAX_TRACKS),
+        TopologyWhat::Missing => first_missing(rows),
+        TopologyWhat::Id => first_bad_id(rows),
+        TopologyWhat::RepeatedId => tables.repeated,
+        TopologyWhat::Number => first_bad_number(rows),
+        TopologyWhat::UnknownRef => first_unknown_ref(rows, &tables.targets),
+        TopologyWhat::NotMutual => first_not_mutual(rows, &tables.targets),
+        TopologyWhat::SelfRef => first_self_ref(rows),
+        TopologyWhat::EndKind => first_without_parts(rows, tables),
+        TopologyWhat::Course => first_bad_course(rows),
+        TopologyWhat::Orientation => first_bad_orientation(rows),
+        TopologyWhat::OutsideTrack => first_outside(rows, tables),
     }
 }
 
 /// The first fault of a row.
-pub(crate) fn first_finding(
-    alloc: Global,
-    rows: &[Elem],
-    tables: &Tables,
-) -> Result<Option<Finding>, OutOfMemory>
+pub(crate) fn first_finding(rows: &[Elem], tables: &Tables) -> Option<Finding>
     requires formed { AreFormed rows.now }
     requires tables { AreTablesOf rows.now tables.now }
-    ensures { IfOk result (λ found. FindsLowest rows.now found) }
+    ensures { FindsLowest rows.now result }
 {
     for what in IN_ORDER {
-        if let Some(row) = first_with(alloc, rows, tables, what)? {
-            return Ok(Some(Finding { what, row }));
+        if let Some(row) = first_with(rows, tables, what) {
+            return Some(Finding { what, row });
         }
     }
-    Ok(None)
+    None
 }

@@ -1,38 +1,50 @@
 // What connections refer to.
-ghost use Rattle.std.specs.Prelude.{◌≡◌, ◌&&◌, IsTrue, ◌↔◌, Some, IfOk};
+ghost use Rattle.std.specs.Prelude.{◌≡◌, ◌&&◌, IsTrue, ◌↔◌, Some, IfOk, length};
 ghost use Rattle.std.specs.Option.{is_some, is_none, option_and_then};
-ghost use Rattle.railml_read.specs.Formed.{AreFormed};
 ghost use Rattle.railml_faults.specs.Rows.{id_of as id_or_empty};
-ghost use Rattle.railml_faults.specs.Ids.{number_in, reference_of as reference};
+ghost use Rattle.railml_faults.specs.Ids.{connection_in, reference_of as reference, KeepsIds};
 ghost use Rattle.railml_faults.specs.Faults.{RefersToNone, IsNotReferredBack, RefersToItself, AreIdsDistinct};
 ghost use Rattle.plan_core.specs.Searching.{FindsFirst};
 ghost use Rattle.railml_faults.specs.Tables.{HasTargets, IsNotAnswered};
 
-use crate::ids::{IdNumbers, connection_numbers, id_of, number_of, reference_of};
-use crate::rows::{is_kind, is_word};
+use crate::ids::{IdNumbers, id_of, number_of, reference_of};
+use crate::rows::{is_kind, is_of_kind, is_word};
 use plan_core::OutOfMemory;
 use railml_read::{Elem, ElemKind};
 use std::alloc::Global;
 
+/// The number of the connection of this name, if there is one.
+fn connection_named(rows: &[Elem], numbers: &IdNumbers<'_>, name: &str) -> Option<u32>
+    ensures { result ≡ connection_in rows.now numbers.now name.now }
+{
+    match number_of(numbers, name) {
+        Some(number) if is_of_kind(rows, number, ElemKind::Connection) => Some(number),
+        _ => None,
+    }
+}
+
 /// The number of the connection that a row refers to, if it refers to one.
-fn target_of(numbers: &IdNumbers<'_>, row: &Elem) -> Option<u32>
-    ensures { result ≡ option_and_then (number_in numbers.now) (reference row.now) }
+fn target_of(rows: &[Elem], numbers: &IdNumbers<'_>, row: &Elem) -> Option<u32>
+    ensures { result ≡ option_and_then (connection_in rows.now numbers.now) (reference row.now) }
 {
     match reference_of(row) {
-        Some(name) => number_of(numbers, name),
+        Some(name) => connection_named(rows, numbers, name),
         None => None,
     }
 }
 
 /// The number of a connection that each row refers to, if it refers to one.
-pub(crate) fn targets(alloc: Global, rows: &[Elem]) -> Result<Vec<Option<u32>>, OutOfMemory>
-    requires { AreFormed rows.now }
+pub(crate) fn targets(
+    alloc: Global,
+    rows: &[Elem],
+    numbers: &IdNumbers<'_>,
+) -> Result<Vec<Option<u32>>, OutOfMemory>
+    requires { KeepsIds rows.now (length rows.now) numbers.now }
     ensures { IfOk result (λ table. HasTargets rows.now table.items) }
 {
-    let numbers = connection_numbers(alloc, rows)?;
     let mut table = Vec::new(alloc);
     for row in rows {
-        table.push(target_of(&numbers, row))?;
+        table.push(target_of(rows, numbers, row))?;
     }
     Ok(table)
 }

@@ -4,6 +4,7 @@ ghost use Rattle.railml_read.specs.Formed.{AreFormed};
 ghost use Rattle.railml_faults.specs.Tables.{AreTablesOf, entry_in};
 
 use crate::children::{all_children, only_children};
+use crate::ids::number_ids;
 use crate::outside::positions;
 use crate::references::targets;
 use plan_core::{Micro, OutOfMemory};
@@ -12,7 +13,7 @@ use std::alloc::Global;
 
 /// Tables with an entry for each row. They have its children, and its only topology, begin, end and connection, if it
 /// has just one. They have the connection that it refers to. Each of these is a row's number. They have the row's
-/// position too, in micrometres.
+/// position too, in micrometres. `repeated` has no entries: it is the first row whose id an earlier row bears.
 #[derive(Drop)]
 pub struct Tables {
     pub children: Vec<Vec<u32>>,
@@ -20,6 +21,7 @@ pub struct Tables {
     pub begins: Vec<Option<u32>>,
     pub ends: Vec<Option<u32>>,
     pub connections: Vec<Option<u32>>,
+    pub repeated: Option<usize>,
     pub targets: Vec<Option<u32>>,
     pub positions: Vec<Option<Micro>>,
 }
@@ -35,7 +37,8 @@ impl Tables {
         let begins = only_children(alloc, rows, &children, ElemKind::Begin)?;
         let ends = only_children(alloc, rows, &children, ElemKind::End)?;
         let connections = only_children(alloc, rows, &children, ElemKind::Connection)?;
-        let targets = targets(alloc, rows)?;
+        let ids = number_ids(alloc, rows)?;
+        let targets = targets(alloc, rows, &ids.numbers)?;
         let positions = positions(alloc, rows)?;
         Ok(Tables {
             children,
@@ -43,6 +46,7 @@ impl Tables {
             begins,
             ends,
             connections,
+            repeated: ids.repeated,
             targets,
             positions,
         })

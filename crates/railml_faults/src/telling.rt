@@ -107,7 +107,7 @@ pub fn first_fault(
     if track_at(rows, 0).is_none() {
         return Ok(Some(no_tracks(alloc)?));
     }
-    match first_finding(alloc, rows, tables)? {
+    match first_finding(rows, tables) {
         Some(found) => Ok(Some(tell(alloc, rows, found)?)),
         None => Ok(None),
     }

@@ -8,5 +8,5 @@ loop-what-init c = none_yet c.args.rows.now
 pub loop-what-preserved : goal.loop-what-preserved
 loop-what-preserved c =
     let i = c.loop-what.what-index in
-    none_at_next c.args.rows.now _ c.in_ok-row.field-0 (c.in_ok-row.ensures) c.in_default.is (i + 1) (number_in_order i _ c.loop-what-test.true)
+    none_at_next c.args.rows.now _ c.first_with.result c.first_with.ensures c.in_default.is (i + 1) (number_in_order i _ c.loop-what-test.true)
     c.loop-what.invariant

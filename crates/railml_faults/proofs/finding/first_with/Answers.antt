@@ -1,10 +1,8 @@
 use Rattle.std.proofs.Common.{subst, arith}
-use Rattle.std.proofs.lemmas.Result.{IfOk-weaker}
 use Rattle.railml_faults.specs.declared.fault.TopologyWhat.{TopologyWhat}
 use Rattle.railml_faults.specs.declared.fault.TopologyWhat.TheVariants as kinds
-use Rattle.railml_faults.specs.Faults.{number_of, Repeats}
-use Rattle.plan_core.specs.Searching.{FindsFirst}
-use Rattle.railml_faults.specs.Telling.{HasKind, HasNoneBelow}
+use Rattle.railml_faults.specs.Faults.{number_of}
+use Rattle.railml_faults.specs.Telling.{HasNoneBelow}
 use Rattle.railml_faults.proofs.FaultLemmas.{of_this_kind, finds_bad_id, finds_bad_number, finds_course, finds_end_kind, finds_missing, finds_not_mutual}
 use Rattle.railml_faults.proofs.FaultLemmas.{finds_orientation, finds_outside, finds_repeated, finds_self_ref, finds_too_many, finds_unknown_ref, ids_distinct}
 use Rattle.railml_faults.proofs.finding.first_with.Goals as goal
@@ -17,10 +15,8 @@ first_not_mutual-requires-clause-distinct c =
     ids_distinct rows (lower.none kinds.RepeatedId (omega arith))
 
 pub returns-in-RepeatedId : goal.returns-in-RepeatedId
-returns-in-RepeatedId c =
-    let rows = c.args.rows.now in
-    IfOk-weaker c.first_repeated.result (λ found. FindsFirst (λ i _. Repeats rows i) rows found) (λ found. FindsFirst (HasKind rows c.args.what) rows found)
-    (λ found h. of_this_kind rows c.args.what kinds.RepeatedId found c.in-RepeatedId.is (finds_repeated rows found h)) c.first_repeated.ensures
+returns-in-RepeatedId c = of_this_kind c.args.rows.now c.args.what kinds.RepeatedId c.args.tables.now.repeated c.in-RepeatedId.is
+    (finds_repeated c.args.rows.now c.args.tables.now.repeated c.requires.tables.repeated)
 
 pub returns-in-TooMany : goal.returns-in-TooMany
 returns-in-TooMany c = of_this_kind c.args.rows.now c.args.what kinds.TooMany c.track_at.result c.in-TooMany.is

@@ -13,6 +13,6 @@ loop-row-preserved c =
     let i = c.loop-row.row-index in
     let target = c.target_of.result in
     let at : slice_get rows i ≡ Some row = row_at rows i row c.loop-row-test.true c.row-item.is in
-    let here : IsTargetOf rows row target = target_entry rows c.in_ok-numbers.numbers row target c.in_ok-numbers.ensures c.target_of.ensures in
+    let here : IsTargetOf rows row target = target_entry rows c.args.numbers.now row target c.requires c.target_of.ensures in
     one_first c.loop-row.invariant c.in_ok-push.ensures.items (λ other there. subst (λ (e : Elem). IsTargetOf rows e target) (one_row rows i row other at there)
     here)
