@@ -1,6 +1,6 @@
 // Clauses that are given.
 ghost use Rattle.std.specs.Prelude.{◌≡◌, ◌≢◌, ◌≤◌, ◌<◌, ◌+◌, ◌↔◌, ℕ, true, false, length, slice_index_or, OnOk, OnErr};
-ghost use Rattle.std.specs.Prelude.{IsErrOf};
+ghost use Rattle.std.specs.Prelude.{IfOk, IsErrOf};
 ghost use Rattle.outside_io.specs.Counts.{Rose};
 ghost use Rattle.cnf_core.specs.Lit.{Literal, negate, has};
 ghost use Rattle.cnf_core.specs.Clause.{AreDistinct, AreThere};
@@ -18,6 +18,7 @@ use crate::search::Search;
 use cnf_core::{Clause, Lit};
 use plan_core::OutOfMemory;
 use refute_log::{LogLine, LogSink};
+use std::mem;
 use watch_arena::Trail;
 
 /// The first place from `from` on whose literal isn't false, or the number of literals.
@@ -72,6 +73,17 @@ fn exchange(lits: &mut [Lit], a: usize, b: usize)
     lits.swap(a, b);
 }
 
+/// The clause of these literals, in memory that was another clause's.
+fn filled(spare: Vec<Lit>, lits: &[Lit]) -> Result<Clause, OutOfMemory>
+    requires { AreDistinct lits.now }
+    ensures { IfOk result (λ c. c ≡ lits.now) }
+{
+    let mut own = spare;
+    own.clear();
+    own.extend_from_slice(lits)?;
+    Ok(Clause::from_vec(own))
+}
+
 impl Search {
     /// Tells a clause as a Formula line and keeps it.
     pub fn add_clause<L: LogSink>(&mut self, lits: &[Lit], log: &mut L) -> Result<(), AddFault>
@@ -118,7 +130,8 @@ impl Search {
         ensures faults { L.faults log.old ≤ L.faults log.new }
         ensures later { L.is_later log.old log.new }
     {
-        let line = LogLine::Formula(Clause::new(self.alloc, lits)?);
+        let spare = mem::replace(&mut self.spare, Vec::new(self.alloc));
+        let line = LogLine::Formula(filled(spare, lits)?);
         log.tell(&line)?;
         self.keep_given(into_clause(self.alloc, line))?;
         Ok(())
@@ -248,6 +261,7 @@ impl Search {
         };
         let _kept = place;
         self.words += words;
+        self.spare = clause.into_vec();
         Ok(())
     }
 }

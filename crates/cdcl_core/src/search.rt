@@ -1,5 +1,6 @@
 // The state of a search, and how it grows.
 ghost use Rattle.std.specs.Prelude.{◌≡◌, ◌≤◌, ◌<◌, ◌+◌, ◌-◌, ◌↔◌, [], false, length, IfOk, OnOk, IsErrOf};
+ghost use Rattle.cnf_core.specs.Clause.{AreThere};
 ghost use Rattle.cdcl_core.specs.Search.{IsFitted, IsIdle, kept_of};
 ghost use Rattle.cdcl_core.specs.Kept.{blank, with_more_vars};
 
@@ -27,6 +28,8 @@ pub struct Search {
     pub phases: Vec<bool>,
     /// The other clauses.
     pub own: Vec<Clause>,
+    /// Memory for the next clause that is given.
+    pub spare: Vec<Lit>,
     /// The words of all clauses.
     pub words: u32,
     /// How many clauses were learnt.
@@ -55,6 +58,7 @@ impl Search {
             analyser: Analyser::with_vars(alloc, 0)?,
             phases: vec![in alloc; false; 1]?,
             own: Vec::new(alloc),
+            spare: Vec::new(alloc),
             words: 0,
             learnt: 0,
             refuted: false,
@@ -81,6 +85,16 @@ impl Search {
         self.analyser.add_vars(n)?;
         self.trail.add_vars(n)?;
         Ok(())
+    }
+
+    /// Says that a clause is to be added.
+    pub fn expect(&mut self, lits: &[Lit])
+        requires idle { IsIdle self.old }
+        requires there { AreThere self.old.trail.vars lits.now }
+        ensures idle { IsIdle self.new }
+        ensures same { kept_of self.new None [] false ≡ kept_of self.old None [] false }
+    {
+        self.arena.expect(lits);
     }
 
     /// Whether a further clause of so many literals is within the room.

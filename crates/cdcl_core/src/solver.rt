@@ -80,6 +80,16 @@ impl Solver {
         }
     }
 
+    /// Says that a clause is to be added. Where all that are to come are said before the first of them is added, the
+    /// solver makes place for them at once, and propagates faster. It changes nothing that is seen.
+    pub fn expect(&mut self, lits: &[Lit])
+        requires working { self.old.failed ≡ false }
+        requires there { AreThere self.old.vars lits.now }
+        ensures { self.new ≡ self.old }
+    {
+        self.search.expect(lits);
+    }
+
     /// Adds a clause of distinct variables, gives it to the log as a Formula line, and keeps it. `Room` comes
     /// exactly where the words so far, the literals and 3 pass the room. Then the log gets nothing.
     pub fn add_clause<L: LogSink>(&mut self, lits: &[Lit], log: &mut L) -> Result<(), AddFault>

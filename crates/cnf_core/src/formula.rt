@@ -11,13 +11,14 @@ use crate::{CnfFault, Lit, LitOrTruth, ROOM, VARS, Var};
 use plan_core::OutOfMemory;
 use std::alloc::{AllocError, Global};
 use std::marker::Model;
+use std::mem;
 
 /// A clause's place in a formula, counted from 0.
 #[derive(Clone, Copy, Debug, PartialEq, Eq)]
 pub struct ClauseNo(pub u32);
 
 /// Variables 1 to `vars` and a list of clauses over them, whose words are at most `room`. The literals of all clauses
-/// are in one vector, and a second one says where each clause ends.
+/// are in one vector, and a second one says where each clause ends. A third is memory to gather the next clause in.
 #[derive(Drop)]
 pub struct Formula {
     alloc: Global,
@@ -25,6 +26,7 @@ pub struct Formula {
     vars: u32,
     lits: Vec<Lit>,
     ends: Vec<u32>,
+    spare: Vec<Lit>,
 }
 
 impl Model for Formula {
@@ -52,6 +54,7 @@ impl Formula {
             vars: 0,
             lits: Vec::new(alloc),
             ends: Vec::new(alloc),
+            spare: Vec::new(alloc),
         })
     }
 
@@ -168,10 +171,12 @@ impl Formula {
             (length unless.now + length ts.now) }
         ensures err { OnErr result (self.new ≡ self.old) }
     {
-        match gather(self.alloc, unless, ts)? {
+        let spare = mem::replace(&mut self.spare, Vec::new(self.alloc));
+        match gather(spare, unless, ts)? {
             None => Ok(()),
             Some(lits) => {
                 self.add(&lits)?;
+                self.spare = lits;
                 Ok(())
             }
         }

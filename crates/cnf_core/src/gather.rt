@@ -6,7 +6,7 @@ ghost use Rattle.cnf_core.specs.Lit.{has as has_literal};
 ghost use Rattle.cnf_core.specs.LitOrTruth.{gathered, clause_of};
 
 use crate::{Lit, LitOrTruth};
-use std::alloc::{AllocError, Global};
+use std::alloc::AllocError;
 
 fn has(lits: &[Lit], l: Lit) -> bool
     ensures { result ≡ has_literal lits.now l }
@@ -35,15 +35,17 @@ fn put_literal(lits: &mut Vec<Lit>, l: Lit) -> Result<bool, AllocError>
     Ok(true)
 }
 
-/// The literals of the clause "one of unless is true, or one of ts", or None where there is none.
+/// The literals of the clause "one of unless is true, or one of ts", in the memory of `spare`, or None where there is
+/// none.
 pub(crate) fn gather(
-    alloc: Global,
+    spare: Vec<Lit>,
     unless: &[Lit],
     ts: &[LitOrTruth],
 ) -> Result<Option<Vec<Lit>>, AllocError>
     ensures { IfOk result (λ o. option_to_list (option_map (λ c. c.items) o) ≡ clause_of unless.now ts.now) }
 {
-    let mut lits = Vec::new(alloc);
+    let mut lits = spare;
+    lits.clear();
     for l in unless {
         if !put_literal(&mut lits, *l)? {
             return Ok(None);

@@ -48,6 +48,19 @@ fn tell_clause<L: LogSink>(
     }
 }
 
+/// Says to the solver which clauses of the formula are to be added.
+fn expect_clauses(formula: &Formula, from: u32, solver: &mut Solver)
+    requires from { from ≤ length formula.now.clauses }
+    requires working { solver.old.failed ≡ false }
+    requires vars { solver.old.vars ≡ formula.now.vars }
+    ensures { solver.new ≡ solver.old }
+{
+    let end = formula.clauses();
+    for number in from..end {
+        solver.expect(formula.lits_of(ClauseNo(number)));
+    }
+}
+
 /// Adds the formula's clauses from this number on.
 pub fn tell_clauses<L: LogSink>(
     formula: &Formula,
@@ -69,6 +82,7 @@ pub fn tell_clauses<L: LogSink>(
     ensures faults { L.faults log.old ≤ L.faults log.new }
     ensures cause { IsErrOf result MinFault.Log → Rose (L.faults log.old) (L.faults log.new) }
 {
+    expect_clauses(formula, from, solver);
     let end = formula.clauses();
     for number in from..end {
         tell_clause(formula, number, solver, log)?;

@@ -1,7 +1,7 @@
 -- Rows: of each literal the clauses that it is a watch of.
 -- All rows lie in one vector of entries. A row is known by where it begins, how many of its entries are of clauses of
 -- two literals, which are in front, and how many it has. A space is known by for how many clauses the row was asked to
--- have place, and for how many entries it has.
+-- have place, for how many entries it has, and how many clauses were expected.
 use Rattle.std.specs.Prelude.{◌≡◌, ◌≢◌, ◌≤◌, ◌<◌, ◌⊎◌, ℕ, ◌+◌, ◌-◌, ◌^◌, true, List, [], ◌∷◌, ◌++◌, length, map}
 use Rattle.std.specs.Prelude.{slice_index, slice_index_or, slice_set, take, drop, replicate}
 use Rattle.cnf_core.specs.Lit.{Literal, literal}
@@ -24,7 +24,7 @@ abbrev pub no_row : Row
 no_row = record { from = 0; pairs = 0; len = 0 }
 
 abbrev pub no_space : Space
-no_space = record { clauses = 0; size = 0 }
+no_space = record { clauses = 0; size = 0; expected = 0 }
 
 -- the entry at a place of a row, the row of a word, and the space of a word
 abbrev pub entry_at : List Entry → ℕ → Entry

@@ -11,7 +11,7 @@ ghost use Rattle.watch_arena.specs.Walk.{KeepsReasons};
 ghost use Rattle.watch_arena.specs.Arena.{AreWatched, AreReasoned, AreBecause, AreAttached, IsSameText, IsMoreText};
 ghost use Rattle.watch_arena.specs.Arena.{MayBeWatched, IsClashOf, attached_at, attached_clauses, spread};
 
-use crate::attach::attach;
+use crate::attach::{attach, expect_all};
 use crate::clause_ref::ClauseRef;
 use crate::fault::ArenaFault;
 use crate::rows::Rows;
@@ -138,6 +138,15 @@ impl Arena {
             trail,
             &mut self.visits,
         )
+    }
+
+    /// Says that a clause is to be attached. Where all that are to come are said before the first of them is attached,
+    /// their rows get their place at once, and lie close together. It changes nothing that is seen.
+    pub fn expect(&mut self, lits: &[Lit])
+        requires { AreThere self.old.vars lits.now }
+        ensures { self.new ≡ self.old }
+    {
+        expect_all(&mut self.rows, lits);
     }
 
     /// Attaches a clause of distinct variables, and watches its first two literals. `Room` comes

@@ -59,6 +59,16 @@ fn make_room_for(rows: &mut Rows, lits: &[Lit]) -> Result<(), OutOfMemory>
     Ok(())
 }
 
+/// Says of each literal of a clause that one more clause with it is to come.
+pub fn expect_all(rows: &mut Rows, lits: &[Lit])
+    requires { All (λ l. word_of l < length rows.old.lists) lits.now }
+    ensures { rows.new ≡ rows.old }
+{
+    for l in lits {
+        rows.expect(*l);
+    }
+}
+
 /// Puts a clause behind the others and its place behind the places, or nothing of it.
 fn append_placed(
     words: &mut Vec<u32>,

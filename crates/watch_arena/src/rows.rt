@@ -27,11 +27,13 @@ pub struct Row {
     len: u32,
 }
 
-/// For how many clauses the row of a literal was asked to have place, and for how many entries it has.
+/// For how many clauses the row of a literal was asked to have place, for how many entries it has, and how many clauses
+/// were expected with the literal.
 #[derive(Clone, Copy)]
 pub struct Space {
     clauses: u32,
     size: u32,
+    expected: u32,
 }
 
 /// The rows of all literals, by their words. All their entries lie in one vector, so that the table of rows is small
@@ -66,7 +68,8 @@ fn copy_to(entries: &mut [Entry], row: Row, from: u32)
     }
 }
 
-/// A full row goes behind all others, with twice the place; or nothing is changed that is seen.
+/// A full row goes behind all others, with twice the place, or as much as is expected where that is more; or nothing is
+/// changed that is seen.
 fn widen(
     rows: &mut [Row],
     spaces: &mut [Space],
@@ -80,7 +83,8 @@ fn widen(
     ensures same { rowed_of rows.new spaces.new entries.new.items ≡ rowed_of rows.old spaces.old entries.old.items }
     ensures place { OnOk result ((space_at spaces.new w).clauses < (space_at spaces.new w).size) }
 {
-    let size = 2 * (spaces[w].size as usize).max(1);
+    let twice = 2 * (spaces[w].size as usize).max(1);
+    let size = twice.max(spaces[w].expected as usize);
     let before = entries.len();
     if before + size > u32::MAX as usize {
         return Err(OutOfMemory);
@@ -139,6 +143,7 @@ impl Rows {
         let space = Space {
             clauses: 0,
             size: 0,
+            expected: 0,
         };
         lengthen(&mut self.rows, n, row)?;
         match lengthen(&mut self.spaces, n, space) {
@@ -148,6 +153,16 @@ impl Rows {
                 Err(e)
             }
         }
+    }
+
+    /// One more clause with a literal is to come: when its row is next widened, it gets place for all that were expected
+    /// at once.
+    pub fn expect(&mut self, l: Lit)
+        requires { word_of l < length self.old.lists }
+        ensures { self.new ≡ self.old }
+    {
+        let space = self.spaces[l.word() as usize];
+        self.spaces[l.word() as usize].expected = space.expected.saturating_add(1);
     }
 
     /// One more clause has a literal: its row gets place for it.

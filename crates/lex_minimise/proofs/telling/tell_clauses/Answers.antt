@@ -1,8 +1,10 @@
-use Rattle.std.proofs.Common.{◌+◌, ◌-◌, ◌∷◌, [], take, drop, map, refl, sym, ◌∙◌, ap, arith}
+use Rattle.std.proofs.Common.{◌≡◌, ◌+◌, ◌-◌, ◌∷◌, [], take, drop, map, refl, sym, ◌∙◌, ap, subst, arith}
 use Rattle.std.proofs.lemmas.List.{map-append}
 use Rattle.cnf_core.specs.Formula.{clause_at}
 use Rattle.refute_log.specs.declared.line.LogLine.TheVariants.{Formula}
+use Rattle.refute_log.specs.Steps.{GoesOn}
 use Rattle.cdcl_core.specs.Belongs.{Belongs}
+use Rattle.lex_minimise.specs.Told.{HasTaken}
 use Rattle.lex_minimise.proofs.TellLemmas.{taken_none, taken_more, goes_nothing, goes_then, told_none, told_next, next_fits}
 use Rattle.lex_minimise.proofs.LeftLemmas.{clauses_left}
 use Rattle.lex_minimise.proofs.telling.tell_clauses.Goals as goal
@@ -12,12 +14,17 @@ pub loop-number-init : goal.loop-number-init
 loop-number-init g c =
     let k = g.L.LogSink in
     let cs = c.args.formula.now.clauses in
+    let old = c.args.solver.now in
     let none = told_none cs c.args.from c.args.from refl in
+    let same = sym c.expect_clauses.ensures in
     record {
       from = omega arith;
-      taken = taken_none c.args.solver.now (take (c.args.from - c.args.from) (drop c.args.from cs)) c.requires.working none;
-      lines = goes_nothing (λ ls. Belongs ls c.args.solver.now) (k.tells c.args.log.now) (k.learnt c.args.log.now)
-          (map Formula (take (c.args.from - c.args.from) (drop c.args.from cs))) (ap (map Formula) none);
+      taken = subst (λ s. HasTaken old s (take (c.args.from - c.args.from) (drop c.args.from cs))) same
+          (taken_none old (take (c.args.from - c.args.from) (drop c.args.from cs)) c.requires.working none);
+      lines = subst (λ s. GoesOn (λ ls. Belongs ls old) (λ ls. Belongs ls s) (k.tells c.args.log.now) (k.tells c.args.log.now) (k.learnt c.args.log.now)
+          (k.learnt c.args.log.now) (λ lines more. more ≡ map Formula (take (c.args.from - c.args.from) (drop c.args.from cs)))) same
+          (goes_nothing (λ ls. Belongs ls old) (k.tells c.args.log.now) (k.learnt c.args.log.now)
+          (map Formula (take (c.args.from - c.args.from) (drop c.args.from cs))) (ap (map Formula) none));
       later = g.met.L.LogSink.later_same c.args.log.now;
       faults = omega arith;
     }

@@ -1,8 +1,9 @@
 use Rattle.std.proofs.Common.{rules, ◌≡◌, ◌+◌, [], ◌∷◌, length, sym, subst, Ok}
 use Rattle.std.specs.Prelude.{IsErrOf}
 use Rattle.cnf_core.specs.declared.fault.CnfFault.TheVariants.{Room}
-use Rattle.cnf_core.specs.Clause.{Clauses}
+use Rattle.cnf_core.specs.Clause.{Clauses, AreThere}
 use Rattle.cnf_core.specs.LitOrTruth.{clause_of}
+use Rattle.cnf_core.specs.Formula.{Cnf, cnf_of}
 use Rattle.cnf_core.specs.Added.{AddsClauses}
 use Rattle.cnf_core.proofs.StepLemmas.{adds_same, adds_fault, adds_longer, added_one}
 use Rattle.cnf_core.proofs.GatherLemmas.{clause_distinct, gathered_there_one, gathered_length}
@@ -17,30 +18,35 @@ pub add-requires-clause-distinct : goal.add-requires-clause-distinct
 add-requires-clause-distinct c = clause_distinct c.args.unless.now c.args.ts.now c.deref.result.now (is_clause c)
 
 pub add-requires-clause-there : goal.add-requires-clause-there
-add-requires-clause-there c = gathered_there_one c.args.self.now.vars c.args.unless.now c.args.ts.now c.deref.result.now (is_clause c) c.requires.there
-    c.requires.within
+add-requires-clause-there c = subst (λ (f : Cnf). AreThere f.vars c.deref.result.now) (sym c.self.view_is)
+    (gathered_there_one c.args.self.now.vars c.args.unless.now c.args.ts.now c.deref.result.now (is_clause c) c.requires.there c.requires.within)
 
 pub returns-in_err-add-in-Some-clause-adds : goal.returns-in_err-add-in-Some-clause-adds
 returns-in_err-add-in-Some-clause-adds c =
     let is = is_clause (goal.at.returns-in_err-add-in-Some-clause-adds c).After-deref in
-    let old = c.args.self.now in
+    let f = c.self.inside in
+    let old = cnf_of f.room f.vars f.lits.items f.ends.items in
     let new = c.add.new.self in
     let now = c.deref.result.now in
     let r = c.from_residual-in_err-add-in-Some.result in
     let most = length c.args.unless.now + length c.args.ts.now in
     let one = adds_longer c.add.result old new (now ∷ []) (length now) most (gathered_length c.args.unless.now c.args.ts.now now is)
     (added_one c.add.result old new now c.add.ensures.ok c.add.ensures.room.0 c.add.ensures.err) in
-    subst (λ (cs : Clauses). AddsClauses r old new cs most) (sym is) (adds_fault c.add.result r old new (now ∷ []) most
-    c.from_residual-in_err-add-in-Some.ensures.0 (λ k. let room : IsErrOf c.add.result Room = search (rules, k) in room) one)
+    subst (λ (o : Cnf). AddsClauses r o new (clause_of c.args.unless.now c.args.ts.now) most) c.self.view_is
+    (subst (λ (cs : Clauses). AddsClauses r old new cs most) (sym is) (adds_fault c.add.result r old new (now ∷ []) most
+    c.from_residual-in_err-add-in-Some.ensures.0 (λ k. let room : IsErrOf c.add.result Room = search (rules, k) in room) one))
 
 pub returns-in_ok-add-in-Some-clause-adds : goal.returns-in_ok-add-in-Some-clause-adds
 returns-in_ok-add-in-Some-clause-adds c =
     let is = is_clause (goal.at.returns-in_ok-add-in-Some-clause-adds c).After-deref in
-    let old = c.args.self.now in
+    let f = c.self.inside in
+    let old = cnf_of f.room f.vars f.lits.items f.ends.items in
     let new = c.add.new.self in
     let now = c.deref.result.now in
     let most = length c.args.unless.now + length c.args.ts.now in
     let one = adds_longer c.add.result old new (now ∷ []) (length now) most (gathered_length c.args.unless.now c.args.ts.now now is)
     (added_one c.add.result old new now c.add.ensures.ok c.add.ensures.room.0 c.add.ensures.err) in
-    subst (λ (cs : Clauses). AddsClauses (Ok tt) old new cs most) (sym is) (adds_same c.add.result tt old new (now ∷ []) most c.in_ok-add-in-Some.field-0
-    c.in_ok-add-in-Some.was one)
+    subst (λ (n : Cnf). AddsClauses (Ok tt) c.args.self.now n (clause_of c.args.unless.now c.args.ts.now) most) (sym c.self-in-Some.view_is)
+    (subst (λ (o : Cnf). AddsClauses (Ok tt) o new (clause_of c.args.unless.now c.args.ts.now) most) c.self.view_is
+    (subst (λ (cs : Clauses). AddsClauses (Ok tt) old new cs most) (sym is) (adds_same c.add.result tt old new (now ∷ []) most
+    c.in_ok-add-in-Some.field-0 c.in_ok-add-in-Some.was one)))
