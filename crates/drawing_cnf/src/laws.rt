@@ -57,7 +57,7 @@ pub fn bounds_are_small_and_named()
         n ≤ limit_of e.graph e.grid c → 1 ≤ k → k ≤ n →
         IsNamed (clauses_behind e (bound_behind e c n)) (e.formula.vars + k) }
     ensures forced { (g : Graph) (x : DrawingVars) (grid : GridSize) (b : Bound) (k : ℕ) →
-        b.cap ≤ limit_of g grid b.criterion → 1 ≤ k → k ≤ b.cap → reach_of g grid b.criterion < k →
+        b.cap ≤ limit_of g grid b.criterion → k ≤ b.cap → reach_of g grid b.criterion < k →
         Contains (clauses_of_bound g x grid b) (negative_of (b.last + k) ∷ []) }
 {}
 

@@ -155,8 +155,8 @@ impl Rows {
         }
     }
 
-    /// One more clause with a literal is to come: when its row is next widened, it gets place for all that were expected
-    /// at once.
+    /// One more clause with a literal is to come. When the literal's row is next widened, it gets place for all that
+    /// were expected.
     pub fn expect(&mut self, l: Lit)
         requires { word_of l < length self.old.lists }
         ensures { self.new ≡ self.old }

@@ -1,3 +1,4 @@
+use Rattle.std.proofs.Common.{arith}
 use Rattle.drawing_cnf.proofs.BoundWords.{bound_words, bound_variables}
 use Rattle.drawing_cnf.proofs.BoundNames.{bound_named}
 use Rattle.drawing_cnf.proofs.BoundForced.{bound_forced}
@@ -15,4 +16,4 @@ returns-clause-named c = λ e d cap k whole size few limit from to.
     bound_named e.graph e.grid e.formula.vars cap d k size (whole_there e whole) few limit from to
 
 pub returns-clause-forced : goal.returns-clause-forced
-returns-clause-forced c = λ g x grid b k limit from to past. bound_forced g x grid b.last b.cap b.criterion k limit from to past
+returns-clause-forced c = λ g x grid b k limit to past. bound_forced g x grid b.last b.cap b.criterion k limit (omega arith) to past
