@@ -73,7 +73,7 @@ fn exchange(lits: &mut [Lit], a: usize, b: usize)
     lits.swap(a, b);
 }
 
-/// The clause of these literals, in memory that was another clause's.
+/// The clause of these literals, in this memory.
 fn filled(spare: Vec<Lit>, lits: &[Lit]) -> Result<Clause, OutOfMemory>
     requires { AreDistinct lits.now }
     ensures { IfOk result (λ c. c ≡ lits.now) }

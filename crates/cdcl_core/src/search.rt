@@ -28,7 +28,8 @@ pub struct Search {
     pub phases: Vec<bool>,
     /// The other clauses.
     pub own: Vec<Clause>,
-    /// Memory for the next clause that is given.
+    /// The memory of the last clause that was attached, for the next one that is given; empty behind another clause and
+    /// behind an error.
     pub spare: Vec<Lit>,
     /// The words of all clauses.
     pub words: u32,

@@ -80,8 +80,8 @@ impl Solver {
         }
     }
 
-    /// Says that a clause is to be added. Where all that are to come are said before the first of them is added, the
-    /// solver makes place for them at once, and propagates faster. It changes nothing that is seen.
+    /// Says that a clause is to be added. Whoever calls this for many clauses before the first of them is added gives each
+    /// row of watches its place at once. It changes no answer.
     pub fn expect(&mut self, lits: &[Lit])
         requires working { self.old.failed ≡ false }
         requires there { AreThere self.old.vars lits.now }

@@ -1,7 +1,7 @@
 -- Rows: of each literal the clauses that it is a watch of.
 -- All rows lie in one vector of entries. A row is known by where it begins, how many of its entries are of clauses of
 -- two literals, which are in front, and how many it has. A space is known by for how many clauses the row was asked to
--- have place, for how many entries it has, and how many clauses were expected.
+-- have place, for how many entries it has place, and how many clauses were ever expected.
 use Rattle.std.specs.Prelude.{◌≡◌, ◌≢◌, ◌≤◌, ◌<◌, ◌⊎◌, ℕ, ◌+◌, ◌-◌, ◌^◌, true, List, [], ◌∷◌, ◌++◌, length, map}
 use Rattle.std.specs.Prelude.{slice_index, slice_index_or, slice_set, take, drop, replicate}
 use Rattle.cnf_core.specs.Lit.{Literal, literal}

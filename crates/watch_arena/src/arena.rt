@@ -140,8 +140,8 @@ impl Arena {
         )
     }
 
-    /// Says that a clause is to be attached. Where all that are to come are said before the first of them is attached,
-    /// their rows get their place at once, and lie close together. It changes nothing that is seen.
+    /// Says that a clause is to be attached. Whoever calls this for many clauses before the first of them is attached
+    /// gives each of their rows its place at once. It changes nothing that is seen.
     pub fn expect(&mut self, lits: &[Lit])
         requires { AreThere self.old.vars lits.now }
         ensures { self.new ≡ self.old }

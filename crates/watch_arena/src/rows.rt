@@ -27,8 +27,8 @@ pub struct Row {
     len: u32,
 }
 
-/// For how many clauses the row of a literal was asked to have place, for how many entries it has, and how many clauses
-/// were expected with the literal.
+/// For how many clauses the row of a literal was asked to have place, for how many entries it has place, and how many
+/// clauses with the literal were ever expected.
 #[derive(Clone, Copy)]
 pub struct Space {
     clauses: u32,
@@ -68,8 +68,8 @@ fn copy_to(entries: &mut [Entry], row: Row, from: u32)
     }
 }
 
-/// A full row goes behind all others, with twice the place, or as much as is expected where that is more; or nothing is
-/// changed that is seen.
+/// A full row goes behind all others. It gets twice its place, at least 2, or place for as many clauses as were ever
+/// expected, where that is more. After an error nothing that is seen has changed.
 fn widen(
     rows: &mut [Row],
     spaces: &mut [Space],
@@ -155,8 +155,8 @@ impl Rows {
         }
     }
 
-    /// One more clause with a literal is to come. When the literal's row is next widened, it gets place for all that
-    /// were expected.
+    /// One more clause with a literal is to come. When the literal's row is next widened, it gets place for as many as
+    /// were ever expected.
     pub fn expect(&mut self, l: Lit)
         requires { word_of l < length self.old.lists }
         ensures { self.new ≡ self.old }
