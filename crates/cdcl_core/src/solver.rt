@@ -80,8 +80,8 @@ impl Solver {
         }
     }
 
-    /// Says that a clause is to be added. Whoever calls this for many clauses before the first of them is added gives each
-    /// row of watches its place at once. It changes no answer.
+    /// Says that a clause is to be added. Whoever calls this for many clauses before the first of them is added gives
+    /// each row of watches its place at once. It changes no answer.
     pub fn expect(&mut self, lits: &[Lit])
         requires working { self.old.failed ≡ false }
         requires there { AreThere self.old.vars lits.now }

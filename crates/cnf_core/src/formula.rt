@@ -18,8 +18,8 @@ use std::mem;
 pub struct ClauseNo(pub u32);
 
 /// Variables 1 to `vars` and a list of clauses over them, whose words are at most `room`. The literals of all clauses
-/// are in one vector, and a second one says where each clause ends. A third is the memory that the last clause was gathered
-/// in, for the next one; it is empty behind one that was left out and behind an error.
+/// are in one vector, and a second one says where each clause ends. A third is the memory that the last clause was
+/// gathered in, for the next one; it is empty behind one that was left out and behind an error.
 #[derive(Drop)]
 pub struct Formula {
     alloc: Global,

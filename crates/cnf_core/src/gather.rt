@@ -35,8 +35,8 @@ fn put_literal(lits: &mut Vec<Lit>, l: Lit) -> Result<bool, AllocError>
     Ok(true)
 }
 
-/// The literals of the clause "one of unless is true, or one of ts", or None where there is none. They stand in the memory
-/// of `spare`, whose own literals go.
+/// The literals of the clause "one of unless is true, or one of ts", or None where there is none. They stand in the
+/// memory of `spare`, whose own literals go.
 pub(crate) fn gather(
     spare: Vec<Lit>,
     unless: &[Lit],
