@@ -28,8 +28,8 @@ pub struct Search {
     pub phases: Vec<bool>,
     /// The other clauses.
     pub own: Vec<Clause>,
-    /// The memory of the last clause that was attached, for the next one that is given; empty behind another clause and
-    /// behind an error.
+    /// The memory of the clause that was given before, for the next one. It is empty where that clause wasn't kept by
+    /// `keep_attached`, and after an error.
     pub spare: Vec<Lit>,
     /// The words of all clauses.
     pub words: u32,
