@@ -14,7 +14,7 @@ ghost use Rattle.lex_minimise.specs.Search.{task_with, IsReadyWith, KnowsWith};
 use crate::search::Known;
 use crate::together::drawn_together;
 use cdcl_core::{Answer, SolveFault, Solver};
-use cnf_core::{Lit, Var};
+use cnf_core::{Lit, Truths, Var};
 use drawing_cnf::Bounds;
 use model_decode::{decode, encode_drawing};
 use plan_core::OutOfMemory;
@@ -61,17 +61,18 @@ pub(crate) fn assumptions(
     Ok(assume)
 }
 
-/// Gives the solver the truth values of the drawing to begin with.
+/// Gives the solver the truth values to begin with: those of the drawing, or without one all false.
 fn begin_near(known: &Known, solver: &mut Solver, near: Option<&Drawing>) -> Result<(), OutOfMemory>
     requires ready { IsReadyWith known.now solver.old }
     requires near { MatchOption near ⊤ (λ d.
         Lawful known.now.encoded.graph (is_above known.now.encoded.order) known.now.encoded.grid d.now) }
     ensures { solver.new ≡ solver.old }
 {
-    if let Some(d) = near {
-        let model = encode_drawing(known.alloc, &known.encoded, d)?;
-        solver.suggest(&model);
-    }
+    let begun = match near {
+        Some(d) => encode_drawing(known.alloc, &known.encoded, d)?,
+        None => Truths::all_false(known.alloc, solver.vars())?,
+    };
+    solver.suggest(&begun);
     Ok(())
 }
 

@@ -1,4 +1,4 @@
-// A drawing drawn together: without the columns that no line needs.
+// A drawing drawn together: without the rows and columns that no line needs.
 ghost use Rattle.std.specs.Prelude.{◌≡◌, length, IfOk, IfSome, IsTrue};
 ghost use Rattle.plan_core.specs.Lawful.{Lawful};
 ghost use Rattle.plan_core.specs.Values.{values_of};
@@ -13,39 +13,58 @@ use plan_geometry::{Drawing, Line, values};
 use search_least::Below;
 use std::alloc::Global;
 
-/// The point where this column is left out: further east points move west by one.
-fn moved(p: Point, column: u16) -> Point {
-    if p.x > column {
-        Point { x: p.x - 1, y: p.y }
-    } else {
-        p
+/// What is left out of a drawing: a column, so that points further east move west by one; or a row, so that points
+/// above it move down by one.
+#[derive(Clone, Copy)]
+enum Cut {
+    Column(u16),
+    Row(u16),
+}
+
+/// Where the point is then.
+fn moved(p: Point, cut: Cut) -> Point {
+    match cut {
+        Cut::Column(x) => {
+            if p.x > x {
+                Point { x: p.x - 1, y: p.y }
+            } else {
+                p
+            }
+        }
+        Cut::Row(y) => {
+            if p.y > y {
+                Point { x: p.x, y: p.y - 1 }
+            } else {
+                p
+            }
+        }
     }
 }
 
-/// The points where this column is left out.
-fn moved_points(alloc: Global, points: &[Point], column: u16) -> Result<Vec<Point>, OutOfMemory>
+/// Where the points are then.
+fn moved_points(alloc: Global, points: &[Point], cut: Cut) -> Result<Vec<Point>, OutOfMemory>
     ensures { IfOk result (λ v. length v.items ≡ length points.now) }
 {
     let mut found = Vec::with_capacity(alloc, points.len())?;
     for p in points {
-        found.push(moved(*p, column))?;
+        found.push(moved(*p, cut))?;
     }
     Ok(found)
 }
 
-/// The drawing where this column is left out, unless a line would be none any more.
-fn without_column(alloc: Global, d: &Drawing, column: u16) -> Result<Option<Drawing>, OutOfMemory>
+/// The drawing where this is left out, unless a line would be none any more.
+fn without(alloc: Global, d: &Drawing, cut: Cut) -> Result<Option<Drawing>, OutOfMemory>
     ensures { IfOk result (λ o. IfSome o (λ n. (length n.places ≡ length d.now.places)
         × (length n.lines ≡ length d.now.lines))) }
 {
     let mut lines = Vec::with_capacity(alloc, d.lines().len())?;
     for line in d.lines() {
-        match Line::new(&moved_points(alloc, line.points(), column)?) {
+        match Line::new(&moved_points(alloc, line.points(), cut)?) {
             Some(shorter) => lines.push(shorter)?,
             None => return Ok(None),
         }
     }
-    let places = moved_points(alloc, d.places(), column)?;
+    let places = moved_points(alloc, d.places(), cut)?;
     Ok(Some(Drawing::new(alloc, &places, &lines)?))
 }
 
@@ -59,8 +78,33 @@ fn is_below(d: &Drawing, bounds: &[Below]) -> bool
         .all(|bound| measured.of(bound.criterion) < bound.limit)
 }
 
-/// The drawing without the columns that no line needs, from the east to the west, as long as it is lawful and meets the
-/// bounds. So the next drawing is looked for far below the one that the solver found.
+/// The drawing where this is left out, or the drawing as it is, where that isn't lawful or doesn't meet the bounds.
+fn cut_out(
+    alloc: Global,
+    encoded: &Encoded,
+    bounds: &[Below],
+    d: Drawing,
+    cut: Cut,
+) -> Result<Drawing, OutOfMemory>
+    requires whole { IsWhole encoded.now }
+    requires lawful { Lawful encoded.now.graph (is_above encoded.now.order) encoded.now.grid d }
+    requires met { AreMet (values_of d) bounds.now }
+    ensures lawful { IfOk result (Lawful encoded.now.graph (is_above encoded.now.order) encoded.now.grid) }
+    ensures met { IfOk result (λ n. AreMet (values_of n) bounds.now) }
+{
+    if let Some(less) = without(alloc, &d, cut)? {
+        if is_below(&less, bounds)
+            && broken(encoded.graph(), encoded.order(), encoded.grid(), &less).is_none()
+        {
+            return Ok(less);
+        }
+    }
+    Ok(d)
+}
+
+/// The drawing without the rows and columns that no line needs, from the top down and from the east to the west, as
+/// long as it is lawful and meets the bounds. So the next drawing is looked for far below the one that the solver
+/// found.
 pub(crate) fn drawn_together(
     alloc: Global,
     encoded: &Encoded,
@@ -74,15 +118,11 @@ pub(crate) fn drawn_together(
     ensures met { IfOk result (λ n. AreMet (values_of n) bounds.now) }
 {
     let mut best = d;
-    let end = encoded.grid().width();
-    for column in (0..end).rev() {
-        if let Some(narrower) = without_column(alloc, &best, column)? {
-            if is_below(&narrower, bounds)
-                && broken(encoded.graph(), encoded.order(), encoded.grid(), &narrower).is_none()
-            {
-                best = narrower;
-            }
-        }
+    for row in (0..encoded.grid().height()).rev() {
+        best = cut_out(alloc, encoded, bounds, best, Cut::Row(row))?;
+    }
+    for column in (0..encoded.grid().width()).rev() {
+        best = cut_out(alloc, encoded, bounds, best, Cut::Column(column))?;
     }
     Ok(best)
 }

@@ -42,7 +42,8 @@ fn question(
     Ok(bounds)
 }
 
-/// Asks for less of the criterion at place `i`, with those before it held, until there is none.
+/// Asks for less of the criterion at place `i`, with those before it held, until there is none. Fewer rows and fewer
+/// bends are looked for from nothing, since those of the best drawing are in the way; less diagonal and width near it.
 pub(crate) fn lower<O: Oracle>(
     alloc: Global,
     oracle: &mut O,
@@ -79,7 +80,11 @@ pub(crate) fn lower<O: Oracle>(
     let mut value = values(&best).of(c);
     while value > 0 {
         let bounds = question(alloc, held, c, value)?;
-        match oracle.ask(&bounds, Some(&best))? {
+        let near = match c {
+            Criterion::Height | Criterion::Bends => None,
+            Criterion::Diagonal | Criterion::Width => Some(&best),
+        };
+        match oracle.ask(&bounds, near)? {
             Reply::Found(d) => {
                 value = values(&d).of(c);
                 best = d;

@@ -254,25 +254,25 @@ counted_all rows got spaces then es w k v x same_rows same_spaces h view same be
 
 -- one more clause is expected with the literal of a word
 module _ (rows : List Row) (spaces : List Space) (es : List Entry) (w n : ℕ) (short : w < length spaces) where
-  abbrev hoped : Space
-  hoped = record (space_at spaces w) { expected = n }
+  abbrev expecting : Space
+  expecting = record (space_at spaces w) { expected = n }
 
-  pub hoped_view : rowed_of rows (set spaces w hoped) es ≡ rowed_of rows spaces es
-  hoped_view = rowed_same rows (set spaces w hoped) es (rowed_of rows spaces es) refl refl
-      (map-set (λ (s : Space). s.clauses) spaces w hoped
+  pub expected_view : rowed_of rows (set spaces w expecting) es ≡ rowed_of rows spaces es
+  expected_view = rowed_same rows (set spaces w expecting) es (rowed_of rows spaces es) refl refl
+      (map-set (λ (s : Space). s.clauses) spaces w expecting
       ∙ ap (set (map (λ (s : Space). s.clauses) spaces) w) (sym (get_or-map (λ (s : Space). s.clauses) spaces w no_space 0 short))
       ∙ set-get_or (map (λ (s : Space). s.clauses) spaces) w 0)
 
 -- the same of tables that are read again
-pub hoped_all : (rows : List Row) (spaces : List Space) (es : List Entry) (w k n : ℕ) (v : Rowed) (x : Space) → AreRows rows spaces es →
+pub expected_all : (rows : List Row) (spaces : List Space) (es : List Entry) (w k n : ℕ) (v : Rowed) (x : Space) → AreRows rows spaces es →
     rowed_of rows spaces es ≡ v → w ≡ k → k < length v.lists → x ≡ get_or spaces w x →
     rowed_of rows (set spaces w (record { clauses = x.clauses; size = x.size; expected = n })) es ≡ v
-hoped_all rows spaces es w k n v x h view same below read =
+expected_all rows spaces es w k n v x h view same below read =
     let size = h.size in
     let short : w < length spaces = omega (arith, length-map rows (entries_of es), ap (λ (y : Rowed). length y.lists) view) in
     let is : x ≡ space_at spaces w = read ∙ get_or_default spaces w x no_space short in
     subst (λ (y : Space). rowed_of rows (set spaces w (record { clauses = y.clauses; size = y.size; expected = n })) es ≡ v) (sym is)
-    (hoped_view rows spaces es w n short ∙ view)
+    (expected_view rows spaces es w n short ∙ view)
 
 pub rooms_size : (rows : List Row) (spaces : List Space) (es : List Entry) (v : Rowed) → AreRows rows spaces es → rowed_of rows spaces es ≡ v →
     length v.rooms ≡ length v.lists
