@@ -61,18 +61,18 @@ pub(crate) fn assumptions(
     Ok(assume)
 }
 
-/// Gives the solver the truth values to begin with: those of the drawing, or without one all false.
+/// Suggests truth values to the solver: those of the drawing, or all false where there is none.
 fn begin_near(known: &Known, solver: &mut Solver, near: Option<&Drawing>) -> Result<(), OutOfMemory>
     requires ready { IsReadyWith known.now solver.old }
     requires near { MatchOption near ⊤ (λ d.
         Lawful known.now.encoded.graph (is_above known.now.encoded.order) known.now.encoded.grid d.now) }
     ensures { solver.new ≡ solver.old }
 {
-    let begun = match near {
+    let truths = match near {
         Some(d) => encode_drawing(known.alloc, &known.encoded, d)?,
         None => Truths::all_false(known.alloc, solver.vars())?,
     };
-    solver.suggest(&begun);
+    solver.suggest(&truths);
     Ok(())
 }
 

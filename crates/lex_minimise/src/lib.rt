@@ -3,9 +3,9 @@
 //! `minimise` gives the drawings' clauses to a solver and searches as `search_least` says. `front` finds the front of
 //! two criteria as `trade_off` says. `minimise_with` and `front_with` do so with a solver that a caller hands in.
 //! `search` makes one thing of the formula, the solver and the log; this is what is asked. `asking` turns a question
-//! into assumptions and an answer into a drawing. `building` adds a criterion's clauses and bounds, whole or not at
-//! all. `telling` gives clauses and Bound lines to the log, one after another. Another search gives its formula to a
-//! solver by `add_clauses` and `tell_clauses`.
+//! into assumptions and an answer into a drawing, which `together` makes smaller. `building` adds a criterion's clauses
+//! and bounds, whole or not at all. `telling` gives clauses and Bound lines to the log, one after another. Another
+//! search gives its formula to a solver by `add_clauses` and `tell_clauses`.
 //!
 //! `specs/Task` says what is searched, `specs/Told` what a solver has that got the same lines as a log. `specs/Known`
 //! says when the search can be asked and which lines are known then. `specs/Search` says the same of what it keeps as

@@ -42,8 +42,8 @@ fn question(
     Ok(bounds)
 }
 
-/// Asks for less of the criterion at place `i`, with those before it held, until there is none. Fewer rows and fewer
-/// bends are looked for from nothing, since those of the best drawing are in the way; less diagonal and width near it.
+/// Asks for less of the criterion at place `i`, with those before it held, until there is none. Less height and fewer
+/// bends are looked for from nothing, less diagonal and less width near the best drawing.
 pub(crate) fn lower<O: Oracle>(
     alloc: Global,
     oracle: &mut O,

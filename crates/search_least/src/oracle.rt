@@ -65,7 +65,7 @@ pub trait Oracle: LogTeller {
         ensures { result ≡ greatest_of (task self.now) c };
 
     /// Asks for a drawing that meets all bounds, which are of different criteria. The search begins near the drawing
-    /// that is given, or from nothing.
+    /// that is given, or from nothing where none is.
     fn ask(&mut self, bounds: &[Below], near: Option<&Drawing>) -> Result<Reply, MinFault>
         requires ready { Self.ready self.old }
         requires near { MatchOption near ⊤ (λ d. IsLawful (task self.old) d.now) }
