@@ -80,7 +80,7 @@ class Sessions(unittest.TestCase):
             self.assertTrue(signals.wait_until(lambda: len(signals.session_of(job.pid)) == 3, 5))
         finally:
             signals.clean_up(signals.Started(job, None))
-        self.assertEqual(signals.session_of(job.pid), [])
+        self.assertTrue(signals.wait_until(lambda: not signals.session_of(job.pid), 5))
 
 
 @unittest.skipUnless(os.access(PROGRAM, os.X_OK), "no program is built")
