@@ -57,11 +57,7 @@ fn moved_points(
 }
 
 /// The drawing where this is left out, unless a line would be none any more.
-fn without(
-    alloc: Global,
-    d: &Drawing,
-    left_out: LeftOut,
-) -> Result<Option<Drawing>, OutOfMemory>
+fn without(alloc: Global, d: &Drawing, left_out: LeftOut) -> Result<Option<Drawing>, OutOfMemory>
     ensures { IfOk result (λ o. IfSome o (λ n. (length n.places ≡ length d.now.places)
         × (length n.lines ≡ length d.now.lines))) }
 {
