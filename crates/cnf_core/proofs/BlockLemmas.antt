@@ -1,5 +1,5 @@
 -- Calls that make variables and add clauses, one after another or in a loop.
-use Rattle.std.proofs.Common.{◌≡◌, ℕ, ◌+◌, ◌<◌, ◌≤◌, [], ◌++◌, refl, sym, ◌∙◌, ap, subst, inl, inr, arith, append_assoc, append-nil, Ok, Err}
+use Rattle.std.proofs.Common.{◌≡◌, ℕ, ◌+◌, ◌<◌, ◌≤◌, [], ◌++◌, sym, ◌∙◌, ap, subst, inl, inr, arith, append_assoc, append-nil, Ok, Err}
 use Rattle.std.specs.Prelude.{◌-◌, Result, IsErr, IsErrOf}
 use Rattle.cnf_core.specs.declared.fault.CnfFault.{CnfFault}
 use Rattle.cnf_core.specs.declared.fault.CnfFault.TheVariants.{Room}

@@ -159,6 +159,14 @@ within_append : (vars : ℕ) (ls : List Literal) (ts : List LitOrTruth) → AreT
 within_append vars [] ts h k = k
 within_append vars (l ∷ ls) ts h k = (h.0, within_append vars ls ts h.1 k)
 
+pub flips_within : (vars : ℕ) (ps ts : List LitOrTruth) → AreWithin vars ps → AreWithin vars ts → AreWithin vars (map flip ps ++ ts)
+flips_within vars [] ts h k = k
+flips_within vars (p ∷ ps) ts h k = (flip_within vars p h.0, flips_within vars ps ts h.1 k)
+
+pub flips_length : (ps ts : List LitOrTruth) → length (map flip ps ++ ts) ≡ length ps + length ts
+flips_length [] ts = omega arith
+flips_length (p ∷ ps) ts = omega (arith, flips_length ps ts)
+
 -- a clause that was gathered has distinct variables
 gathered_distinct : (front : List Literal) (ts : List LitOrTruth) (c : List Literal) → AreDistinct front → gathered front ts ≡ c ∷ [] → AreDistinct c
 gathered_distinct front [] c d e = let z : front ≡ c = cc in subst AreDistinct z d

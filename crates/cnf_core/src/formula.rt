@@ -1,8 +1,8 @@
 // Formulas.
 ghost use Rattle.std.specs.Prelude.{◌≡◌, ◌≢◌, ◌≤◌, ◌<◌, ◌+◌, ◌↔◌, [], ◌∷◌, ◌++◌, Some, length, slice_get, slice_index};
-ghost use Rattle.std.specs.Prelude.{take, drop, ◌-◌, IsOk, IfOk, OnOk, OnErr, IsErrOf};
+ghost use Rattle.std.specs.Prelude.{take, drop, map, ◌-◌, IsOk, IfOk, OnOk, OnErr, IsErrOf};
 ghost use Rattle.cnf_core.specs.Clause.{AreDistinct, AreThere, words_of};
-ghost use Rattle.cnf_core.specs.LitOrTruth.{AreWithin, clause_of};
+ghost use Rattle.cnf_core.specs.LitOrTruth.{AreWithin, flip, clause_of};
 ghost use Rattle.cnf_core.specs.Formula.{IsFormula, Full, clause_at, AreEnds};
 ghost use Rattle.cnf_core.specs.Added.{AddsClauses};
 
@@ -162,18 +162,25 @@ impl Formula {
         Ok(number)
     }
 
-    /// Adds the clause "one of `unless` is true, or one of `ts`", each literal once and without
-    /// truth values. Where `true` is among `ts`, or a literal beside its negation, every assignment
-    /// satisfies it, and nothing is added. `Room` comes only where its words would pass the room.
-    pub fn add_clause(&mut self, unless: &[Lit], ts: &[LitOrTruth]) -> Result<(), CnfFault>
+    /// Adds the clause "one of `unless` is true, or where all premises are true, one of the conclusions is", each
+    /// literal once and without truth values. Where every assignment satisfies it by a truth value, or by a literal
+    /// beside its negation, nothing is added. `Room` comes only where its words would pass the room.
+    pub fn add_rule(
+        &mut self,
+        unless: &[Lit],
+        premises: &[LitOrTruth],
+        conclusions: &[LitOrTruth],
+    ) -> Result<(), CnfFault>
         requires there { AreThere self.old.vars unless.now }
-        requires within { AreWithin self.old.vars ts.now }
-        ensures adds { AddsClauses result self.old self.new (clause_of unless.now ts.now)
-            (length unless.now + length ts.now) }
+        requires premises { AreWithin self.old.vars premises.now }
+        requires conclusions { AreWithin self.old.vars conclusions.now }
+        ensures adds { AddsClauses result self.old self.new
+            (clause_of unless.now (map flip premises.now ++ conclusions.now))
+            (length unless.now + (length premises.now + length conclusions.now)) }
         ensures err { OnErr result (self.new ≡ self.old) }
     {
         let spare = mem::replace(&mut self.spare, Vec::new(self.alloc));
-        match gather(spare, unless, ts)? {
+        match gather(spare, unless, premises, conclusions)? {
             None => Ok(()),
             Some(lits) => {
                 self.add(&lits)?;
@@ -181,6 +188,18 @@ impl Formula {
                 Ok(())
             }
         }
+    }
+
+    /// Adds the clause "one of `unless` is true, or one of `ts`": the rule without premises, with what `add_rule` says
+    /// of clauses that are always satisfied, and of `Room`.
+    pub fn add_clause(&mut self, unless: &[Lit], ts: &[LitOrTruth]) -> Result<(), CnfFault>
+        requires there { AreThere self.old.vars unless.now }
+        requires within { AreWithin self.old.vars ts.now }
+        ensures adds { AddsClauses result self.old self.new (clause_of unless.now ts.now)
+            (length unless.now + length ts.now) }
+        ensures err { OnErr result (self.new ≡ self.old) }
+    {
+        self.add_rule(unless, &[], ts)
     }
 }
 

@@ -1,9 +1,9 @@
 // Clauses of literals and truth values.
-ghost use Rattle.std.specs.Prelude.{◌≡◌, List, [], ◌∷◌, cond, map, option_map, option_to_list, IfOk};
+ghost use Rattle.std.specs.Prelude.{◌≡◌, List, [], ◌∷◌, ◌++◌, cond, map, option_map, option_to_list, IfOk};
 ghost use Rattle.cnf_core.specs.declared.literal.LitOrTruth.{LitOrTruth as GivenLit};
 ghost use Rattle.cnf_core.specs.declared.literal.LitOrTruth.TheVariants.{Lit as OfLit};
 ghost use Rattle.cnf_core.specs.Lit.{has as has_literal};
-ghost use Rattle.cnf_core.specs.LitOrTruth.{gathered, clause_of};
+ghost use Rattle.cnf_core.specs.LitOrTruth.{gathered, flip, clause_of};
 
 use crate::{Lit, LitOrTruth};
 use std::alloc::AllocError;
@@ -35,22 +35,11 @@ fn put_literal(lits: &mut Vec<Lit>, l: Lit) -> Result<bool, AllocError>
     Ok(true)
 }
 
-/// The literals of the clause "one of unless is true, or one of ts", or None where there is none. They stand in the
-/// memory of `spare`, whose own literals go.
-pub(crate) fn gather(
-    spare: Vec<Lit>,
-    unless: &[Lit],
-    ts: &[LitOrTruth],
-) -> Result<Option<Vec<Lit>>, AllocError>
-    ensures { IfOk result (λ o. option_to_list (option_map (λ c. c.items) o) ≡ clause_of unless.now ts.now) }
+/// The literals of the clause of those that are there and of those to come, or None where there is none.
+fn gather_rest(lits: Vec<Lit>, ts: &[LitOrTruth]) -> Result<Option<Vec<Lit>>, AllocError>
+    ensures { IfOk result (λ o. option_to_list (option_map (λ c. c.items) o) ≡ gathered lits.items ts.now) }
 {
-    let mut lits = spare;
-    lits.clear();
-    for l in unless {
-        if !put_literal(&mut lits, *l)? {
-            return Ok(None);
-        }
-    }
+    let mut lits = lits;
     for t in ts {
         match t {
             LitOrTruth::True => return Ok(None),
@@ -63,4 +52,36 @@ pub(crate) fn gather(
         }
     }
     Ok(Some(lits))
+}
+
+/// The literals of the clause "one of unless is true, or one of the premises isn't, or one of the conclusions is", or
+/// None where there is none. They stand in the memory of `spare`, whose own literals go.
+pub(crate) fn gather(
+    spare: Vec<Lit>,
+    unless: &[Lit],
+    premises: &[LitOrTruth],
+    conclusions: &[LitOrTruth],
+) -> Result<Option<Vec<Lit>>, AllocError>
+    ensures { IfOk result (λ o. option_to_list (option_map (λ c. c.items) o)
+        ≡ clause_of unless.now (map flip premises.now ++ conclusions.now)) }
+{
+    let mut lits = spare;
+    lits.clear();
+    for l in unless {
+        if !put_literal(&mut lits, *l)? {
+            return Ok(None);
+        }
+    }
+    for p in premises {
+        match p {
+            LitOrTruth::True => {}
+            LitOrTruth::False => return Ok(None),
+            LitOrTruth::Lit(l) => {
+                if !put_literal(&mut lits, l.negated())? {
+                    return Ok(None);
+                }
+            }
+        }
+    }
+    gather_rest(lits, conclusions)
 }

@@ -1,6 +1,5 @@
 -- Where the variables of an edge lie.
-use Rattle.std.proofs.Common.{◌≡◌, ℕ, zero, suc, ◌+◌, ◌*◌, ◌≤◌, ◌<◌, [], ◌∷◌, inl, inr, ap, arith}
-use Rattle.std.specs.Prelude.{map}
+use Rattle.std.proofs.Common.{rules, ◌≡◌, ℕ, zero, suc, ◌+◌, ◌*◌, ◌≤◌, ◌<◌, [], ◌∷◌, inl, inr, ap, arith}
 use Rattle.std.proofs.Math.Nat.{mul-le-mul_right}
 use Rattle.std.proofs.lemmas.Bool.Decides.{eqb_tells}
 use Rattle.cnf_core.specs.Lit.{positive_of}
@@ -11,7 +10,7 @@ use Rattle.order_int.specs.IntVars.{IntVars, IntIsThere}
 use Rattle.order_int.specs.OrderInt.{int_at_least}
 use Rattle.order_int.proofs.IntLemmas.{at_least_within}
 use Rattle.edge_shape.specs.EdgeVars.{EdgeLits, before, column, edge_lits, edge_size, IsSpot}
-use Rattle.edge_shape.specs.Rules.{literals_of, AllWithin}
+use Rattle.edge_shape.specs.Rules.{AllWithin}
 use Rattle.edge_shape.specs.Edge.{range_rules, step_rules, seen_rules, shape_rules, end_rules, slope_rules, inner_rules, end_piece_rules, bend_rules}
 use Rattle.edge_shape.specs.Edge.{level_rules, beside_end_rules}
 
@@ -64,49 +63,14 @@ step_literals first high width vars c p there lt = record {
   seen_before = before_within first high width vars c 3 p there lt (omega arith);
 }
 
-pub step_within : (vars : ℕ) (e : EdgeLits) (c : ℕ) → StepWithin vars e c → AllWithin vars (map literals_of (step_rules e c))
-step_within vars e c s = (
-  ((s.up, (s.here, (tt, (tt, (tt, tt))))), omega arith),
-  (
-    ((s.up, (s.next, (tt, (tt, (tt, tt))))), omega arith),
-    (
-      ((s.down, (s.here, (tt, (tt, (tt, tt))))), omega arith),
-      (
-        ((s.down, (s.next, (tt, (tt, (tt, tt))))), omega arith),
-        (((s.up, (s.down, (tt, (tt, (tt, tt))))), omega arith), tt),
-      ),
-    ),
-  ),
-)
+pub step_within : (vars : ℕ) (e : EdgeLits) (c : ℕ) → StepWithin vars e c → AllWithin vars (step_rules e c)
+step_within vars e c s = search rules
 
-pub seen_within : (vars : ℕ) (e : EdgeLits) (c : ℕ) → StepWithin vars e c → AllWithin vars (map literals_of (seen_rules e c))
-seen_within vars e c s =
-    let b = s.seen_before in
-    let n = flip_within vars (before e.seen c) s.seen_before in (
-      ((s.here, (s.next, (s.up, (s.down, (s.seen, tt))))), omega arith),
-      (
-        ((n, (s.seen, (tt, (tt, (tt, tt))))), omega arith),
-        (
-          ((s.seen, (b, (s.here, (tt, (tt, tt))))), omega arith),
-          (
-            ((s.seen, (b, (s.next, (tt, (tt, tt))))), omega arith),
-            (((s.seen, (s.up, (b, (tt, (tt, tt))))), omega arith), (((s.seen, (s.down, (b, (tt, (tt, tt))))), omega arith), tt)),
-          ),
-        ),
-      ),
-    )
+pub seen_within : (vars : ℕ) (e : EdgeLits) (c : ℕ) → StepWithin vars e c → AllWithin vars (seen_rules e c)
+seen_within vars e c s = search rules
 
-pub shape_within : (vars : ℕ) (e : EdgeLits) (c : ℕ) → StepWithin vars e c → AllWithin vars (map literals_of (shape_rules e c))
-shape_within vars e c s =
-    let u = flip_within vars (before e.up c) s.up_before in
-    let d = flip_within vars (before e.down c) s.down_before in
-    let n = flip_within vars (before e.seen c) s.seen_before in (
-      ((u, (s.down, (tt, (tt, (tt, tt))))), omega arith),
-      (
-        ((d, (s.up, (tt, (tt, (tt, tt))))), omega arith),
-        (((n, (u, (s.next, (s.up, (tt, tt))))), omega arith), (((n, (d, (s.next, (s.down, (tt, tt))))), omega arith), tt)),
-      ),
-    )
+pub shape_within : (vars : ℕ) (e : EdgeLits) (c : ℕ) → StepWithin vars e c → AllWithin vars (shape_rules e c)
+shape_within vars e c s = search rules
 
 -- the two literals of a near clause
 pub near_within : (vars : ℕ) (a b : IntVars) (k : ℕ) → IntIsThere vars a → IntIsThere vars b →
@@ -145,109 +109,31 @@ whole_literals first high width vars p there = let from = p.from in record {
 }
 
 pub range_within : (vars : ℕ) (e : EdgeLits) (x z : IntVars) (c : ℕ) → IsThere vars (positive_of (e.inside c)) → IntIsThere vars x → IntIsThere vars z →
-    AllWithin vars (map literals_of (range_rules e x z c))
-range_within vars e x z c i tx tz =
-    let a = at_least_within vars x (c + 1) tx in
-    let b = at_least_within vars z c tz in (
-      ((i, (flip_within vars (int_at_least x (c + 1)) a, (tt, (tt, (tt, tt))))), omega arith),
-      (((i, (b, (tt, (tt, (tt, tt))))), omega arith), (((flip_within vars (int_at_least z c) b, (a, (i, (tt, (tt, tt))))), omega arith), tt)),
-    )
+    AllWithin vars (range_rules e x z c)
+range_within vars e x z c i tx tz = search (rules, at_least_within)
 
 pub inner_within : (vars : ℕ) (e : EdgeLits) (c : ℕ) → IsThere vars (positive_of (e.bend (c + 1))) → IsThere vars (positive_of (e.inside c)) →
     IsThere vars (positive_of (e.inside (c + 2))) → IsThere vars (positive_of (e.up c)) → IsThere vars (positive_of (e.up (c + 1))) →
-    IsThere vars (positive_of (e.down c)) → IsThere vars (positive_of (e.down (c + 1))) → AllWithin vars (map literals_of (inner_rules e c))
-inner_within vars e c b i k u p d q = (
-  ((b, (i, (tt, (tt, (tt, tt))))), omega arith),
-  (
-    ((b, (k, (tt, (tt, (tt, tt))))), omega arith),
-    (
-      ((b, (u, (p, (tt, (tt, tt))))), omega arith),
-      (
-        ((b, (d, (q, (tt, (tt, tt))))), omega arith),
-        (
-          ((b, (u, (d, (p, (q, tt))))), omega arith),
-          (
-            ((i, (k, (u, (p, (b, tt))))), omega arith),
-            (
-              ((i, (k, (p, (u, (b, tt))))), omega arith),
-              (((i, (k, (d, (q, (b, tt))))), omega arith), (((i, (k, (q, (d, (b, tt))))), omega arith), tt)),
-            ),
-          ),
-        ),
-      ),
-    ),
-  ),
-)
+    IsThere vars (positive_of (e.down c)) → IsThere vars (positive_of (e.down (c + 1))) → AllWithin vars (inner_rules e c)
+inner_within vars e c b i k u p d q = search rules
 
-pub through_within : (vars : ℕ) (e : EdgeLits) (c : ℕ) → WholeWithin vars e → StepWithin vars e c → AllWithin vars (map literals_of (end_piece_rules e c))
-through_within vars e c w s = (
-  ((s.up, (w.west_up, (w.east_up, (tt, (tt, tt))))), omega arith),
-  (((s.down, (w.west_down, (w.east_down, (tt, (tt, tt))))), omega arith), tt),
-)
+pub through_within : (vars : ℕ) (e : EdgeLits) (c : ℕ) → WholeWithin vars e → StepWithin vars e c → AllWithin vars (end_piece_rules e c)
+through_within vars e c w s = search rules
 
-pub end_within : (vars : ℕ) (e : EdgeLits) → WholeWithin vars e → AllWithin vars (map literals_of (end_rules e))
-end_within vars e w = (((w.west_up, (w.west_down, (tt, (tt, (tt, tt))))), omega arith), (((w.east_up, (w.east_down, (tt, (tt, (tt, tt))))), omega arith), tt))
+pub end_within : (vars : ℕ) (e : EdgeLits) → WholeWithin vars e → AllWithin vars (end_rules e)
+end_within vars e w = search rules
 
 pub slope_within : (vars : ℕ) (e : EdgeLits) (x z : IntVars) (c : ℕ) → WholeWithin vars e → StepWithin vars e c → IntIsThere vars x → IntIsThere vars z →
-    AllWithin vars (map literals_of (slope_rules e x z c))
-slope_within vars e x z c w s tx tz =
-    let a = flip_within vars (int_at_least x c) (at_least_within vars x c tx) in
-    let b = at_least_within vars x (c + 1) tx in
-    let f = flip_within vars (int_at_least z (c + 1)) (at_least_within vars z (c + 1) tz) in
-    let g = at_least_within vars z (c + 1 + 1) tz in (
-      ((a, (w.west_up, (b, (s.up, (tt, tt))))), omega arith),
-      (
-        ((a, (s.up, (b, (w.west_up, (tt, tt))))), omega arith),
-        (
-          ((a, (w.west_down, (b, (s.down, (tt, tt))))), omega arith),
-          (
-            ((a, (s.down, (b, (w.west_down, (tt, tt))))), omega arith),
-            (
-              ((f, (w.east_up, (g, (s.up, (tt, tt))))), omega arith),
-              (
-                ((f, (s.up, (g, (w.east_up, (tt, tt))))), omega arith),
-                (((f, (w.east_down, (g, (s.down, (tt, tt))))), omega arith), (((f, (s.down, (g, (w.east_down, (tt, tt))))), omega arith), tt)),
-              ),
-            ),
-          ),
-        ),
-      ),
-    )
+    AllWithin vars (slope_rules e x z c)
+slope_within vars e x z c w s tx tz = search (rules, at_least_within)
 
 pub bend_within : (vars b r f l : ℕ) → IsThere vars (positive_of b) → IsThere vars (positive_of r) → IsThere vars (positive_of f) →
-    IsThere vars (positive_of l) → AllWithin vars (map literals_of (bend_rules b r f l))
-bend_within vars b r f l tb tr tf tl = (
-  ((tb, (tr, (tf, (tt, (tt, tt))))), omega arith),
-  (((tb, (tl, (tt, (tt, (tt, tt))))), omega arith), (((tr, (tl, (tb, (tt, (tt, tt))))), omega arith), (((tf, (tl, (tb, (tt, (tt, tt))))), omega arith), tt))),
-)
+    IsThere vars (positive_of l) → AllWithin vars (bend_rules b r f l)
+bend_within vars b r f l tb tr tf tl = search rules
 
-pub level_within : (vars : ℕ) (e : EdgeLits) (l : ℕ) → WholeWithin vars e → IsThere vars (positive_of l) → AllWithin vars (map literals_of (level_rules e l))
-level_within vars e l w s = (
-  ((w.west_up, (w.west_down, (s, (tt, (tt, tt))))), omega arith),
-  (
-    ((w.east_up, (w.east_down, (s, (tt, (tt, tt))))), omega arith),
-    (
-      ((w.west_up, (w.east_up, (s, (tt, (tt, tt))))), omega arith),
-      (
-        ((w.west_down, (w.east_down, (s, (tt, (tt, tt))))), omega arith),
-        (
-          ((w.east_up, (w.west_up, (s, (tt, (tt, tt))))), omega arith),
-          (((w.east_down, (w.west_down, (s, (tt, (tt, tt))))), omega arith), tt),
-        ),
-      ),
-    ),
-  ),
-)
+pub level_within : (vars : ℕ) (e : EdgeLits) (l : ℕ) → WholeWithin vars e → IsThere vars (positive_of l) → AllWithin vars (level_rules e l)
+level_within vars e l w s = search rules
 
 pub edge_within : (vars : ℕ) (e : EdgeLits) (a b : IntVars) (high : ℕ) → WholeWithin vars e → IntIsThere vars a → IntIsThere vars b →
-    AllWithin vars (map literals_of (beside_end_rules e a b high))
-edge_within vars e a b high w ta tb = (
-  ((w.west_down, (at_least_within vars a 1 ta, (tt, (tt, (tt, tt))))), omega arith),
-  (
-    ((w.west_up, (flip_within vars (int_at_least a high) (at_least_within vars a high ta), (tt, (tt, (tt, tt))))), omega arith),
-    (
-      ((w.east_up, (at_least_within vars b 1 tb, (tt, (tt, (tt, tt))))), omega arith),
-      (((w.east_down, (flip_within vars (int_at_least b high) (at_least_within vars b high tb), (tt, (tt, (tt, tt))))), omega arith), tt),
-    ),
-  ),
-)
+    AllWithin vars (beside_end_rules e a b high)
+edge_within vars e a b high w ta tb = search (rules, at_least_within)

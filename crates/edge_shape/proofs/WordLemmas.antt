@@ -1,7 +1,6 @@
 -- How many words the clauses of an edge have, and variables the edge: within 2000 A and 100 A, where
 -- A is the grid's columns times its rows.
 use Rattle.std.proofs.Common.{◌≡◌, ℕ, ◌+◌, ◌-◌, ◌*◌, ◌≤◌, ◌<◌, [], ◌∷◌, ◌++◌, arith}
-use Rattle.std.specs.Prelude.{map}
 use Rattle.std.proofs.Math.Nat.{mul-le-mul_right, mul-le-mul_left}
 use Rattle.cnf_core.specs.Lit.{Literal, negate, positive_of}
 use Rattle.cnf_core.specs.Clause.{Clauses, words_of}
@@ -13,11 +12,11 @@ use Rattle.order_int.specs.IntVars.{IntVars, size, IntIsThere}
 use Rattle.order_int.specs.OrderInt.{int_at_least, int_clauses, le_clauses, equal_clauses}
 use Rattle.order_int.proofs.IntLemmas.{chain_words}
 use Rattle.order_int.proofs.OrderLemmas.{le_words, equal_words}
-use Rattle.edge_shape.specs.Rules.{literals_of, rule_clauses}
+use Rattle.edge_shape.specs.Rules.{rule_clauses}
 use Rattle.edge_shape.specs.EdgeVars.{NodeInts, edge_lits, edge_size, IsSpot}
 use Rattle.edge_shape.proofs.PlaceLemmas.{StepWithin, inside_there, column_there, step_literals, whole_literals, step_within, seen_within, shape_within}
 use Rattle.edge_shape.proofs.PlaceLemmas.{range_within, inner_within, through_within, end_within, slope_within, bend_within, level_within, edge_within}
-use Rattle.edge_shape.proofs.SizeLemmas.{lists_words}
+use Rattle.edge_shape.proofs.SizeLemmas.{rules_words}
 use Rattle.edge_shape.specs.Edge.{near_clause, near_clauses, level_clauses, diagonal_clauses, rows_clauses, rise_clauses, step_rules, seen_rules, shape_rules}
 use Rattle.edge_shape.specs.Edge.{height_clauses, step_clauses, range_rules, end_rules, slope_rules, bend_rules, inner_rules, end_piece_rules, level_rules}
 use Rattle.edge_shape.specs.Edge.{beside_end_rules, end_clauses, column_clauses, whole_clauses, further_clauses, edge_clauses}
@@ -62,10 +61,10 @@ step_words : (first high width vars c : ℕ) → IsSpot first high width → fir
 step_words first high width vars c p there lt =
     let e = edge_lits first high width in
     let s = step_literals first high width vars c p there lt in
-    let w1 = lists_words vars (map literals_of (step_rules e c)) (step_within vars e c s) in
+    let w1 = rules_words vars (step_rules e c) (step_within vars e c s) in
     let w2 = rise_words (e.height c) (e.height (c + 1)) (positive_of (e.up c)) (positive_of (e.down c)) high (omega arith) (omega arith) in
-    let w3 = lists_words vars (map literals_of (seen_rules e c)) (seen_within vars e c s) in
-    let w4 = lists_words vars (map literals_of (shape_rules e c)) (shape_within vars e c s) in
+    let w3 = rules_words vars (seen_rules e c) (seen_within vars e c s) in
+    let w4 = rules_words vars (shape_rules e c) (shape_within vars e c s) in
     let front = both_words (rule_clauses (step_rules e c)) (height_clauses e high c) 40 (34 * high + 48) w1 w2 in
     let back = both_words (rule_clauses (seen_rules e c)) (rule_clauses (shape_rules e c)) 48 32 w3 w4 in
     let all = both_words (rule_clauses (step_rules e c) ++ height_clauses e high c) (rule_clauses (seen_rules e c) ++ rule_clauses (shape_rules e c))
@@ -86,28 +85,28 @@ edge_words first high width vars least west east p there wx wy ex ey sx sy sz =
     let ints = each_area (λ c. int_clauses (e.height c)) 0 (width + 1) width high 5 (omega arith)
     (λ c from to. let k = chain_words (e.height c).first (size (e.height c)) in omega arith) in
     let ranges = each_area (λ c. rule_clauses (range_rules e west.x east.x c)) 0 (width + 1) width high 24 (omega arith)
-    (λ c from to. let k = lists_words vars (map literals_of (range_rules e west.x east.x c))
+    (λ c from to. let k = rules_words vars (range_rules e west.x east.x c)
     (range_within vars e west.x east.x c (inside_there first high width vars c p there (omega arith)) wx ex) in omega arith) in
     let steps = each_area (step_clauses e high) 0 width width high 168 (omega arith) (λ c from to. step_words first high width vars c p there (omega arith)) in
     let slopes = each_area (λ c. rule_clauses (slope_rules e west.x east.x c)) 0 width width high 64 (omega arith)
-    (λ c from to. let k = lists_words vars (map literals_of (slope_rules e west.x east.x c))
+    (λ c from to. let k = rules_words vars (slope_rules e west.x east.x c)
     (slope_within vars e west.x east.x c w (at c (omega arith)) wx ex) in omega arith) in
     let inner = each_area (λ c. rule_clauses (inner_rules e c)) 0 (width - 1) width high 72 (omega arith) (λ c from to.
     let here = at c (omega arith) in
     let next = at (c + 1) (omega arith) in
-    let k = lists_words vars (map literals_of (inner_rules e c)) (inner_within vars e c
+    let k = rules_words vars (inner_rules e c) (inner_within vars e c
     (column_there first high width vars (c + 1) 4 p there (omega arith) (omega arith)) here.here
     (inside_there first high width vars (c + 2) p there (omega arith)) here.up next.up here.down next.down) in
     omega arith) in
     let through = each_area (λ c. rule_clauses (end_piece_rules e c)) 0 width width high 16 (omega arith)
-    (λ c from to. let k = lists_words vars (map literals_of (end_piece_rules e c)) (through_within vars e c w (at c (omega arith))) in omega arith) in
-    let end = lists_words vars (map literals_of (end_rules e)) (end_within vars e w) in
-    let b1 = lists_words vars (map literals_of (bend_rules e.first_bend e.west_up e.west_down (e.seen (width - 1))))
+    (λ c from to. let k = rules_words vars (end_piece_rules e c) (through_within vars e c w (at c (omega arith))) in omega arith) in
+    let end = rules_words vars (end_rules e) (end_within vars e w) in
+    let b1 = rules_words vars (bend_rules e.first_bend e.west_up e.west_down (e.seen (width - 1)))
     (bend_within vars e.first_bend e.west_up e.west_down (e.seen (width - 1)) w.first_bend w.west_up w.west_down level) in
-    let b2 = lists_words vars (map literals_of (bend_rules e.second_bend e.east_up e.east_down (e.seen (width - 1))))
+    let b2 = rules_words vars (bend_rules e.second_bend e.east_up e.east_down (e.seen (width - 1)))
     (bend_within vars e.second_bend e.east_up e.east_down (e.seen (width - 1)) w.second_bend w.east_up w.east_down level) in
-    let lv = lists_words vars (map literals_of (level_rules e (e.seen (width - 1)))) (level_within vars e (e.seen (width - 1)) w level) in
-    let ed = lists_words vars (map literals_of (beside_end_rules e west.y east.y high)) (edge_within vars e west.y east.y high w wy ey) in
+    let lv = rules_words vars (level_rules e (e.seen (width - 1))) (level_within vars e (e.seen (width - 1)) w level) in
+    let ed = rules_words vars (beside_end_rules e west.y east.y high) (edge_within vars e west.y east.y high w wy ey) in
     let le = le_words west.x east.x least [] in
     let q1 = equal_words (e.height 0) west.y [] in
     let q2 = equal_words (e.height width) east.y [] in

@@ -1,4 +1,5 @@
 pub mod Rules
+pub mod Written
 pub mod EdgeVars
 pub mod Edge
 pub mod ReadsLine

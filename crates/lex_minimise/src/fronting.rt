@@ -112,9 +112,9 @@ pub fn front_with<L: LogSink>(
 /// The order `t` is that of the graph's edges, and the criteria differ. The log takes all lines: the drawings' clauses,
 /// both criteria's clauses with all their bounds, the questions, what is learnt, and the answers. After an error a log
 /// that had no line derives, its Formula and Bound lines are the first of those, and it has no more Learnt lines than
-/// the budget allows. With `Conflicts`, or `Room` behind a question, the latest one has no answer, and asks for the
-/// pair behind those that are there; no Model line answers the same one. With `Room` before the first question there is
-/// no pair.
+/// the budget allows. With `Conflicts`, or `Room` behind a question, the log has all of the clauses, the latest
+/// question has no answer, and asks for the pair behind those that are there; no Model line answers the same one. With
+/// `Room` before the first question there is no pair.
 pub fn front<L: LogSink>(
     alloc: Global,
     g: &PortGraph,

@@ -247,7 +247,7 @@ cause_of : (p : Task) (a b : Criterion) (pairs : Pairs) (ending : FrontEnd) (lin
     EndsFront p a b pairs ending lines → IsFrontCause p a b pairs ending lines
 cause_of p a b pairs Whole lines told h = told
 cause_of p a b pairs Empty lines told h = told
-cause_of p a b pairs Conflicts lines told h = h
+cause_of p a b pairs Conflicts lines told h = (told, h.0, h.1)
 cause_of p a b pairs Room lines told h = inr (told, h.0, h.1)
 
 pub tells_front : {S : Type 0} (knows log : S → Lines → Type 0) (count : S → ℕ) (s t e : S) (q p : Task) (a b : Criterion) (pairs : Pairs) (r : Built)

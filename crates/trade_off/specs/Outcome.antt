@@ -44,14 +44,15 @@ abbrev pub HasNoRoomToAsk : Task → Criterion → Criterion → Pairs → Lines
 HasNoRoomToAsk p a b pairs lines = CapsPass p.encoding (a ∷ b ∷ []) lines p.room (greatest_of p) × (pairs ≡ [])
     × (clause_lines lines ≡ lines)
 
--- why it ended so: with the whole or without a drawing all of these lines were told; else as many clauses were learnt
--- as the budget allows, and the latest query is open; or these lines have no room, before the first question; or one
--- more clause has none behind them all. In a question the latest query asks for the pair behind those that are printed,
--- none before it asks for less of b, and no Model line answers the same query
+-- why it ended so: these lines have no room, before the first question; else all of them were told. With Conflicts as
+-- many clauses were learnt as the budget allows, and the latest query is open; with Room one more clause has no room
+-- behind them all. In both the latest query asks for the pair behind those that are printed, none before it asks for
+-- less of b, and no Model line answers the same query
 abbrev pub IsFrontCause : Task → Criterion → Criterion → Pairs → FrontEnd → Lines → Type 0
 IsFrontCause p a b pairs Whole lines = clause_lines lines ≡ front_lines p a b
 IsFrontCause p a b pairs Empty lines = clause_lines lines ≡ front_lines p a b
-IsFrontCause p a b pairs Conflicts lines = IsCause p.budget p.room BudgetSpent lines × AsksBehind p a b pairs lines
+IsFrontCause p a b pairs Conflicts lines =
+    (clause_lines lines ≡ front_lines p a b) × IsCause p.budget p.room BudgetSpent lines × AsksBehind p a b pairs lines
 IsFrontCause p a b pairs Room lines = HasNoRoomToAsk p a b pairs lines
     ⊎ ((clause_lines lines ≡ front_lines p a b) × IsCause p.budget p.room RoomFull lines × AsksBehind p a b pairs lines)
 

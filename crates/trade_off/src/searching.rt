@@ -18,9 +18,9 @@ use std::alloc::Global;
 /// What the outcome says of drawings holds with every log. The search gives the log further lines behind the clauses;
 /// together they are the lines of a search with this end. After an error a log whose lines were the clauses derives,
 /// and its Formula and Bound lines are the first of those that are expected. It has no more Learnt lines than the
-/// budget allows. Where the search stopped in a question, the latest one has no answer, and asks for the pair behind
-/// those that are there; no Model line answers the same one. Where it stopped before the first question, there is no
-/// pair.
+/// budget allows. Where the search stopped in a question, the log has all of these lines, the latest question has no
+/// answer, and asks for the pair behind those that are there; no Model line answers the same one. Where it stopped
+/// before the first question, there is no pair.
 pub fn find_front<O: Oracle>(
     alloc: Global,
     oracle: &mut O,

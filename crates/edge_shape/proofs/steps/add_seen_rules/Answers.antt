@@ -1,29 +1,25 @@
-use Rattle.std.proofs.Common.{rules, ◌≡◌, List, [], ◌∷◌, subst}
+use Rattle.std.proofs.Common.{rules, [], ◌∷◌}
 use Rattle.std.specs.Prelude.{map}
-use Rattle.cnf_core.specs.declared.literal.LitOrTruth.{LitOrTruth}
+use Rattle.edge_shape.specs.Written.{written}
 use Rattle.edge_shape.specs.EdgeVars.{edge_lits}
-use Rattle.edge_shape.specs.Rules.{literals_of, AllWithin}
 use Rattle.edge_shape.specs.Edge.{seen_rules}
 use Rattle.edge_shape.proofs.PlaceLemmas.{step_literals, seen_within}
-use Rattle.edge_shape.proofs.RuleCode.{adds_lists}
+use Rattle.edge_shape.proofs.RuleCode.{adds_rules, within_as}
 use Rattle.edge_shape.proofs.steps.add_seen_rules.Goals as goal
 
-pub add_all-requires : goal.add_all-requires
-add_all-requires c =
+pub add_rules-requires : goal.add_rules-requires
+add_rules-requires c =
     let x = c.args.e.now in
-    let e : map literals_of (seen_rules (edge_lits x.first x.high x.width) c.args.c)
-    ≡ (c.negated.result ∷ c.negated-2.result ∷ c.up.result ∷ c.down.result ∷ c.seen.result ∷ []) ∷ c.two.result ∷ c.three.result ∷ c.three-2.result
-    ∷ c.three-3.result ∷ c.three-4.result ∷ [] = search rules in
     record {
-      within = subst (λ (l : List (List LitOrTruth)). AllWithin c.args.f.now.vars l) e
-          (seen_within c.args.f.now.vars (edge_lits x.first x.high x.width) c.args.c (step_literals x.first x.high x.width c.args.f.now.vars c.args.c
-          c.requires.placed.spot c.requires.there c.requires.c));
+      within = within_as c.args.f.now.vars (seen_rules (edge_lits x.first x.high x.width) c.args.c)
+          (map written (c.rule.result ∷ c.rule-2.result ∷ c.rule-3.result ∷ c.rule-4.result ∷ c.rule-5.result ∷ c.rule-6.result ∷ [])) (search rules)
+          ((seen_within c.args.f.now.vars (edge_lits x.first x.high x.width) c.args.c (step_literals x.first x.high x.width c.args.f.now.vars c.args.c
+          c.requires.placed.spot c.requires.there c.requires.c)));
     }
 
 pub returns : goal.returns
 returns c =
     let x = c.args.e.now in
-    let e : map literals_of (seen_rules (edge_lits x.first x.high x.width) c.args.c)
-    ≡ (c.negated.result ∷ c.negated-2.result ∷ c.up.result ∷ c.down.result ∷ c.seen.result ∷ []) ∷ c.two.result ∷ c.three.result ∷ c.three-2.result
-    ∷ c.three-3.result ∷ c.three-4.result ∷ [] = search rules in
-    adds_lists c.add_all.result _ _ _ _ 5 e c.add_all.ensures
+    adds_rules c.add_rules.result _ _ (seen_rules (edge_lits x.first x.high x.width) c.args.c)
+    (map written (c.rule.result ∷ c.rule-2.result ∷ c.rule-3.result ∷ c.rule-4.result ∷ c.rule-5.result ∷ c.rule-6.result ∷ [])) 5 (search rules)
+    c.add_rules.ensures
