@@ -1,0 +1,126 @@
+/** What a file leaves open or says twice, so that its drawing may be other than the station: for standard error and for
+ * pages. */
+import { mileageOf, spotsOf } from "../one_mileage.js";
+import * as railml from "../railml.js";
+import { offsetsOf } from "./offsets.js";
+
+/** @typedef {import("../railml.js").Document} Document */
+/** @typedef {import("../railml.js").Element} Element */
+
+/** so many names are listed */
+const SHOWN = 3;
+
+/** @param {string[]} names @param {string} what @returns {string} the first of some names, and how many more there are */
+function listed(names, what) {
+    const more = names.length - SHOWN;
+    return names.slice(0, SHOWN).join(", ") + (more > 0 ? ` and ${more} more ${what}` : "");
+}
+
+/** @param {Element} track @param {Element} it @returns {number | null} the mileage of what is between two places of a track */
+function between(track, it) {
+    const spots = spotsOf(track), at = railml.position(it);
+    const behind = spots.findIndex((spot) => railml.position(spot).compare(at) >= 0);
+    if (behind < 1) {
+        return null;
+    }
+    const [before, after] = [spots[behind - 1], spots[behind]], one = mileageOf(before), other = mileageOf(after);
+    const length = railml.position(after).minus(railml.position(before)).toNumber();
+    const part = length ? at.minus(railml.position(before)).toNumber() / length : 0;
+    return one === null || other === null ? null : Math.round((one + (other - one) * part) * 1000) / 1000;
+}
+
+/** @param {Document} document @returns {string[]} signals that are taken as if their track's mileage rose, though it falls */
+function unsaidSignals(document) {
+    return document.tracks().flatMap((track) => {
+        const [one = null, other = null] = spotsOf(track).filter((_, at, all) => !at || at === all.length - 1).map(mileageOf);
+        const unsaid = railml.signals(track).filter((it) => !it.attributes.has("absPos"));
+        if (one === null || other === null || other >= one || !unsaid.length) {
+            return [];
+        }
+        const names = unsaid.map((it) => `absPos="${between(track, it) ?? ".."}" at ${railml.what(it)}`);
+        const count = unsaid.length === 1 ? "1 signal has" : `${unsaid.length} signals have`;
+        return [`the mileage of track ${track.id} falls, and ${count} no absPos: counted as if it rose, they may lie on `
+            + `another piece. Write ${listed(names, "signals")}`];
+    });
+}
+
+/** @param {Document} document @returns {Element[][]} the tracks in groups, each of those that are joined */
+function groupsOf(document) {
+    const known = railml.byId(document);
+    /** @type {Map<Element, Element[]>} */
+    const groups = new Map(document.tracks().map((track) => [track, [track]]));
+    for (const connection of known.values()) {
+        const here = connection.above("track"), there = known.get(connection.attributes.get("ref") ?? "")?.above("track");
+        const one = here && groups.get(here), other = there && groups.get(there);
+        if (one && other && one !== other) {
+            one.push(...other);
+            other.forEach((track) => groups.set(track, one));
+        }
+    }
+    return [...new Set(groups.values())];
+}
+
+/** @param {Element[]} group @returns {[number, number]} from which mileage to which it goes */
+function spanOf(group) {
+    const mileages = group.flatMap(spotsOf).flatMap((it) => mileageOf(it) ?? []);
+    return [Math.min(...mileages), Math.max(...mileages)];
+}
+
+/** @param {Document} document @returns {string[]} tracks beside others of which nothing says whether they lie above or below
+ * them */
+function unrelated(document) {
+    const groups = groupsOf(document).sort((one, other) => other.length - one.length), [main, ...others] = groups;
+    const spans = new Map(groups.map((group) => [group, spanOf(group)]));
+    const beside = others.filter((group) => [...spans].some(([other, [begun, ended]]) => {
+        const [west, east] = spans.get(group) ?? [0, 0];
+        return other !== group && Math.max(west, begun) < Math.min(east, ended);
+    }));
+    if (!main || !beside.length) {
+        return [];
+    }
+    const names = beside.map((group) => group[0].id);
+    const [word, lies] = names.length === 1 ? ["track", "it lies"] : ["tracks", "they lie"];
+    return [`nothing joins ${word} ${listed(names, "parts")} to track ${main[0].id}, so nothing says whether ${lies} above or `
+        + "below it"];
+}
+
+/** @param {Document} document @returns {string[]} ends that name one operational point, and that nothing joins */
+function unjoinedEnds(document) {
+    /** @type {Map<string, Element[]>} */
+    const ends = new Map();
+    for (const end of document.tracks().flatMap((track) => railml.ENDS.flatMap((name) => railml.endOf(track, name) ?? []))) {
+        const point = end.named("macroscopicNode")[0]?.attributes.get("ocpRef");
+        if (point) {
+            ends.set(point, [...ends.get(point) ?? [], end]);
+        }
+    }
+    const groups = groupsOf(document), groupOf = (/** @type {Element} */ it) =>
+        groups.find((group) => group.includes(/** @type {Element} */ (it.above("track"))));
+    // where one line ends and the other begins: tracks beside each other begin, or end, at one operational point too
+    const shared = [...ends.values()].flatMap((all) => {
+        const plain = all.filter((it) => !railml.points(/** @type {Element} */ (it.above("track"))).length);
+        return plain.flatMap((one) => {
+            const other = plain.find((it) => one.name === "trackEnd" && it.name === "trackBegin" && groupOf(it) !== groupOf(one)
+                && mileageOf(it) === mileageOf(one));
+            return other ? [[one, other]] : [];
+        }).slice(0, 1);
+    });
+    if (!shared.length) {
+        return [];
+    }
+    const [[one, other]] = shared, more = shared.length - 1;
+    return [`${railml.what(one)} and ${railml.what(other)} name one operational point, and nothing joins them`
+        + (more ? `; so at ${more} more` : "") + ": a file without their switches is no layout, and its tracks are drawn "
+        + "apart"];
+}
+
+/**
+ * All that a file leaves open or says twice.
+ * @param {Document} document @param {string} command
+ * @returns {string[]}
+ */
+export function doubtsOf(document, command) {
+    const offsets = offsetsOf(document);
+    return [...offsets ? [offsets] : [], ...command === "signals" ? unsaidSignals(document) : [], ...unrelated(document),
+        ...unjoinedEnds(document)];
+}

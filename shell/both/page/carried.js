@@ -1,0 +1,30 @@
+/** What a page carries, taken out of its text: its run and its hinted lines; and the script that shows them. */
+import { unpacked } from "../packing.js";
+import { recordOf } from "./record.js";
+
+/** @typedef {{record: import("./run.js").RunRecord, hints: Uint8Array | null, script: string}} Carried */
+
+const DATA = (/** @type {string} */ kind) => `(?:<script type="application/json" class="${kind}">("(?:[^"<\\\\]|\\\\.)*")</script>)`;
+/** the end of a page: its data one behind the other, then its one script, and nothing behind that */
+const END = new RegExp(`${DATA("data")}${DATA("program")}?${DATA("worker")}?${DATA("hints")}?<script>([^]*)</script></body></html>\\n$`);
+/** what no page has before its data: a script, a remark, or anything that could hide what comes */
+const ACTIVE = /<(script|!--|iframe|object|embed|base|template|textarea|xmp|plaintext|noscript)/i;
+
+/**
+ * @param {string} page the page's text
+ * @returns {Promise<Carried | null>} nothing where it isn't built as pages are, or what it carries can't be read
+ */
+export async function carriedBy(page) {
+    const found = END.exec(page);
+    if (!found || ACTIVE.test(page.slice(0, found.index)) || found[5].includes("</script")) {
+        return null;
+    }
+    try {
+        const [record, , , hints] = found.slice(1, 5).map((it) => (it ? JSON.parse(it) : ""));
+        return {
+            record: recordOf(new TextDecoder().decode(await unpacked(record))), hints: hints ? await unpacked(hints) : null, script: found[5],
+        };
+    } catch {
+        return null;
+    }
+}

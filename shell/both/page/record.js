@@ -1,0 +1,44 @@
+/**
+ * The record of a run as a text, which a page carries, and back.
+ */
+
+/** @typedef {import("./run.js").Input} Input */
+/** @typedef {import("./run.js").RunRecord} RunRecord */
+/** @typedef {{text: string} | {bytes: string} | null} Content a file's UTF-8 as a text, or other bytes by their numbers */
+
+/** @param {Uint8Array | null} content @returns {Content} */
+function contentOf(content) {
+    if (!content) return null;
+    try {
+        return { text: new TextDecoder("utf-8", { fatal: true, ignoreBOM: true }).decode(content) };
+    } catch {
+        return { bytes: [...content].map((it) => String.fromCharCode(it)).join("") };
+    }
+}
+
+/** @param {Content} content @returns {Uint8Array | null} */
+function bytesOf(content) {
+    if (!content) return null;
+    return "text" in content ? new TextEncoder().encode(content.text)
+        : Uint8Array.from(content.bytes, (it) => it.charCodeAt(0));
+}
+
+/**
+ * @param {RunRecord} record
+ * @returns {string}
+ */
+export function textOf(record) {
+    return JSON.stringify({ ...record, options: [...record.options], drawings: [...record.drawings],
+        inputs: record.inputs.map(({ facts, content }) => ({ facts, content: contentOf(content) })) });
+}
+
+/**
+ * @param {string} text
+ * @returns {RunRecord}
+ */
+export function recordOf(text) {
+    const given = JSON.parse(text);
+    return { ...given, options: new Map(given.options), drawings: new Map(given.drawings),
+        inputs: given.inputs.map((/** @type {{facts: Input["facts"], content: Content}} */ { facts, content }) =>
+            ({ facts, content: bytesOf(content) })) };
+}

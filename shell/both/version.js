@@ -1,0 +1,2 @@
+/** Which version this is. */
+export const VERSION = "0.9";

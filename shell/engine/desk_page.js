@@ -1,0 +1,30 @@
+/** The desk as one HTML file: the program as WebAssembly, its worker, its script and style, and nothing that is fetched. */
+import { readFileSync } from "node:fs";
+import { dirname, join } from "node:path";
+import { fileURLToPath } from "node:url";
+import { stylesOf } from "../both/page/written.js";
+import { PAGE_WORDS } from "../both/words.js";
+import { packedScript, stylesIn } from "../terminal/bundle.js";
+import { packed, sourceOf, written } from "./packed.js";
+
+const PAGE = join(dirname(dirname(fileURLToPath(import.meta.url))), "page");
+
+/**
+ * @param {string} top the folder that has shell/ in it
+ * @param {{wasm: Uint8Array, version: string, build: string, isProved: boolean, example: string}} parts the module, the version, what is
+ *     known of the program in words, whether it is made from the proved one, and the text of the example
+ * @returns {string} the page
+ */
+export function deskPage(top, parts) {
+    const script = packedScript(top, "desk"), style = readFileSync(join(PAGE, "desk.css"), "utf8");
+    // what the pages of answers are made of: they are shown in a frame, under this page's own policy
+    const pages = { ...stylesIn(top), script: packedScript(top, "page"), worker: packedScript(top, "worker") };
+    const styles = [style, ...stylesOf(pages, PAGE_WORDS.get("--paper")?.usual ?? "")];
+    const data = written({ ...parts, wasm: packed(parts.wasm), pages: packed(Buffer.from(JSON.stringify(pages))) });
+    const policy = [
+        "default-src 'none'", `script-src ${[script, pages.script].map(sourceOf).join(" ")} 'wasm-unsafe-eval' blob:`, "worker-src blob:",
+        "frame-src blob:", `style-src ${styles.map(sourceOf).join(" ")}`, "img-src blob: data:", "base-uri 'none'", "form-action 'none'",
+    ].join("; ");
+    const values = new Map([["POLICY", policy], ["STYLE", style], ["DATA", data], ["SCRIPT", script]]);
+    return readFileSync(join(PAGE, "desk.html"), "utf8").replace(/POLICY|STYLE|DATA|SCRIPT/g, (name) => values.get(name) ?? name);
+}

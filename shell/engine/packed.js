@@ -1,0 +1,59 @@
+/** What a page carries: a script in one piece, bytes in base64, and what the browser may do with it. */
+import { spawnSync } from "node:child_process";
+import { createHash } from "node:crypto";
+import { dirname, join } from "node:path";
+import { fileURLToPath } from "node:url";
+import { gzipSync } from "node:zlib";
+
+const SHELL = dirname(dirname(fileURLToPath(import.meta.url)));
+/** where Debian has the packages of node */
+const PACKAGES = "/usr/share/nodejs";
+/** the XML reader that is packed in; what of node it may use is left out */
+const READER = ["--alias:#sax=sax", "--external:stream", "--external:string_decoder"];
+export const NO_BUNDLER = "esbuild isn't there, which packs the script of a page. Install it: apt install esbuild";
+
+/** A script couldn't be made. */
+export class NotBundled extends Error {}
+
+/**
+ * A module of the shell with all that it imports, as one script.
+ * @param {string} entry its path from shell/
+ * @throws {NotBundled}
+ */
+export function bundled(entry) {
+    const words = [join(SHELL, entry), "--bundle", "--minify", "--format=iife", "--target=es2022", "--charset=utf8", "--log-level=error",
+        ...READER];
+    const ran = spawnSync("esbuild", words, { encoding: "utf8", env: { ...process.env, NODE_PATH: PACKAGES }, maxBuffer: 1 << 26 });
+    if (ran.error) {
+        throw new NotBundled(NO_BUNDLER);
+    }
+    if (ran.status !== 0) {
+        throw new NotBundled(`${entry} couldn't be packed: ${ran.stderr}`);
+    }
+    return ran.stdout;
+}
+
+/**
+ * Bytes packed by gzip, in base64; the same bytes give the same text.
+ * @param {Uint8Array} bytes
+ */
+export function packed(bytes) {
+    const made = gzipSync(bytes, { level: 9 });
+    // the system that packed them is no part of what is packed
+    made[9] = 255;
+    return made.toString("base64");
+}
+
+/** the source expression of a script or style, by its SHA-256
+ * @param {string} text */
+export function sourceOf(text) {
+    return `'sha256-${createHash("sha256").update(text).digest("base64")}'`;
+}
+
+/**
+ * Data for a script element: no part of it is taken for markup.
+ * @param {unknown} data
+ */
+export function written(data) {
+    return JSON.stringify(data).replaceAll("<", "\\u003c");
+}

@@ -1,0 +1,86 @@
+/**
+ * A run of the desk: how far it is, and the best drawing so far. That one a second run finds, of the same search with as many
+ * learnt clauses as it had then: it ends with the drawing that was found by then.
+ */
+import { Searched, duration } from "../both/searched.js";
+
+/** @typedef {import("../both/wasm_engine.js").WasmEngine} WasmEngine */
+/** @typedef {Awaited<ReturnType<WasmEngine["run"]>>} Ran */
+/**
+ * @typedef {{picture: Uint8Array, sheet: Uint8Array, log: Uint8Array}} Found a drawing: its picture, its sheet, and the log of
+ * its search
+ */
+
+/** how often is said how far it is, in milliseconds */
+const OFTEN = 200;
+export const PICTURE = "picture.svg", LOG = "search.log";
+
+/** One run, from its words to its end. */
+export class Search {
+    /**
+     * @param {{main: WasmEngine, second: WasmEngine}} engines
+     * @param {string[]} words with the log and the picture, where the command has them
+     * @param {Map<string, Uint8Array>} files
+     * @param {{far: (said: string) => void, found: (found: Found) => void}} hear is told how far it is, and each better drawing
+     */
+    constructor(engines, words, files, hear) {
+        this.engines = engines;
+        this.words = words;
+        this.files = files;
+        this.hear = hear;
+        this.stop = new AbortController();
+        this.searched = new Searched();
+        this.began = performance.now();
+        /** what was known when the second run began */
+        this.known = "";
+        this.isLooking = false;
+        /** @type {Found | undefined} */
+        this.best = undefined;
+    }
+
+    /** @returns {Promise<Ran>} */
+    async run() {
+        const hasLog = this.words.includes("--log");
+        const seen = (/** @type {string} */ name, /** @type {Uint8Array} */ piece) => {
+            if (name === LOG) {
+                this.searched.take(piece);
+                this.look();
+            }
+        };
+        const tick = setInterval(() => this.say(hasLog), OFTEN);
+        this.say(hasLog);
+        const job = { words: this.words, files: this.files, signal: this.stop.signal };
+        const ran = await this.engines.main.run(hasLog ? { ...job, seen } : job);
+        clearInterval(tick);
+        this.stop.abort();
+        return ran;
+    }
+
+    /** @param {boolean} hasLog */
+    say(hasLog) {
+        const seconds = duration((performance.now() - this.began) / 1000);
+        const learnt = `${this.searched.learnt.toLocaleString("en")} clauses learnt`;
+        this.hear.far(hasLog ? `${this.searched.inWords()} · ${learnt} · ${seconds}` : `running · ${seconds}`);
+    }
+
+    /** draws the best so far, where a better one was found and none is being drawn */
+    look() {
+        const known = this.searched.hasModel ? this.searched.inWords() : "";
+        if (this.words[0] !== "draw" || this.isLooking || known === this.known || known === "") {
+            return;
+        }
+        this.known = known;
+        this.isLooking = true;
+        const budget = String(this.searched.learnt + 1), at = this.words.indexOf("--conflicts");
+        const words = at < 0 ? [...this.words, "--conflicts", budget] : this.words.map((word, place) => (place === at + 1 ? budget : word));
+        void this.engines.second.run({ words, files: this.files, signal: this.stop.signal }).then((ran) => {
+            this.isLooking = false;
+            const picture = ran.files.get(PICTURE), log = ran.files.get(LOG);
+            if (picture && log && !this.stop.signal.aborted) {
+                this.best = { picture, log, sheet: ran.output };
+                this.hear.found(this.best);
+                this.look();
+            }
+        });
+    }
+}

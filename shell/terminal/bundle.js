@@ -1,0 +1,120 @@
+/**
+ * The scripts of pages and of the desk, and their styles. A script is packed once from its modules, and kept in out/shell/ by
+ * their hash.
+ */
+import { createHash } from "node:crypto";
+import { mkdirSync, readFileSync, readdirSync } from "node:fs";
+import { join } from "node:path";
+import { NotBundled, bundled } from "../engine/packed.js";
+import { writeWhole } from "./files.js";
+import { end } from "./say.js";
+
+/** where scripts are kept, and the module with which each begins */
+const KEPT = "out/shell", ENTRIES = { page: "page/opened.js", worker: "page/desk_worker.js", desk: "page/desk.js" };
+const FOLDERS = ["both", "both/messages", "both/page", "page"];
+
+/**
+ * What the modules of pages are, as one hash.
+ * @param {string} shell the folder of the shell
+ * @returns {string}
+ */
+function sumOf(shell) {
+    const sum = createHash("sha256");
+    for (const folder of FOLDERS) {
+        for (const name of readdirSync(join(shell, folder)).filter((it) => it.endsWith(".js")).sort()) {
+            sum.update(`${folder}/${name}\n`).update(readFileSync(join(shell, folder, name)));
+        }
+    }
+    return sum.digest("hex");
+}
+
+/** @param {string} name @returns {string} what a file has, or "" */
+function read(name) {
+    try {
+        return readFileSync(name, "utf8");
+    } catch {
+        return "";
+    }
+}
+
+/**
+ * Keeps a script for the runs to come; where nothing may be written there each run packs it anew.
+ * @param {string} folder
+ * @param {string} name
+ * @param {string} script
+ */
+function keep(folder, name, script) {
+    try {
+        mkdirSync(folder, { recursive: true });
+        writeWhole(join(folder, name), script);
+    } catch {
+        return;
+    }
+}
+
+/**
+ * The script of pages.
+ * @param {string} top the folder that has shell/ in it
+ * @returns {string}
+ */
+export const scriptOf = (top) => orEnd(() => packedScript(top, "page"));
+
+/**
+ * The script of the worker that runs the program in a page.
+ * @param {string} top
+ * @returns {string}
+ */
+export const workerOf = (top) => orEnd(() => packedScript(top, "worker"));
+
+/** @param {() => string} make @returns {string} where it can't be packed the run ends with 10 */
+function orEnd(make) {
+    try {
+        return make();
+    } catch (error) {
+        if (error instanceof NotBundled) return end(10, error.message);
+        throw error;
+    }
+}
+
+/**
+ * A script, kept by what its modules are.
+ * @param {string} top
+ * @param {keyof typeof ENTRIES} kind
+ * @returns {string}
+ * @throws {NotBundled}
+ */
+export function packedScript(top, kind) {
+    const [folder, name] = [join(top, KEPT), `${kind}-${sumOf(join(top, "shell"))}.js`];
+    const known = read(join(folder, name));
+    if (known) return known;
+    const script = bundled(ENTRIES[kind]);
+    keep(folder, name, script);
+    return script;
+}
+
+/**
+ * All scripts by their places below the top, as far as they are there or can be packed.
+ * @param {string} top
+ * @returns {Map<string, string>}
+ */
+export function packedScripts(top) {
+    const sum = sumOf(join(top, "shell")), found = new Map();
+    for (const kind of /** @type {(keyof typeof ENTRIES)[]} */ (Object.keys(ENTRIES))) {
+        try {
+            found.set(`${KEPT}/${kind}-${sum}.js`, packedScript(top, kind));
+        } catch (error) {
+            if (!(error instanceof NotBundled)) throw error;
+        }
+    }
+    return found;
+}
+
+/**
+ * The styles of pages and of drawings.
+ * @param {string} top
+ * @returns {{page: string, drawing: string}}
+ */
+export function stylesIn(top) {
+    return { page: readFileSync(join(top, "shell/page/page.css"), "utf8"),
+        drawing: readFileSync(join(top, "shell/page/drawing.css"), "utf8") };
+}

@@ -1,0 +1,152 @@
+/**
+ * Files that one run has for itself alone: two runs that write one file at a time would leave neither's. A lock is a file with
+ * the number of the process that has it, and when that began; where no such process is there any more, the lock counts for
+ * nothing.
+ */
+import { createHash } from "node:crypto";
+import { linkSync, lstatSync, mkdirSync, readFileSync, renameSync, unlinkSync, writeFileSync } from "node:fs";
+import { bytesOf } from "./bytes.js";
+import { realPath, stateOf } from "./files.js";
+import { codeOf, end } from "./say.js";
+
+/** @typedef {import("../both/words.js").Line} Line */
+/** @typedef {"held" | "taken" | "none"} Hold that a lock is ours, that another run has it, or that there can be none */
+
+/**
+ * a process that is there: its number, and when it began; else nothing
+ * @param {string} number @returns {string}
+ */
+function processOf(number) {
+    try {
+        const text = readFileSync(`/proc/${number}/stat`, "latin1");
+        const fields = text.slice(text.lastIndexOf(")") + 2).split(" ");
+        return fields[0] === "Z" ? "" : `${number} ${fields[19]}`;
+    } catch {
+        return isThere(Number(number)) ? `${number} 0` : "";
+    }
+}
+
+/** @param {number} number @returns {boolean} */
+function isThere(number) {
+    try {
+        process.kill(number, 0);
+        return true;
+    } catch (error) {
+        return codeOf(error) === "EPERM";
+    }
+}
+
+/** @param {string} path @returns {string} */
+function holderOf(path) {
+    try {
+        return readFileSync(path, "latin1");
+    } catch {
+        return "";
+    }
+}
+
+/** @param {string} path */
+function takeAway(path) {
+    try {
+        unlinkSync(path);
+    } catch {
+        return;
+    }
+}
+
+/**
+ * takes a lock away whose holder is gone, and never that of one which came meanwhile
+ * @param {string} path @param {string} mine
+ */
+function takeAwayStale(path, mine) {
+    try {
+        renameSync(path, mine);
+        const holder = holderOf(mine);
+        if (processOf(holder.split(" ")[0]) === holder) {
+            linkSync(mine, path);
+        }
+    } catch {
+        return;
+    } finally {
+        takeAway(mine);
+    }
+}
+
+/**
+ * Takes a lock, if no other run has it.
+ * @param {string} path
+ * @returns {Hold}
+ */
+export function hold(path) {
+    const mine = `${path}.${process.pid}`;
+    for (;;) {
+        try {
+            writeFileSync(mine, processOf(String(process.pid)), { mode: 0o600, flag: "wx" });
+            linkSync(mine, path);
+            return "held";
+        } catch (error) {
+            if (codeOf(error) !== "EEXIST") {
+                return "none";
+            }
+        } finally {
+            takeAway(mine);
+        }
+        const holder = holderOf(path);
+        if (holder && processOf(holder.split(" ")[0]) === holder) {
+            return "taken";
+        }
+        takeAwayStale(path, mine);
+    }
+}
+
+/**
+ * a folder of this user alone, or ""
+ * @returns {string}
+ */
+function lockFolder() {
+    const user = process.getuid?.() ?? 0;
+    const folder = `${process.env.TMPDIR || "/tmp"}/railplan-${user}`;
+    try {
+        if (!stateOf(folder)) {
+            mkdirSync(folder, { mode: 0o700 });
+        }
+        const there = lstatSync(folder);
+        return there.isDirectory() && there.uid === user && !(there.mode & 0o022) ? folder : "";
+    } catch {
+        return "";
+    }
+}
+
+/**
+ * Holds the files that are written for this run alone; the locks that are held.
+ * @param {Line} line
+ * @returns {string[]}
+ */
+export function lock(line) {
+    const folder = lockFolder();
+    /** @type {string[]} */
+    const held = [];
+    for (const it of folder ? line.filesWritten : []) {
+        const there = stateOf(it.word);
+        if (there && !there.isFile()) {
+            continue;
+        }
+        const path = `${folder}/${createHash("sha256").update(bytesOf(realPath(it.word))).digest("hex")}`;
+        const found = hold(path);
+        if (found === "held") {
+            held.push(path);
+        } else if (found === "taken") {
+            release(held);
+            end(2, `another run is writing ${it.word}. Wait for its end, or name another file`);
+        }
+    }
+    return held;
+}
+
+/**
+ * Takes locks away.
+ * @param {string[]} held
+ */
+export function release(held) {
+    held.forEach(takeAway);
+}

@@ -1,0 +1,189 @@
+/**
+ * `stations IN OUT`: writes one railML 2 file for each station of a line, each judged by the program's own track graph before.
+ */
+import { mkdirSync, readdirSync } from "node:fs";
+import { join } from "node:path";
+import { MOST_BYTES } from "../both/file_kinds.js";
+import { differing, forksOfFile } from "../both/line/judged.js";
+import { micrometres } from "../both/line/network.js";
+import { cutLine } from "../both/line/stations.js";
+import { unread } from "../both/messages/telling.js";
+import { readGraph } from "../both/page/texts.js";
+import { mended } from "../both/prepare.js";
+import { quoted } from "../both/quoted.js";
+import { read } from "../both/railml.js";
+import { front, writeWhole } from "./files.js";
+import { called, end, say, why } from "./say.js";
+import { SEEN } from "./seen_files.js";
+
+/** @typedef {import("../both/engine.js").Engine} Engine */
+/** @typedef {import("../both/line/stations.js").StationFile} StationFile */
+
+/** the file of a network may be large; more isn't read */
+const MOST = 1 << 30;
+const VALUES = new Set(["--from", "--to", "--tracks"]);
+const USE = "stations takes the file of a line and a folder for its stations";
+
+/**
+ * What is asked for: names, and options with their values.
+ * @param {string[]} words
+ */
+function askedOf(words) {
+    /** @type {string[]} */
+    const names = [];
+    /** @type {Map<string, string>} */
+    const options = new Map();
+    for (let at = 0; at < words.length; at++) {
+        const word = words[at];
+        if (!word.startsWith("--")) {
+            names.push(word);
+        } else if (word !== "--list" && !VALUES.has(word)) {
+            end(2, `stations has no option ${word}: ${called()} stations IN OUT [--list] [--from KM --to KM] [--tracks NAME,..]`);
+        } else if (VALUES.has(word) && at + 1 === words.length) {
+            end(2, `behind ${word} its value is missing`);
+        } else {
+            options.set(word, VALUES.has(word) ? words[++at] : "");
+        }
+    }
+    return { names, options };
+}
+
+/**
+ * A number of kilometres of an option, in micrometres.
+ * @param {Map<string, string>} options
+ * @param {string} name
+ */
+function kilometres(options, name) {
+    const given = options.get(name), value = given === undefined ? undefined : micrometres(given);
+    if (given !== undefined && value === undefined) {
+        end(2, `${name} ${given}: it is a number of kilometres, as 12.5`);
+    }
+    return value === undefined ? undefined : value * 1000;
+}
+
+/**
+ * @param {Map<string, string>} options
+ * @returns {import("../both/line/grouping.js").Asked}
+ */
+function partOf(options) {
+    const low = kilometres(options, "--from"), high = kilometres(options, "--to"), tracks = options.get("--tracks");
+    if ((low === undefined) !== (high === undefined)) {
+        end(2, "--from KM and --to KM go together");
+    }
+    return {
+        range: low === undefined || high === undefined ? null : { low: Math.min(low, high), high: Math.max(low, high) },
+        tracks: tracks === undefined ? undefined : tracks.split(",").filter(Boolean),
+    };
+}
+
+/**
+ * The file, mended as prepare mends it.
+ * @param {string} name
+ */
+function readLine(name) {
+    let data = new Uint8Array();
+    try {
+        data = front(name, MOST);
+    } catch {
+        end(5, unread(name, SEEN, called()));
+    }
+    const it = mended(name, data, called());
+    if (it.unfit) {
+        say(it.unfit);
+        end(1, "nothing is written");
+    }
+    it.guesses.forEach((text) => say(text));
+    it.changes.slice(0, 3).forEach((text) => say(text));
+    if (it.changes.length > 3) {
+        say(`and ${it.changes.length - 3} more changes of this kind, as ${called()} prepare says them`);
+    }
+    return read(it.data);
+}
+
+/**
+ * Whether a station's file says of each switch and crossing what the whole file says; else why that isn't known.
+ * @param {Engine} engine
+ * @param {Map<string, import("../both/line/judged.js").Fork[]>} whole
+ * @param {StationFile} file
+ * @param {AbortSignal} signal
+ */
+async function judged(engine, whole, file, signal) {
+    const bytes = new TextEncoder().encode(file.text), name = `${file.name}.xml`;
+    if (bytes.length > (MOST_BYTES.get("railml") ?? 0)) {
+        return "it has more than 4 MiB";
+    }
+    const ran = await engine.run({ words: ["graph", name], files: new Map([[name, bytes]]), signal });
+    if (ran.wasStopped) {
+        end(130, "stopped");
+    }
+    const text = new TextDecoder().decode(ran.output);
+    if (ran.status !== 0) {
+        return `the program says of it: ${text.trim()}`;
+    }
+    const other = differing(whole, file, readGraph(text));
+    return other === undefined ? "" : `it can't be shown that ${other} has the same legs and sides there`;
+}
+
+/**
+ * Refuses a folder that has one of the files already: what is there isn't written over.
+ * @param {string} out
+ * @param {StationFile[]} files
+ */
+function refuseThere(out, files) {
+    try {
+        mkdirSync(out, { recursive: true });
+        const there = new Set(readdirSync(out)), found = files.find((it) => there.has(`${it.name}.xml`));
+        if (found) {
+            end(2, `${join(out, `${found.name}.xml`)} is there already. Name an empty folder`);
+        }
+    } catch (error) {
+        if (error instanceof Error && "code" in error) {
+            end(6, `${out}: ${why(error)}`);
+        }
+        throw error;
+    }
+}
+
+/**
+ * Runs the command.
+ * @param {{engine: Engine, signal: AbortSignal}} context
+ * @param {import("../both/words.js").Line} line
+ * @returns {Promise<number>}
+ */
+export async function run({ engine, signal }, line) {
+    const { names, options } = askedOf(line.words.slice(1)), isList = options.has("--list"), part = partOf(options);
+    if (names.length !== 2 && !(isList && names.length === 1)) {
+        end(2, `${USE}: ${called()} stations IN OUT`);
+    }
+    const [source, out] = names, document = readLine(source);
+    if (document.trouble) {
+        end(1, `${source}: line ${document.trouble.line}: ${document.trouble.what}`);
+    }
+    const { files, said, isWhole } = cutLine(document, part);
+    if (isList) {
+        files.forEach((it) => say(`${it.name}: ${it.title}, ${it.points.length} switches and crossings`));
+        said.forEach((text) => say(text));
+        return 0;
+    }
+    refuseThere(out, files);
+    const whole = forksOfFile(document);
+    let refused = 0;
+    for (const file of files) {
+        const reason = await judged(engine, whole, file, signal), name = join(out, `${file.name}.xml`);
+        if (reason) {
+            refused++;
+            say(`${name} isn't written (${file.title}, ${file.points.length} switches and crossings): ${reason}`);
+            continue;
+        }
+        try {
+            writeWhole(name, new TextEncoder().encode(file.text));
+        } catch (error) {
+            end(6, `${name} couldn't be written: ${why(error)}`);
+        }
+        say(`${name}: ${file.title}, ${file.points.length} switches and crossings${file.notes.length ? `; ${file.notes.join("; ")}` : ""}`);
+    }
+    said.forEach((text) => say(text));
+    say(`${files.length - refused} of ${files.length} files are written. ${called()} folder ${quoted(out)} DRAWN draws them all`);
+    const isAsked = part.range !== null || part.tracks !== undefined;
+    return refused || !files.length || !isWhole && !isAsked ? 1 : 0;
+}

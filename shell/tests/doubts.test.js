@@ -1,0 +1,47 @@
+/** What is said of a file that leaves something open or says it twice. */
+import assert from "node:assert/strict";
+import { test } from "node:test";
+import { notShown } from "../both/messages/not_shown.js";
+import { read } from "../both/words.js";
+
+/** @param {string} id @param {string} begin @param {string} end @param {string} [more] @param {string} [ends] */
+function track(id, begin, end, more = "", ends = "<openEnd/>") {
+    return `<track id="${id}"><trackTopology><trackBegin id="${id}b" pos="0" absPos="${begin}">${ends}</trackBegin><trackEnd `
+        + `id="${id}e" pos="1000" absPos="${end}">${ends}</trackEnd></trackTopology>${more}</track>`;
+}
+
+/** @param {string} text @param {string} [command] @param {string} [more] */
+function said(text, command = "draw", more = "") {
+    const data = new TextEncoder().encode(`<infrastructure><tracks>${text}</tracks>${more}</infrastructure>`);
+    return notShown(data, read([command, "f"]), []);
+}
+
+test("signals without absPos on a track that falls", () => {
+    const signals = "<ocsElements><signals><signal id=\"s\" pos=\"250\"/><signal id=\"t\" pos=\"300\" "
+        + "absPos=\"1700\"/></signals></ocsElements>";
+    assert.deepEqual(said(track("m", "2000", "1000", signals), "signals"), ["the mileage of track m falls, and 1 signal has no "
+        + "absPos: counted as if it rose, they may lie on another piece. Write absPos=\"1750\" at signal s"]);
+    assert.deepEqual(said(track("m", "1000", "2000", signals), "signals"), []);
+});
+
+test("tracks that nothing joins", () => {
+    assert.deepEqual(said(track("m", "0", "1000") + track("n", "0", "1000")),
+        ["nothing joins track n to track m, so nothing says whether it lies above or below it"]);
+    assert.deepEqual(said(track("m", "0", "1000") + track("n", "1000", "2000")), []);
+});
+
+test("ends that name one operational point where one track goes on as the other", () => {
+    const ends = "<macroscopicNode id=\"x\" ocpRef=\"o\"/>";
+    assert.match(said(track("m", "0", "1000", "", ends) + track("n", "1000", "2000", "", ends))[0],
+        /^the end of track m and the begin of track n name one operational point, and/);
+    assert.deepEqual(said(track("m", "0", "1000", "", ends) + track("n", "5", "1000", "", ends)).filter((it) =>
+        it.includes("operational")), []);
+});
+
+test("offsets, and elements beside tracks", () => {
+    const text = track("m", "0", "1000").replace("absPos=\"1000\"", "absPos=\"1000\" absPosOffset=\"50\"");
+    assert.deepEqual(said(text, "draw", "<operationControlPoints><ocp id=\"a\"/><ocp id=\"b\"/></operationControlPoints>"),
+        ["not drawn: 2 ocp",
+        "absPosOffset isn't read: add it to absPos. Write absPos=\"1050\" at the end of track m, and leave "
+            + "absPosOffset out"]);
+});

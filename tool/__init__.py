@@ -1,1 +1,0 @@
-"""The package of the launcher `railplan`: what there is around the program. No part of it is proved."""

@@ -1,2 +1,0 @@
-"""Which version this is."""
-VERSION = "0.9"
