@@ -4,6 +4,7 @@ from __future__ import annotations
 import argparse
 import contextlib
 import difflib
+import hashlib
 import os
 import pty
 import re
@@ -30,6 +31,7 @@ FOLDERS = (TOP / "examples", HERE / "stations", HERE / "sheets", HERE / "logs", 
 STORE = {path.name: path for folder in FOLDERS for path in folder.iterdir()}
 STORE.update({f"examples/{path.name}": path for path in (TOP / "examples").iterdir()})
 LAUNCHER = ("railplan", "crates.txt", "crates/railplan_main/src/main.rt")
+PROGRAM = "crates/railplan_main/out/railplan_main"
 
 
 class Otherwise(Exception):
@@ -132,7 +134,7 @@ class Case:
 
     def __init__(self, program: Path, folder: Path, steps: list[Step]):
         self.program, self.folder, self.steps = program, folder, steps
-        self.clone = folder / "clone"
+        self.clone, self.is_listed = folder / "clone", False
 
     def run(self) -> None:
         at = 0
@@ -188,7 +190,7 @@ class Case:
             raise Otherwise(f"line {step.number}: an edit has texts behind `- ` and `+ ` in turn")
         for old, new in zip(texts[::2], texts[1::2]):
             if old not in text:
-                raise Otherwise(f"{step.rest} has no text {old}")
+                raise Otherwise(f"{step.rest} has no text {old!r}")
             text = text.replace(old, new, 1)
         path.write_bytes(text)
 
@@ -218,6 +220,14 @@ class Case:
         out.mkdir(exist_ok=True)
         shutil.copy(self.program, out / "railplan_main")
         os.utime(out / "railplan_main", (1, 1) if step.rest == "stale" else None)
+        self.is_listed = step.rest != "stale"
+
+    def list_program(self) -> None:
+        """where the clone has a program that counts as proved, lists it as the launcher lists what it built"""
+        path = self.clone / PROGRAM
+        if self.is_listed and path.is_file():
+            known = hashlib.sha256(path.read_bytes()).hexdigest()
+            (path.parent / "built").write_text(f"railplan-built 1\nkit none\n{PROGRAM}\t-\t{known}\n")
 
     def need_clone(self) -> None:
         """the launcher, in a clone of its own, and the folder of its PATH"""
@@ -227,8 +237,9 @@ class Case:
             (self.clone / name).parent.mkdir(parents=True, exist_ok=True)
             shutil.copy(TOP / name, self.clone / name)
         (self.folder / "bin").mkdir(exist_ok=True)
-        (self.folder / "bin/python3").symlink_to(sys.executable)
-        for name in ("examples", "bench", "pages", "tool"):
+        for name, path in (("python3", sys.executable), ("node", shutil.which("node"))):
+            (self.folder / "bin" / name).symlink_to(path or "node")
+        for name in ("examples", "bench", "shell"):
             shutil.copytree(TOP / name, self.clone / name, ignore=shutil.ignore_patterns("tests", "__pycache__"))
 
     def found(self) -> dict[bytes, bytes | int]:
@@ -244,8 +255,10 @@ class Case:
         """the words of a run, for which the files that they name are there, and where its output goes"""
         text, target = step.rest, None
         if ">" in text and step.word != "shell":
-            text, sign, target = re.fullmatch(r"(.*?) *(>&-|>) *(\S*)", text).groups()
-            target = target or sign
+            found = re.fullmatch(r"(.*?) *(>&-|>) *(\S*)", text)
+            if not found:
+                raise Otherwise(f"line {step.number}: behind `>` stands where the output goes")
+            text, target = found[1], found[3] or found[2]
         words = [text.encode()] if step.word == "shell" else [bytes_of(word) for word in shlex.split(text)]
         for word in (word.decode("utf-8", "replace").replace("\\", "\\\\") for word in words):
             self.path(word)
@@ -283,26 +296,37 @@ class Case:
             if rest or one.under:
                 there = Step("leaves", rest, one.number)
                 there.under = one.under
-                self.compare(one.rest, there, after[bytes_of(name)])
+                content = after[bytes_of(name)]
+                if isinstance(content, int):
+                    raise Otherwise(f"`{step.rest}` leaves {name}, which is too large to be compared")
+                self.compare(one.rest, there, content)
         if changed:
             raise Otherwise(f"`{step.rest}` makes, changes or removes {b' '.join(sorted(changed)).decode(errors='replace')}")
 
     def started(self, words: list[bytes], target: Optional[str], due: list[Step]) -> Ended:
         """the status of the program, what it prints and what it puts on standard error"""
         command = [os.fsencode(self.program), *words]
-        how = {"cwd": self.folder, "stdin": subprocess.DEVNULL, "stderr": subprocess.PIPE}
-        if target == ">&-":
-            ran = subprocess.run([b"sh", b"-c", b'exec "$@" >&-', b"sh", *command], timeout=SECONDS, **how)
-        elif target:
-            with open(self.folder / target, "wb") as out:
-                ran = subprocess.run(command, stdout=out, timeout=SECONDS, **how)
-        else:
-            ran = subprocess.run(command, stdout=subprocess.PIPE, timeout=SECONDS, **how)
+        is_open = target != ">&-"
+        if not is_open:
+            command = [b"sh", b"-c", b'exec "$@" >&-', b"sh", *command]
+        with self.output(target if is_open else None) as out:
+            ran = subprocess.run(command, stdout=out if is_open else None, timeout=SECONDS, cwd=self.folder, stdin=subprocess.DEVNULL,
+                                 stderr=subprocess.PIPE)
         return ran.returncode, ran.stdout or b"", ran.stderr
+
+    @contextlib.contextmanager
+    def output(self, target: Optional[str]) -> Iterator[int]:
+        """where a run's output goes: a file, or to the run's own reader"""
+        if target:
+            with open(self.folder / target, "wb") as out:
+                yield out.fileno()
+        else:
+            yield subprocess.PIPE
 
     def environment(self) -> dict[str, str]:
         """the clone's, in which there is no `rt` but one of the case"""
         self.need_clone()
+        self.list_program()
         folders = [os.path.dirname(sys.executable), "/usr/local/bin", "/usr/bin", "/bin"]
         folders = [it for it in folders if not os.path.exists(f"{it}/rt")]
         return {"PATH": ":".join([f"{self.folder}/bin", *folders]), "LANG": "C.UTF-8", "HERE": str(self.folder),
@@ -322,7 +346,7 @@ class Case:
             told, terminal = pty.openpty() if "terminal" in asked else os.pipe()
         except OSError as error:
             raise NotHere(f"there is no terminal: {error}") from error
-        with open(self.folder / target, "wb") if target else contextlib.nullcontext(subprocess.PIPE) as out:
+        with self.output(target) as out:
             ran = subprocess.Popen([b"clone/railplan", *words], cwd=self.folder, env=environment, stdin=subprocess.DEVNULL,
                                    stdout=out, stderr=terminal, start_new_session=True)
         os.close(terminal)
@@ -340,7 +364,8 @@ class Case:
         finally:
             end_group(ran.pid)
             reader.join()
-        return ran.returncode, *(text.replace(os.fsencode(self.folder), b"HERE") for text in (printed, bytes(said)))
+        here = os.fsencode(self.folder)
+        return ran.returncode, printed.replace(here, b"HERE"), bytes(said).replace(here, b"HERE")
 
     def compare(self, what: str, due: Optional[Step], got: bytes) -> None:
         """holds a text to a step"""
@@ -354,9 +379,9 @@ class Case:
         else:
             wanted = lines_under(due) if due.under else bytes_of(due.rest) + b"\n"
         if got != wanted:
-            texts = [text.decode(errors="backslashreplace").splitlines(True) for text in (wanted, got)]
+            one, other = (text.decode(errors="backslashreplace").splitlines(True) for text in (wanted, got))
             raise Otherwise(what + "\n" + "".join(line if line.endswith("\n") else line + " (no line feed)\n"
-                                                  for line in difflib.unified_diff(*texts, "due", "there", n=1)))
+                                                  for line in difflib.unified_diff(one, other, "due", "there", n=1)))
 
     def compare_lines(self, what: str, patterns: list[str], lines: list[str]) -> None:
         """holds the lines of a text to patterns: those that are to come so often, and those that are to come in this order"""
@@ -372,8 +397,8 @@ class Case:
             if left and re.fullmatch(left[0][1], line):
                 left.pop(0)
         if left:
-            lines = "\n".join(lines)[-3000:]
-            raise Otherwise(f"{what}: the line `{left[0][0]}` is not there, or not behind those before it:\n{lines}")
+            there_are = "\n".join(lines)[-3000:]
+            raise Otherwise(f"{what}: the line `{left[0][0]}` is not there, or not behind those before it:\n{there_are}")
 
 
 def read_all(handle: int, said: bytearray) -> None:
