@@ -13,6 +13,8 @@ from typing import Any, Optional
 FLAGS = ["--headless", "--no-sandbox", "--disable-gpu", "--hide-scrollbars", "--no-first-run", "--disable-extensions",
          "--remote-debugging-pipe"]
 SECONDS = 600
+# whether a page is there; one that draws itself has a sentence until then, which also says why it couldn't be drawn
+READY = "(it => it ? it.textContent : document.readyState + location.protocol)(document.querySelector('.unread'))"
 # what a screen reader comes to and is to have a name for
 NAMED = {"button", "link", "searchbox", "textbox", "checkbox", "image", "complementary"}
 KEYS = {"Enter": 13, "Escape": 27, "ArrowDown": 40, "ArrowUp": 38, "ArrowLeft": 37, "ArrowRight": 39, "Tab": 9}
@@ -50,7 +52,8 @@ class Browser:
         os.close(answers[1])
         self.orders, self.answers = orders[1], answers[0]
         os.set_blocking(self.answers, False)
-        self.rest, self.count, self.events = b"", 0, []
+        self.rest, self.count = b"", 0
+        self.events: list[dict[str, Any]] = []
 
     def close(self) -> None:
         try:
@@ -138,8 +141,10 @@ class Tab:
             raise Gone(f"{page}: {failed}")
         until = began + SECONDS
         while time.time() < until:
-            ready = self.ask("Runtime.evaluate", expression="document.readyState + location.protocol", returnByValue=True)
-            if ready["result"].get("value") == "completefile:":
+            ready = self.ask("Runtime.evaluate", expression=READY, returnByValue=True)["result"].get("value", "")
+            if ready.startswith("The page couldn't be drawn"):
+                raise Gone(f"{page}: {ready}")
+            if ready == "completefile:":
                 self.ask("Runtime.evaluate",
                          expression="new Promise(r => requestAnimationFrame(() => requestAnimationFrame(r)))",
                          awaitPromise=True)

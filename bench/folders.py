@@ -6,17 +6,14 @@ from __future__ import annotations
 
 import os
 import subprocess
-import sys
 import tempfile
 import time
 from argparse import Namespace
 from pathlib import Path
 
+from launcher import Launcher
 from made_stations import EVERYDAY
-from measuring import TOP, Table, read_words, reader_of_words
-
-sys.path.insert(0, str(TOP / "cases"))
-import runner  # noqa: E402
+from measuring import Table, read_words, reader_of_words
 
 HEAD = ["stations", "side by side", "folder, s", "one after the other, s", "of it"]
 GRID = ["--width", "64", "--height", "12"]
@@ -29,19 +26,14 @@ def asked() -> Namespace:
     return read_words(parser)
 
 
-class Clone:
-    """The launcher in a folder of its own, with the program that is measured."""
-
-    def __init__(self, program: Path, folder: Path) -> None:
-        case = runner.Case(program.resolve(), folder, [])
-        case.do_built(runner.Step("built", "", 0))
-        self.folder, self.environment = case.clone, case.environment()
+class Clone(Launcher):
+    """the launcher in a folder of its own, with the program that is measured"""
 
     def seconds(self, runs: list[list[str]]) -> float:
         """how long runs take by the clock, one after the other; each is to end with 0"""
         began = time.monotonic()
         for words in runs:
-            subprocess.run(["./railplan", *words], cwd=self.folder, env=self.environment, check=True, stdin=subprocess.DEVNULL,
+            subprocess.run(["./railplan", *words], cwd=self.clone, env=self.environment, check=True, stdin=subprocess.DEVNULL,
                            stdout=subprocess.DEVNULL, stderr=subprocess.DEVNULL)
         return time.monotonic() - began
 
@@ -52,10 +44,10 @@ def main() -> None:
     with tempfile.TemporaryDirectory() as folder:
         clone = Clone(words.program, Path(folder))
         for name in ("stations", "apart"):
-            (clone.folder / name).mkdir()
+            (clone.clone / name).mkdir()
         names = [f"{at:02} {EVERYDAY[at % len(EVERYDAY)][0]}" for at in range(words.count)]
         for at, name in enumerate(names):
-            (clone.folder / "stations" / f"{name}.xml").write_text(EVERYDAY[at % len(EVERYDAY)][1].text(), encoding="utf-8")
+            (clone.clone / "stations" / f"{name}.xml").write_text(EVERYDAY[at % len(EVERYDAY)][1].text(), encoding="utf-8")
         together = clone.seconds([["folder", "stations", "together", "-j", str(words.jobs), *GRID]])
         apart = clone.seconds([["--html", f"apart/{name}.html", "draw", f"stations/{name}.xml", *GRID, "--svg", f"apart/{name}.svg"]
                                for name in names])

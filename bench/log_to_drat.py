@@ -90,7 +90,7 @@ def judged(path: Path) -> Iterator[Line]:
     greatest, assumed = 0, None
     for line in lines_of(path):
         if line.word == "f":
-            greatest = max([greatest, *map(abs, line.literals)])
+            greatest = max([greatest, *(abs(it) for it in line.literals)])
         elif any(abs(literal) > greatest for literal in line.literals):
             raise Refused(f"line {line.number} has a variable greater than all in the Formula lines before it")
         if line.word == "q":
@@ -139,7 +139,7 @@ def write_formula(path: Path, wanted: Line, to: Path) -> int:
             break
         if line.word == "f":
             clauses.append(line.literals)
-            greatest = max([greatest, *map(abs, line.literals)])
+            greatest = max([greatest, *(abs(it) for it in line.literals)])
     further = greatest + 1
     for literal in wanted.literals:
         clauses += negation(literal, further, further + 1)

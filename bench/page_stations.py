@@ -4,7 +4,7 @@ from __future__ import annotations
 import copy
 import random
 import re
-from typing import Callable
+from typing import Callable, Iterator
 
 from made_stations import EVERYDAY, Station, crossovers, depot, fan, ladder, line, loops, parallel, passing, scissors, terminus
 from made_stations import through, yard
@@ -79,7 +79,8 @@ def file_of(station: Station, naming: str, signals_on_piece: int = 0, every: int
     return text
 
 
-def add_signals(text: str, name: Callable[[int, str], str], count: object, most: int, every: int, chance: random.Random) -> str:
+def add_signals(text: str, name: Callable[[int, str], str], count: Iterator[int], most: int, every: int,
+                chance: random.Random) -> str:
     """signals between the points of each track, some for one way and some for the other"""
     parts = re.split(r"(</trackTopology></track>)", text)
     total = 0

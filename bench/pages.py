@@ -3,8 +3,8 @@
 
   measure   asks the browser how the pages of made stations come out, of six kinds, in six namings by turns or in all
   drive     drives each interaction of each kind of page
-  largest   opens the page of 120 nodes, 158 pieces and 512 signals, and says how much processor time that takes
-  planted   plants wrong lines in a copy of pages/, and says which the tests of the package don't see
+  largest   opens the page of 120 nodes, 158 pieces and 512 signals, which draws itself, and says how much processor time that takes
+  planted   plants wrong lines in a copy of shell/both/page, and says which the tests don't see
   dxf       has LibreCAD's dxf2pdf print the drawings of some stations
 
 Looked for by `measure` are names that the browser sets on a line, a sign or another text or outside of their picture, signals
@@ -21,7 +21,6 @@ import shutil
 import subprocess
 import sys
 import tempfile
-import time
 from concurrent.futures import ProcessPoolExecutor
 from dataclasses import asdict, dataclass, field
 from functools import cache, partial
@@ -31,25 +30,19 @@ from typing import Callable, Iterator
 
 sys.dont_write_bytecode = True
 TOP = Path(__file__).resolve().parent.parent
-sys.path[0:0] = [str(TOP), str(TOP / "bench")]
 
 import page_stations  # noqa: E402
 from answers import Answers  # noqa: E402
 from browser import Browser, Gone, Tab  # noqa: E402
-from measuring import Table, counts_of  # noqa: E402
-from pages import command  # noqa: E402
-from pages.columns import MM, room_on  # noqa: E402
-from pages.kinds import Run, make  # noqa: E402
-from pages.tests.drawn import faults_of_names, faults_of_signs, Drawn, Written  # noqa: E402
-from pages.texts import NoPage  # noqa: E402
-from pages.whole import page_text  # noqa: E402
-from tool import words as words_of_program  # noqa: E402
+from drawn import A3, EDGE, MM, Drawn, faults_of_names, faults_of_signs  # noqa: E402
+from launcher import Launcher  # noqa: E402
+from made_stations import Station  # noqa: E402
+from measuring import BUILT as PROGRAM, Table, counts_of  # noqa: E402
 
-PROGRAM = TOP / "crates/railplan_main/out/railplan_main"
-SAMPLES = TOP / "pages/tests/samples"
+SAMPLES = TOP / "shell/tests/pages/samples"
 KINDS = ("draw", "signals", "explain", "verify", "redraw", "front")
 GRID = ["--width", "64", "--height", "12"]
-WORDS = {"draw": [*GRID, "--conflicts", "3000"], "signals": [*GRID, "--conflicts", "1500"],
+WORDS: dict[str, list[str]] = {"draw": [*GRID, "--conflicts", "3000"], "signals": [*GRID, "--conflicts", "1500"],
          "explain": ["--height", "0", "--conflicts", "500"], "verify": [], "redraw": [*GRID, "--conflicts", "800"],
          "front": [*GRID, "--conflicts", "150"]}
 HEAD = ["page", "pages", "with a drawing", "strips", "texts", "least letters, mm", "faults", "largest, KB", "slowest to open, s"]
@@ -90,15 +83,6 @@ def program(*words: str) -> tuple[int, str]:
     return ran.returncode, ran.stdout.decode("utf-8", "replace")
 
 
-def run_pages(*words: str) -> tuple[int, str]:
-    """runs the pages as the launcher does, with the program that is there: nothing is built; the status, and what was printed"""
-    with tempfile.TemporaryDirectory() as folder:
-        file = Path(folder) / "launcher"
-        file.write_text(f"import os, sys\nos.execv({str(PROGRAM)!r}, ['railplan_main', *sys.argv[1:]])\n", encoding="utf-8")
-        ran = subprocess.run([sys.executable, str(TOP / "pages/run.py"), str(file), *words], capture_output=True, timeout=3600)
-    return ran.returncode, ran.stdout.decode("utf-8", "replace")
-
-
 # ---- measured
 
 
@@ -111,9 +95,9 @@ def drawn_of(picture: dict) -> Drawn:
     """what the browser shows of a picture, for the same questions that the tests ask"""
     left, top, right, bottom = picture["frame"]
     found = Drawn((left - 0.5, top - 0.5, right + 0.5, bottom + 0.5))
-    found.texts = [Written(text, shrunk(box), "", "", 0, kind.split()) for text, box, kind, _ in picture["texts"]]
-    found.lines = [(kind, (tuple(a), tuple(b))) for kind, line in picture["lines"] for a, b in zip(line, line[1:])]
-    found.lines += [("wedge", (tuple(a), tuple(b))) for line in picture["wedges"] for a, b in zip(line, line[1:])]
+    found.texts = [(text, shrunk(box)) for text, box, _, _ in picture["texts"]]
+    lines = [*picture["lines"], *(("wedge", it) for it in picture["wedges"])]
+    found.lines = [(kind, ((x, y), (u, v))) for kind, line in lines for (x, y), (u, v) in zip(line, line[1:])]
     found.signs = [(key, shrunk(box)) for key, box in picture["signs"]]
     return found
 
@@ -156,13 +140,13 @@ class Looked:
     seconds: float = 0.0
 
 
-def look(tab: Tab, page: Path, paper: str = "A3") -> tuple[list[str], dict]:
+def look(tab: Tab, page: Path) -> tuple[list[str], dict]:
     """what is wrong with a page, on a phone and as it is printed; it is opened once"""
     tab.media()
     tab.size(390, 800, True)
     seconds = tab.open(page)
     wide = tab.run("document.documentElement.scrollWidth")
-    tab.size(round(room_on(paper)[0]), 1000)
+    tab.size(round((A3[0] - 2 * EDGE) * MM), 1000)
     tab.media("print")
     seen = {**tab.run(SEEN), "seconds": seconds}
     found = [*faults_of(seen), *(f"it asks for {it}" for it in tab.requests()), *tab.alarms()]
@@ -177,9 +161,9 @@ class Files:
         ending = "<i>&'" if naming == "signs" else ""
         self.stem = str(folder / f"{page_stations.STATIONS[number][0]}.{naming}{ending}".replace(" ", "_"))
 
-    def file(self, word: str, station: object, **more: int) -> str:
+    def file(self, word: str, station: Station, most: int = 0, every: int = 1) -> str:
         path = Path(f"{self.stem}.{word}.xml")
-        path.write_text(page_stations.file_of(station, self.naming, seed=self.number, **more), encoding="utf-8")
+        path.write_text(page_stations.file_of(station, self.naming, most, every, self.number), encoding="utf-8")
         return str(path)
 
     def sheet(self, file: str, is_narrow: bool) -> str:
@@ -196,7 +180,7 @@ class Files:
         """the words of a run of a kind; a sheet that it needs is made before"""
         if kind == "signals":
             most, every = (2, 1) if self.station.text().count("<switch") < 20 else (1, 3)
-            return ["signals", self.file("signals", self.station, signals_on_piece=most, every=every), *WORDS[kind]]
+            return ["signals", self.file("signals", self.station, most, every), *WORDS[kind]]
         file = self.file("plain", self.station)
         if kind == "verify":
             return ["verify", file, self.sheet(file, self.number % 2 == 0)]
@@ -215,36 +199,26 @@ def pages_of(number: int, kinds: int, namings: int) -> Iterator[tuple[str, str]]
             yield KINDS[(number + at) % len(KINDS)], names[(number // len(KINDS) + number + at + turn) % len(names)]
 
 
-class Asked(command.Program):
-    """the program in the pages' hands, which answers what it answered before"""
-
-    def __init__(self, answers: Answers) -> None:
-        self.answers = answers
-
-    def run(self, words: list[str], is_quiet: bool = False) -> tuple[int, bytes]:
-        return self.answers.of(words)
+class NoPage(Exception):
+    """a run has no page"""
 
 
-def write_page(page: Path, words: list[str], answers: Answers) -> int:
-    """writes the page of a run as `--html` does, without another process; the run's status"""
-    line, asked = words_of_program.read(words), Asked(answers)
-    with tempfile.TemporaryDirectory() as folder:
-        inputs, copied = command.read_inputs(line, Path(folder))
-        status, output = asked.run(copied)
-        run = Run(words, line.names, line.options, output.decode("utf-8", "replace"), status, inputs, page=str(page), copied=copied)
-        command.complete(run, asked, line)
-    page.write_text(page_text(make(run)), encoding="utf-8", errors="replace")
+def write_page(page: Path, words: list[str], launcher: Launcher) -> int:
+    """the run of a page; its status"""
+    status, _, said = launcher.run("--html", str(page), *words)
+    if not page.exists():
+        raise NoPage(f"it ends with {status}: {said[-300:]}")
     return status
 
 
-def looked(files: Files, kind: str) -> Looked:
+def looked(files: Files, kind: str, launcher: Launcher) -> Looked:
     """a page that is made, opened and looked at, or what is kept of that"""
     page = Path(f"{files.stem}.{kind}.html")
     kept, found = page.with_suffix(".seen"), Looked(kind, page.name)
     if kept.exists():
         return Looked(**json.loads(kept.read_text(encoding="utf-8")))
     try:
-        status = write_page(page, files.words(kind), files.answers)
+        status = write_page(page, files.words(kind), launcher)
         found.faults, seen = look(open_tab(), page)
     except (Gone, NoPage, OSError, subprocess.TimeoutExpired) as error:
         open_tab.cache_clear()
@@ -267,21 +241,23 @@ def open_tab() -> Tab:
     return Tab(browser)
 
 
-def measured(number: int, folder: Path, kinds: int, namings: int, is_kept: bool) -> list[Looked]:
+def measured(number: int, folder: Path, launcher: Launcher, answers: Answers, kinds: int, namings: int,
+             is_kept: bool) -> list[Looked]:
     """the pages of a station; where that is asked those alone of which is kept what was seen"""
-    (folder / "answers").mkdir(exist_ok=True)
-    answers = Answers(str(PROGRAM), str(folder / "answers"))
     listed = [(Files(number, naming, folder, answers), kind) for kind, naming in pages_of(number, kinds, namings)]
-    return [looked(files, kind) for files, kind in listed if not is_kept or Path(f"{files.stem}.{kind}.seen").exists()]
+    return [looked(files, kind, launcher) for files, kind in listed if not is_kept or Path(f"{files.stem}.{kind}.seen").exists()]
 
 
 def measure(words: argparse.Namespace) -> list[tuple[str, list[str]]]:
     found: list[list[Looked]] = []
     with contextlib.ExitStack() as stack:
         folder = words.folder or Path(stack.enter_context(tempfile.TemporaryDirectory()))
-        folder.mkdir(parents=True, exist_ok=True)
+        (folder / "answers").mkdir(parents=True, exist_ok=True)
+        room = Path(stack.enter_context(tempfile.TemporaryDirectory()))
+        answers = Answers(str(PROGRAM), str(folder / "answers"))
+        launcher = Launcher(answers.as_program(room / "program"), room)
         pool = stack.enter_context(ProcessPoolExecutor(words.jobs))
-        ask = partial(measured, folder=folder, kinds=words.kinds, namings=words.namings, is_kept=words.kept)
+        ask = partial(measured, folder=folder, launcher=launcher, answers=answers, kinds=words.kinds, namings=words.namings, is_kept=words.kept)
         for number, pages in zip(range(words.first, words.stations), pool.map(ask, range(words.first, words.stations))):
             for it in pages:
                 faults = f"{it.faults[0]}, and {len(it.faults) - 1} more" if it.faults else "as it is to be"
@@ -326,6 +302,7 @@ def drive(words: argparse.Namespace) -> list[tuple[str, list[str]]]:
     found = []
     with tempfile.TemporaryDirectory() as base:
         folder = Path(base)
+        launcher = Launcher(PROGRAM, folder)
         file = folder / "ladder.xml"
         file.write_text(page_stations.file_of(dict(page_stations.STATIONS)["ladder 1"], "usual", 1), encoding="utf-8")
         runs = {"draw": ["draw", str(TOP / "examples/station.xml")], "signals": ["signals", str(file), "--width", "64"],
@@ -337,7 +314,7 @@ def drive(words: argparse.Namespace) -> list[tuple[str, list[str]]]:
         with Browser() as browser:
             for kind, given in runs.items():
                 page = folder / f"{kind}.html"
-                _, output = run_pages(str(page), *given)
+                _, output, _ = launcher.run("--html", str(page), *given)
                 try:
                     checks = pages_driven.drive(browser, kind, page, output, program("graph", given[1])[1])
                 except Gone as error:
@@ -355,21 +332,20 @@ def drive(words: argparse.Namespace) -> list[tuple[str, list[str]]]:
 
 def largest(words: argparse.Namespace) -> list[tuple[str, list[str]]]:
     """the page of as much as a file may have, from a drawing that is written and not searched for"""
-    from largest_page import page_text_of_largest
+    from largest_page import Largest
     with tempfile.TemporaryDirectory() as folder, Browser() as browser:
-        page = Path(folder) / "largest.html"
-        began = time.process_time()
-        page.write_text(page_text_of_largest(), encoding="utf-8")
-        made = time.process_time() - began
+        largest_page = Largest(Path(folder))
+        page = largest_page.page
+        made = largest_page.make()
         tab = Tab(browser)
         seconds = min(tab.open(page) for _ in range(3))
-        rows, size = tab.run("rows.length"), page.stat().st_size
+        rows, size = tab.run("document.querySelectorAll('aside.list tbody tr').length"), page.stat().st_size
         found, seen = look(tab, page)
         names = sum(len(it["texts"]) for it in seen["pictures"])
         table = Table("largest_page", ["objects", "texts", "strips", "KB", "to make, s", "to open, s"], PROGRAM)
         table.add(rows, names, len(seen["pictures"]), f"{size / 1000:,.0f}", made, seconds)
         table.end(words.write)
-    slow = ["it opens slowly"] if seconds >= 2 else []
+    slow = ["it opens slowly"] if seconds >= 4 else []
     big = ["it is too big"] if size > 1_000_000 else []
     return [("the largest page", slow + big + found)]
 
@@ -383,10 +359,11 @@ def dxf(words: argparse.Namespace) -> list[tuple[str, list[str]]]:
     """LibreCAD prints the drawings; a PDF with less than the lines of the drawing would be too small"""
     found = []
     with tempfile.TemporaryDirectory() as base:
+        launcher = Launcher(PROGRAM, Path(base))
         for name in ("ladder 1", "terminus 3", "line 2", "scissors 1"):
             file = Path(base) / f"{name.replace(' ', '_')}.xml"
             file.write_text(page_stations.file_of(dict(page_stations.STATIONS)[name], "wide", 1), encoding="utf-8")
-            run_pages("--dxf", str(file.with_suffix(".dxf")), "signals", str(file), "--width", "64")
+            launcher.run("--dxf", str(file.with_suffix(".dxf")), "signals", str(file), "--width", "64")
             subprocess.run(["librecad", "dxf2pdf", "-o", str(file.with_suffix(".pdf")), str(file.with_suffix(".dxf"))],
                            capture_output=True, env={**os.environ, "QT_QPA_PLATFORM": "offscreen"}, timeout=120)
             pdf = file.with_suffix(".pdf")

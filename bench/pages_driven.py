@@ -3,17 +3,29 @@ from __future__ import annotations
 
 import json
 import re
+import subprocess
 from pathlib import Path
 from typing import Callable, Iterator
 
-from browser import Browser, Tab, centre
-from pages.columns import MM, PAPERS
+from browser import Browser, Gone, Tab, centre
+from drawn import A3, MM
 
 SIGN = 'svg.strip .sign[data-key="{}"]'
 ROW = 'aside.list tr[data-key="{}"]'
 IN_SIGHT = """(() => { const it = document.querySelector('.said h2'), box = it.getBoundingClientRect();
   return it.contains(document.elementFromPoint(box.left + 5, (box.top + box.bottom) / 2)) })()"""
+# what the checks ask a page for, beside what its script knows of it
+ASKED = """
+  window.rows = [...document.querySelectorAll('aside.list tbody tr')];
+  window.chosen = () => document.querySelector('aside.list tr.chosen')?.dataset.key ?? null;
+  window.letGo = () => document.querySelector('[data-do=let]')?.click();
+  window.choose = key => rows.find(it => it.dataset.key == key).click();
+  window.seen = () => document.querySelector('svg.strip').viewBox.baseVal.x;
+"""
 Check = tuple[str, bool]
+Way = tuple[list[str], list[str]]
+Node = list[str]
+Edges = dict[int, tuple[int, int]]
 
 
 def marked(tab: Tab, name: str) -> list[str]:
@@ -32,13 +44,23 @@ def scale(tab: Tab) -> float:
 
 def measure(tab: Tab) -> list[float]:
     """the height of a name and the width of a line, as they are seen"""
-    return tab.run("""(() => { letGo(); mark('over', []); const name = document.querySelector('svg.strip .name.node');
+    return tab.run("""(() => { letGo(); document.body.dispatchEvent(new PointerEvent('pointerover', {bubbles: true})); const name = document.querySelector('svg.strip .name.node');
       return [name.getBoundingClientRect().height,
         parseFloat(getComputedStyle(document.querySelector('svg.strip .edge')).strokeWidth)] })()""")
 
 
-def key_of(tab: Tab, id: str) -> str:
-    return tab.run(f"Object.entries(objects).find(([key, it]) => it.id == {json.dumps(id)} && key[0] != 'e')[0]")
+def middle(tab: Tab, what: str) -> tuple[float, float]:
+    """the middle of what is there"""
+    found = centre(tab, what)
+    if found is None:
+        raise Gone(f"the page has no {what}")
+    return found
+
+
+def know(tab: Tab, page: Path) -> None:
+    """hands a page what its own script knows of it, and what is asked for by short names"""
+    known = subprocess.run(["node", str(Path(__file__).with_name("page_known.js")), str(page)], capture_output=True, check=True, text=True)
+    tab.run(f"window.known = {known.stdout}; window.objects = known?.objects; {ASKED}")
 
 
 # ---- draw and signals
@@ -53,18 +75,18 @@ def search(tab: Tab) -> Iterator[Check]:
     yield "a word leaves the rows that have it", 0 < left < rows and tab.run(
         "rows.filter(it => !it.hidden).every(it => it.textContent.includes('switch'))")
     tab.key("Enter")
-    first = tab.run("chosen")
+    first = tab.run("chosen()")
     yield "Enter chooses the first", first == tab.run("rows.find(it => !it.hidden).dataset.key")
     tab.key("n")
-    second = tab.run("chosen")
+    second = tab.run("chosen()")
     yield "`n` chooses the next", second != first and second == tab.run("rows.filter(it => !it.hidden)[1].dataset.key")
     tab.key("N")
-    yield "`N` chooses the one before", tab.run("chosen") == first
+    yield "`N` chooses the one before", tab.run("chosen()") == first
     tab.key("/")
     tab.key("Escape")
     yield "Escape empties the search", tab.run("rows.every(it => !it.hidden)")
     tab.key("Escape")
-    yield "Escape lets go", tab.run("chosen") is None and tab.run("location.hash") == ""
+    yield "Escape lets go", tab.run("chosen()") is None and tab.run("location.hash") == ""
 
 
 def both_ways(tab: Tab, switch: str) -> Iterator[Check]:
@@ -72,12 +94,12 @@ def both_ways(tab: Tab, switch: str) -> Iterator[Check]:
       const [list, drawing] = ['aside.list', 'svg.strip'].map(it => document.querySelector(it).getBoundingClientRect());
       return drawing.right <= list.left && list.top < drawing.bottom && list.right <= innerWidth })()""")
     tab.run(f"document.querySelector('{SIGN.format(switch)}').scrollIntoView({{block: 'center'}})")
-    tab.move(*centre(tab, SIGN.format(switch)))
+    tab.move(*middle(tab, SIGN.format(switch)))
     yield "a sign lights its row", tab.run(f"document.querySelector('{ROW.format(switch)}').classList.contains('over')")
     tab.run(f"document.querySelector('{ROW.format(switch)}').scrollIntoView({{block: 'center'}})")
-    tab.move(*centre(tab, ROW.format(switch)))
+    tab.move(*middle(tab, ROW.format(switch)))
     yield "a row lights its sign", tab.run(f"document.querySelector('{SIGN.format(switch)}').classList.contains('over')")
-    tab.click(*centre(tab, ROW.format(switch)))
+    tab.click(*middle(tab, ROW.format(switch)))
     yield "a row is chosen", marked(tab, "chosen") == [switch]
     yield "its link is its id", tab.run(f"decodeURIComponent(location.hash) == '#' + objects['{switch}'].link")
 
@@ -89,11 +111,11 @@ def in_sight(tab: Tab) -> Iterator[Check]:
         tab.size(*size, what == "on a phone")
         tab.run("letGo(); window.scrollTo(0, 0)")
         tab.run(f"document.querySelector('{SIGN.format(last)}').scrollIntoView({{block: 'center', inline: 'center'}})")
-        tab.click(*centre(tab, SIGN.format(last)))
+        tab.click(*middle(tab, SIGN.format(last)))
         yield f"what a sign says is in sight {what}", marked(tab, "chosen") == [last] and tab.run(IN_SIGHT)
         tab.click(*(centre(tab, ".said button") or (1, 1)))
         yield f"a button lets go of it {what}", marked(tab, "chosen") == []
-    tab.run("rove(rows[0])")
+    tab.run("rows[0].click(); letGo()")
     tab.size(1600, 1000)
 
 
@@ -120,7 +142,7 @@ def pieces(tab: Tab) -> Iterator[Check]:
     yield "its signals come in their order", columns == sorted(columns) and len(columns) == text.count("signal ")
 
 
-def paths(tab: Tab, expected: Callable[[str, str], object]) -> Iterator[Check]:
+def paths(tab: Tab, expected: Callable[[str, str], Way | None]) -> Iterator[Check]:
     """the path between each two of some signals is that of another search"""
     signals = tab.run("Object.keys(known.signals)")
     some, good, found = signals[:: max(1, len(signals) // 12)][:12], 0, 0
@@ -128,7 +150,7 @@ def paths(tab: Tab, expected: Callable[[str, str], object]) -> Iterator[Check]:
         for other in some:
             if one == other:
                 continue
-            tab.run(f"letGo(); choose('{one}', true); choose('{other}', true)")
+            tab.run(f"letGo(); choose('{one}'); choose('{other}')")
             wanted = expected(one, other)
             text = said(tab)
             if wanted is None:
@@ -146,9 +168,9 @@ def paths(tab: Tab, expected: Callable[[str, str], object]) -> Iterator[Check]:
 def zooming(tab: Tab) -> Iterator[Check]:
     tab.run("window.scrollTo(0, 0); document.activeElement.blur()")
     before, letters = scale(tab), measure(tab)
-    at = centre(tab, "svg.strip")
+    at = middle(tab, "svg.strip")
     tab.move(*at)
-    tab.wheel(*at, -120)
+    tab.wheel(at[0], at[1], -120)
     tab.run("new Promise(r => setTimeout(r, 80))")
     yield "control and the wheel bring it nearer", scale(tab) > before * 1.1
     tab.key("+")
@@ -156,14 +178,14 @@ def zooming(tab: Tab) -> Iterator[Check]:
     near, now = scale(tab), measure(tab)
     yield "`+` brings it nearer", near > before * 1.5
     yield "letters and lines keep their width", all(abs(a - b) < 0.6 for a, b in zip(letters, now))
-    box = tab.run("homes.get(strips[0]).box")
+    left = tab.run("seen()")
     tab.key("ArrowRight")
-    yield "an arrow moves it", tab.run("homes.get(strips[0]).box[0]") > box[0]
-    box = tab.run("homes.get(strips[0]).box")
-    tab.press(*at, "mousePressed")
+    yield "an arrow moves it", tab.run("seen()") > left
+    left = tab.run("seen()")
+    tab.press(at[0], at[1], "mousePressed")
     tab.move(at[0] - 60, at[1], 1)
     tab.press(at[0] - 60, at[1], "mouseReleased")
-    yield "the pointer drags it", tab.run("homes.get(strips[0]).box[0]") > box[0] + 5
+    yield "the pointer drags it", tab.run("seen()") > left + 5
     tab.key("0")
     yield "`0` shows the whole", abs(scale(tab) - before) < 1e-6
 
@@ -237,7 +259,7 @@ def printing(tab: Tab, page: Path) -> Iterator[Check]:
     printed = page.with_suffix(".pdf")
     tab.print(printed, preferCSSPageSize=True)
     sheets = re.findall(rb"/MediaBox \[0 0 ([\d.]+) ([\d.]+)\]", printed.read_bytes())
-    wrong = [it for sheet in sheets for it, wanted in zip(sheet, PAPERS["A3"]) if abs(float(it) * 96 / 72 - wanted * MM) > 1]
+    wrong = [it for sheet in sheets for it, wanted in zip(sheet, A3) if abs(float(it) * 96 / 72 - wanted * MM) > 1]
     yield f"it is printed on A3 ({len(sheets)} sheets)", bool(sheets) and not wrong
 
 
@@ -289,7 +311,7 @@ def versions(tab: Tab) -> Iterator[Check]:
       const [a, b] = [...document.querySelectorAll('figure.version')].map(it => it.getBoundingClientRect());
       return !!b && a.right <= b.left + 1 })()""")
     first = tab.run("document.querySelector('.changes li').dataset.key")
-    tab.move(*centre(tab, ".changes li"))
+    tab.move(*middle(tab, ".changes li"))
     yield "a change lights what it is about", marked(tab, "over") == [first]
     is_there = tabbed(tab, ".changes input")
     tab.key(" ")
@@ -304,7 +326,7 @@ def lines_of_fault(tab: Tab) -> Iterator[Check]:
         tab.run(f"!!document.getElementById({json.dumps(it[1:])})") for it in hrefs)
 
 
-def onward(nodes: dict, edges: dict, above: set, edge: int, east: bool) -> list[tuple[int, str]]:
+def onward(nodes: dict[int, Node], edges: Edges, above: set[tuple[int, int]], edge: int, east: bool) -> list[tuple[int, str]]:
     """where an edge leads on, and how the switch lies for that"""
     node = edges[edge][1 if east else 0]
     out = [it for it, (west, far) in edges.items() if (west if east else far) == node]
@@ -322,9 +344,12 @@ def onward(nodes: dict, edges: dict, above: set, edge: int, east: bool) -> list[
     return [(it, "") for it in out] if kind[0] == "joint" else []
 
 
-def expected_paths(text: str, graph: str) -> Callable[[str, str], object]:
+def expected_paths(text: str, graph: str, ways: dict[str, bool | None]) -> Callable[[str, str], Way | None]:
     """another search for paths, from the program's own texts: of the pieces and the positions of switches"""
-    nodes, edges, above, signals = {}, {}, set(), {}
+    nodes: dict[int, Node] = {}
+    edges: Edges = {}
+    above: set[tuple[int, int]] = set()
+    signals: dict[str, tuple[int, int]] = {}
     for line in graph.split("\n"):
         fields = line.split(" ")
         if fields[0] == "node":
@@ -338,11 +363,12 @@ def expected_paths(text: str, graph: str) -> Callable[[str, str], object]:
         if fields[0] == "signal":
             signals[f"s{fields[1]}"] = (int(fields[3]), int(fields[4]))
 
-    def search_(one: str, other: str, east: bool) -> object:
+    def search_(one: str, other: str, east: bool) -> Way | None:
         (start, column), (goal, there) = signals[one], signals[other]
         if start == goal and (there > column if east else there < column):
             return [f"e{start}"], []
-        seen, waiting = {start}, [(start, [f"e{start}"], [])]
+        seen = {start}
+        waiting: list[tuple[int, list[str], list[str]]] = [(start, [f"e{start}"], [])]
         for edge, pieces_, positions in waiting:
             for further, position in onward(nodes, edges, above, edge, east):
                 if further in seen:
@@ -354,9 +380,10 @@ def expected_paths(text: str, graph: str) -> Callable[[str, str], object]:
                 waiting.append((further, *found))
         return None
 
-    def expected(one: str, other: str, ways: dict[str, object] = {}) -> object:
+    def expected(one: str, other: str) -> Way | None:
         for first, second in ((one, other), (other, one)):
-            for east in ([True, False] if ways.get(first) is None else [ways[first]]):
+            way = ways.get(first)
+            for east in ([True, False] if way is None else [way]):
                 found = search_(first, second, east)
                 if found:
                     return found
@@ -369,6 +396,7 @@ def drive(browser: Browser, kind: str, page: Path, output: str, graph: str) -> l
     tab = Tab(browser)
     try:
         tab.open(page)
+        know(tab, page)
         found: list[Check] = []
         if kind in ("draw", "signals"):
             switch = tab.run("Object.keys(objects).find(it => objects[it].kind == 'switch')")
@@ -377,9 +405,8 @@ def drive(browser: Browser, kind: str, page: Path, output: str, graph: str) -> l
                                  + output[output.index("\nend ") + 1:].split("\n")[0] + "\n")):
                 found += list(check)
             if kind == "signals":
-                expected = expected_paths(output, graph)
                 ways = tab.run("Object.fromEntries(Object.entries(known.signals).map(([k, v]) => [k, v[2]]))")
-                found += list(paths(tab, lambda one, other: expected(one, other, ways)))
+                found += list(paths(tab, expected_paths(output, graph, ways)))
             found += list(links(tab, page, tab.run(f"objects['{switch}'].link"), switch))
             found += [*looks(tab, page), *printing(tab, page)]
         else:

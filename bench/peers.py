@@ -74,7 +74,8 @@ def asked(program: Path, log: Path) -> Found:
 
 def sum_of(log: Path) -> tuple[str, list[tuple[str, int, int]]]:
     """the clauses of a log as a file of sums, and each criterion with its weight and its greatest value"""
-    clauses, bounds, greatest = [], {}, 0
+    clauses, greatest = [], 0
+    bounds: dict[str, list[int]] = {}
     with log.open(encoding="utf-8") as lines:
         for line in lines:
             letter, *fields = line.split()

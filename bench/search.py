@@ -85,9 +85,10 @@ def main() -> None:
     table = Table("search", HEAD, words.program)
     made = run([words.program, "make", "20"]).text
     with tempfile.TemporaryDirectory() as folder:
-        for name, text, options in (
-                ("examples/station.xml", (TOP / "examples/station.xml").read_text(encoding="utf-8"), []), ("make 20", made, []),
-                ("scissors 2", scissors(2).text(), []), ("yard 4, 64 by 8", yard(4).text(), ["--width", "64", "--height", "8"])):
+        stations: list[tuple[str, str, list[str]]] = [
+            ("examples/station.xml", (TOP / "examples/station.xml").read_text(encoding="utf-8"), []), ("make 20", made, []),
+            ("scissors 2", scissors(2).text(), []), ("yard 4, 64 by 8", yard(4).text(), ["--width", "64", "--height", "8"])]
+        for name, text, options in stations:
             table.add(name, *row(words.program, text, options, Path(folder)))
     table.end(words.write)
 

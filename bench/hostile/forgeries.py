@@ -82,7 +82,8 @@ def wanted(claim: Claim, bounds: dict[tuple[str, int], int]) -> list[list[int]]:
     """the literals of the Refuted lines that the claim needs"""
     if not claim.sheet.drawing:
         return [[]]
-    lines, allowed = [], []
+    lines: list[list[int]] = []
+    allowed: list[int] = []
     values = values_in(claim.sheet, claim.sheet.order)
     for name, value in list(zip(claim.sheet.order, values))[:claim.sheet.settled]:
         least = bounds.get((name, value))

@@ -7,6 +7,7 @@ from __future__ import annotations
 import re
 from dataclasses import dataclass
 from functools import lru_cache
+from typing import NoReturn
 
 from opinion import drawing, log, reading
 
@@ -44,6 +45,12 @@ def number_of(field: bytes, least: int) -> int | None:
     return number if least <= number and abs(number) <= LAST else None
 
 
+def numbers_of(fields: list[bytes], least: int) -> list[int] | None:
+    """the numbers that fields are; nothing where one is none"""
+    found = [number for number in (number_of(field, least) for field in fields) if number is not None]
+    return found if len(found) == len(fields) else None
+
+
 def line_of(text: bytes) -> Hinted | int:
     """the line that a text without its line feed is, or the number of its fault"""
     word, *fields = text.split(b" ")
@@ -53,9 +60,9 @@ def line_of(text: bytes) -> Hinted | int:
     literals, hints = fields[:end], fields[end + 1:]
     if len(hints) < 2 or hints[-1] != b"0" or (word == b"l" and not literals):
         return 2
-    numbers = [number_of(field, -LAST) for field in literals]
-    named = [number_of(field, 1) for field in hints[:-1]]
-    if None in numbers or None in named:
+    numbers = numbers_of(literals, -LAST)
+    named = numbers_of(hints[:-1], 1)
+    if numbers is None or named is None:
         return 3
     if len({abs(number) for number in numbers}) < len(numbers):
         return 4
@@ -86,7 +93,7 @@ def is_good(clauses: list[tuple[int, ...]], line: Hinted) -> bool:
     return True
 
 
-def refuse(fault: int, number: int) -> None:
+def refuse(fault: int, number: int) -> NoReturn:
     raise reading.Refused(b"hints %d %s line %d" % (fault, FAULTS[fault].encode(), number))
 
 
@@ -133,7 +140,8 @@ def lacking(sheet: drawing.Sheet, claims: Claims) -> int | None:
     """the first place whose value isn't certified as least; nothing where all that is claimed are"""
     if not sheet.drawing:
         return 0 if sheet.ending == "none" and set() not in claims.refuted else None
-    values, allowed = dict(zip(drawing.CRITERIA, sheet.drawing.values())), set()
+    values = dict(zip(drawing.CRITERIA, sheet.drawing.values()))
+    allowed: set[int | None] = set()
     for place, name in enumerate(sheet.order[:sheet.settled], 1):
         least = claims.bounds.get((name, values[name]))
         if values[name] and not any(clause <= allowed | {least} for clause in claims.refuted):

@@ -11,7 +11,7 @@ import drawing  # noqa: E402
 import graph  # noqa: E402
 import log  # noqa: E402
 import reading  # noqa: E402
-import stations  # noqa: E402
+import chance_stations as stations  # noqa: E402
 
 __all__ = ["drawing", "graph", "log", "reading", "stations", "graph_answer", "load"]
 

@@ -43,7 +43,7 @@ WRITTEN = ("a_log", "a_picture", "some_hints")
 @cache
 def library() -> str:
     """the path of the library, which is built before the cases begin"""
-    compiler = next(filter(None, map(shutil.which, ("cc", "gcc", "clang"))), None)
+    compiler = next((it for it in map(shutil.which, ["cc", "gcc", "clang"]) if it), None)
     if not compiler or not sys.platform.startswith("linux"):
         raise NotHere("there is no C compiler, or this isn't Linux")
     folder = tempfile.mkdtemp(prefix="failing_")

@@ -196,7 +196,8 @@ def judge(tally: Tally, command: str, family: str, last: Measured, slow: bool) -
 def try_family(words: argparse.Namespace, command: str, family: str, material: Material, rates: dict[int, float],
                tally: Tally) -> list[str]:
     """measures a family at each size, until it is slow; its row of the table"""
-    slow, measured = False, []
+    slow = False
+    measured: list[Measured] = []
     for doubling in range(words.count):
         size = min(words.least << doubling, MOST.get(command, 1 << 29) - 2000)
         one = measure(words, command, FAMILIES[command][family], material, size)

@@ -3,7 +3,7 @@ from __future__ import annotations
 
 from dataclasses import dataclass
 
-from opinion import drawing, graph, load, log, stations
+from opinion import drawing, graph, load, log as logs, stations
 from trying import TOP, Case
 
 WIDTHS, HEIGHTS = ("4", "5", "6", "8"), ("0", "1", "1", "2")
@@ -18,7 +18,7 @@ class Drawn:
     words: list[str]
     sheet: bytes
     log: bytes
-    written: log.Written
+    written: logs.Written
 
 
 def station(case: Case, edges: int) -> tuple[bytes, graph.Graph]:
@@ -48,8 +48,8 @@ def drawn(case: Case, edges: int = 6, budgets: tuple[str, ...] = ("2", "30", "50
             continue
         case.write("sheet", answer.printed)
         text_of_log = case.text_of("log") or b""
-        lines = log.read_log(text_of_log)
-        return Drawn(text, found, words, answer.printed, text_of_log, log.Written(found, lines))
+        lines = logs.read_log(text_of_log)
+        return Drawn(text, found, words, answer.printed, text_of_log, logs.Written(found, lines))
 
 
 ENDINGS = (b"best\n", b"none\n", b"conflicts 0\n", b"conflicts 1\n", b"conflicts 3\n", b"room 2\n")

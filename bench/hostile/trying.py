@@ -210,7 +210,8 @@ class Stop:
     def ask(cls, *_: object) -> None:
         cls.asked = True
         for worker in multiprocessing.active_children():
-            os.kill(worker.pid, signal.SIGINT)
+            if worker.pid:
+                os.kill(worker.pid, signal.SIGINT)
 
     @classmethod
     def listen(cls) -> None:

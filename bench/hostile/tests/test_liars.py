@@ -8,7 +8,7 @@ import unittest
 from pathlib import Path
 
 import launched
-import pages
+import named_pages
 import signals
 from trying import TOP, Case, Runner
 
@@ -50,7 +50,7 @@ class Pages(unittest.TestCase):
         with tempfile.TemporaryDirectory() as folder:
             case = Case(PROGRAM, Runner(Path(folder)), 1, 1)
             case.write("station", b"<infrastructure/>")
-            pages.judge_page(case, page.encode())
+            named_pages.judge_page(case, page.encode())
             return case.tally.wrong
 
     def test_names_that_are_text(self) -> None:

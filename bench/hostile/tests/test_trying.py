@@ -99,14 +99,17 @@ class Scripts(unittest.TestCase):
     def test_batches_leave_nothing(self) -> None:
         words = argparse.Namespace(program=Path("/bin/sh"), seed=1, until=time.time() + 60, keep=None)
 
+        def attempt(case: trying.Case) -> None:
+            case.run("-c", "echo out > there")
+
         def left() -> tuple[list[str], list[str]]:
             return os.listdir("/proc/self/fd"), os.listdir(folder)
 
         with tempfile.TemporaryDirectory() as folder, mock.patch.object(trying, "place_of_folders", lambda: folder):
-            trying.try_some(words, lambda case: case.run("-c", "echo out > there"), range(1))
+            trying.try_some(words, attempt, range(1))
             before = left()
             for number in range(3):
-                trying.try_some(words, lambda case: case.run("-c", "echo out > there"), range(number, number + 1))
+                trying.try_some(words, attempt, range(number, number + 1))
             self.assertEqual(left(), before)
         with self.assertRaises(ChildProcessError):
             os.waitpid(-1, os.WNOHANG)
@@ -158,6 +161,7 @@ class Interrupts(unittest.TestCase):
         for number in (signal.SIGINT, signal.SIGTERM):
             command = [sys.executable, "-c", text, str(Path(trying.__file__).parent), "/bin/sh"]
             job = subprocess.Popen(command, stdout=subprocess.PIPE, text=True)
+            assert job.stdout
             self.assertEqual(job.stdout.readline(), "tried\n")
             job.send_signal(number)
             said = job.communicate(timeout=60)[0].splitlines()[-1]

@@ -3,11 +3,13 @@
 
 The ids and the tracks' names of stations by chance are exchanged for markup, quotes, entities, signs that turn the direction of
 writing, long texts and control characters; some files get changes beside. The launcher runs a command with a page. It prints and
-ends as the program does, and says nothing of Python. Behind an answer there is a page. In a page no name is markup, an attribute
-or a comment; its pictures are XML; it has no control character and no U+FFFE or U+FFFF. The program's own picture is XML too."""
+ends as the program does, and says nothing of Node. Behind an answer there is a page. In a page, as it is written and as it draws
+itself, no name is markup, an attribute or a comment; its pictures are XML; it has no control character and no U+FFFE or U+FFFF. The
+program's own picture is XML too."""
 from __future__ import annotations
 
 import re
+import shutil
 import sys
 import unicodedata
 from html.parser import HTMLParser
@@ -21,7 +23,9 @@ import launched  # noqa: E402
 from changes import changed_file  # noqa: E402
 from known import KNOWN  # noqa: E402
 from opinion import load, stations  # noqa: E402
-from trying import Answer, Case, main  # noqa: E402
+from trying import TOP, Answer, Case, main  # noqa: E402
+
+DRAWN = TOP / "bench/page_drawn.js"
 
 # stands in each hostile name, so that it is found in a page
 MARK = "zz9"
@@ -64,7 +68,7 @@ class Reader(HTMLParser):
         self.inside = tag if tag in ("script", "style") else self.inside
         if MARK in tag or any(MARK in name or name.startswith("on") for name, _ in attrs):
             self.wrong.append(f"a name is markup: <{tag} {attrs}>"[:200])
-        if any(name in ("href", "src") and MARK in (value or "") and "javascript" in value for name, value in attrs):
+        if any(name in ("href", "src") and MARK in (value or "") and "javascript" in (value or "") for name, value in attrs):
             self.wrong.append(f"a name is run: <{tag} {attrs}>"[:200])
 
     def handle_endtag(self, tag: str) -> None:
@@ -145,12 +149,19 @@ def is_passed_over(case: Case, known: str) -> bool:
     return known in KNOWN and (bool(odd_characters(text)) or "&#" in text)
 
 
-def judge(case: Case, words: list[str], plain: Answer, shown: Answer) -> None:
+def judge_drawn(case: Case, environment: dict[str, str]) -> None:
+    """the same of a page as it draws itself"""
+    drawn = case.start([shutil.which("node") or "/usr/bin/node", str(DRAWN), "page.html"], environment=environment)
+    case.hold_that(drawn.status == 0, f"the page can't be drawn: {drawn.said[-300:]!r}")
+    judge_page(case, drawn.printed)
+
+
+def judge(case: Case, words: list[str], plain: Answer, shown: Answer, environment: dict[str, str]) -> None:
     said = f"--html page.html {' '.join(words)}"
     if (shown.status, shown.printed) != (plain.status, plain.printed):
         case.wrong(f"{said} ends with {shown.status} {shown.printed[:80]!r}, and without a page {plain.status} "
                    f"{plain.printed[:80]!r}; {shown.said[-200:]!r}")
-    if b"Traceback" in shown.said:
+    if b"    at " in shown.said or b"node:" in shown.said:
         case.wrong(f"{said} says {shown.said[-300:]!r}")
     page = case.text_of("page.html")
     if plain.status in ANSWERED:
@@ -159,6 +170,7 @@ def judge(case: Case, words: list[str], plain: Answer, shown: Answer) -> None:
     if page is not None:
         case.count("pages")
         judge_page(case, page)
+        judge_drawn(case, environment)
     left = {path.name for path in case.folder.iterdir()} - {"station", "sheet", "page.html", "picture"}
     case.hold_that(not left, f"{said} leaves {sorted(left)}")
 
@@ -195,7 +207,7 @@ def attempt(case: Case) -> None:
         case.hold_that(not why, f"the program's picture is {why}")
     shown = case.start([launcher, "--html", "page.html", *words], environment=environment)
     case.count(f"{words[0]} ends with {shown.status}")
-    judge(case, words, plain, shown)
+    judge(case, words, plain, shown, environment)
 
 
 if __name__ == "__main__":
