@@ -20,7 +20,7 @@ def files_that_fail():
     found = []
     for path in DOCUMENTS:
         for span in spans(read(path)):
-            if span != BUILT and re.fullmatch(r"(\.ci|bench|cases|crates|docs|examples|pages|tool)/[\w./-]*", span) and not (TOP / span).exists() \
+            if span != BUILT and re.fullmatch(r"(\.ci|bench|cases|crates|docs|examples|shell)/[\w./-]*", span) and not (TOP / span).exists() \
                     and not list(TOP.glob(span + ".*")):
                 found.append(f"{show(path)}: there is no {span}")
     return found
@@ -29,10 +29,10 @@ def files_that_fail():
 def names_that_fail():
     """Names in the map, the theorem, the definitions, the claims and the decisions that no source and no file of the crates has."""
     known = set(re.findall(r"[A-Za-z_]\w*", " ".join(map(read, [TOP / "crates.txt", TOP / "railplan",
-                                                                     *TOP.glob("tool/*.py"), *TOP.glob("pages/*.py")]))))
+                                                                     *TOP.glob("shell/**/*.js")]))))
     folders = [path for part in ("src", "specs", "proofs") for path in TOP.glob(f"crates/*/{part}")]
-    beside = [path for pattern in ("*", "bench/*", "bench/*/*", "cases/*", "cases/*/*", "docs/*", "docs/checking/*", "pages/*", "pages/*/*",
-                                   "tool/*", "tool/*/*") for path in TOP.glob(pattern)]
+    beside = [path for pattern in ("*", "bench/*", "bench/*/*", "cases/*", "cases/*/*", "docs/*", "docs/checking/*", "shell/*", "shell/*/*",
+                                   "shell/*/*/*") for path in TOP.glob(pattern)]
     for path in [path for folder in folders for path in folder.rglob("*")] + beside:
         known.update(re.findall(r"[A-Za-z_]\w*", str(show(path))))
         if path.suffix in (".rt", ".antt") and "proofs" not in path.parts:

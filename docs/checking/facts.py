@@ -8,9 +8,7 @@ from functools import cache
 
 from checking.crates import DOCUMENTS, TOP, crates, handed_on, read, show, spans, stands_on
 from checking.numbers import WORDS_OF_NUMBERS, Missing, constant, criteria, faults, laws, options, source, statuses, usual_order
-from pages.cad import CAP
-from pages.places import SIZES
-from tool import words as table
+from checking import shell as table
 
 README, GUIDE, FORMATS, TRUSTED, THEOREM, MAP = (
     "README.md", "docs/guide.md", "docs/formats.md", "docs/trusted.md", "THEOREM.md", "crates/README.md")
@@ -154,7 +152,7 @@ def of_statuses():
     cut = [found[name] for name in re.findall(r"^IsCutShort (\w+) = Unit", source("run_input/specs/Status.antt"), re.M)]
     (number, name, _), *others = statuses()
     return {**found, "cut": " or ".join(cut), "numbered": ", ".join([f"{number} is `{name}`", *(f"{it[0]} `{it[1]}`" for it in others)]),
-            "stopped": one(r"(\d+): \"the run was stopped\"", "tool/manual.py"),
+            "stopped": one(r"\[\"(\d+)\", \"the run was stopped\"\]", "shell/both/manual.js"),
             "unstarted": one(r"ExitCode::from\((\d+)\)", "crates/railplan_main/src/main.rt")}
 
 
@@ -190,9 +188,14 @@ def of_answers():
             "loops": WORDS_OF_NUMBERS[read(TOP / "examples/made.xml").count(' name="loop"')]}
 
 
+def size_of_letters():
+    """How high the letters of a node's name are, in units of a page"""
+    return float(one(r"SIZES = \{ node: ([\d.]+)", "shell/both/page/places.js"))
+
+
 def of_pages():
     """The paper that pages are for, and how high capitals are in mm, of which 25.4 are 96 units of a page"""
-    return {"paper": table.PAGE_WORDS["--paper"].usual, "capitals": str(round(SIZES["node"] * CAP * 25.4 / 96))}
+    return {"paper": table.PAGE_WORDS["--paper"].usual, "capitals": str(round(size_of_letters() * table.number_in("shell/both/page/cad.js", "CAP") * 25.4 / 96))}
 
 
 def of_options():
@@ -256,7 +259,7 @@ def sentences_that_fail():
 def commands_misnamed():
     """Commands that a page writes with other names than the command's, or in another order"""
     found = []
-    names = {word: [name.word for name in command.names] for word, command in {**table.COMMANDS, **table.OWN}.items()}
+    names = {word: [name["word"] for name in command.names] for word, command in {**table.COMMANDS, **table.OWN}.items()}
     known = {name for it in names.values() for name in it}
     for page in (README, GUIDE, FORMATS, TRUSTED, "docs/folders.md", "docs/other-checkers.md"):
         for span in spans(read(TOP / page)):
@@ -282,7 +285,7 @@ def defined_in(path):
 
 def places_said(text):
     """The names of which a page says in which file, folder or crate they are; `there` is the crate of the path before"""
-    name, path = r"((?:`[A-Za-z_]\w*`(?:, | and | or )?)+)", r"`((?:crates|tool|pages|bench|docs)/[\w./]+)`"
+    name, path = r"((?:`[A-Za-z_]\w*`(?:, | and | or )?)+)", r"`((?:crates|shell|bench|docs)/[\w./]+)`"
     found = [(names, TOP / where) for names, where in re.findall(name + " (?:in|of) " + path, text)]
     found += [(names, TOP / "crates" / crate) for names, crate in re.findall(name + r" of `(\w+)`", text) if crate in crates()]
     for place in re.finditer(name + r" in `(\w+\.(?:rt|antt))` there", text):

@@ -2,25 +2,16 @@
 
 The remark at the guide's end names runs, the file in examples/ that has the answer of each, and its pictures. So no program is
 needed here. The gate runs these commands too and compares the answers; `docs/printed` asks for them anew."""
+import json
 import re
 import shlex
-import sys
+import subprocess
 
 from checking.crates import TOP, read, show
-
-sys.path.insert(0, str(TOP))
-
-from pages.drawing import alone, small  # noqa: E402
-from pages.kinds import Settings  # noqa: E402
-from pages.tests.fixtures import page_of  # noqa: E402
-from pages.whole import styles_of  # noqa: E402
 
 GUIDE = TOP / "docs" / "guide.md"
 MADE = TOP / "docs" / "made"
 ANSWER = r"`\./railplan\s([^`]+)`\s+prints\s+`(examples/[^`]+)`(?:\s+\(([\w ]+)\))?"
-SMALL = "small_"
-# half of this paper is wide enough for each of two drawings side by side
-PAPER = "A2"
 MOST_BYTES = 20_000
 
 
@@ -32,13 +23,10 @@ def answers():
 
 def pictures():
     """Each picture's file with its text"""
-    found, style = {}, styles_of(PAPER)[1]
-    for words, file, names in answers():
-        page = page_of(words, read(file), settings=Settings(PAPER)) if names else None
-        for at, name in enumerate(names):
-            picture = small(page.scene) if name.startswith(SMALL) else page.figures[at].picture
-            found[MADE / f"guide_{name}.svg"] = f"{alone(picture, style, page.figures[at].title or page.subject)}\n"
-    return found
+    wanted = [{"words": words, "answer": read(file), "names": names} for words, file, names in answers() if names]
+    ran = subprocess.run(["node", str(TOP / "shell/tests/guide_pictures.js")], input=json.dumps(wanted), capture_output=True, text=True,
+                         check=True)
+    return {MADE / f"guide_{name}.svg": text for name, text in json.loads(ran.stdout).items()}
 
 
 def all_failures():

@@ -5,15 +5,10 @@ them in prose is held by the patterns below: a place in braces is the number tha
 """
 import functools
 import re
-import sys
 import textwrap
 
-from checking import results, rooms, theorem
+from checking import results, rooms, shell, theorem
 from checking.crates import DOCUMENTS, TOP, head, read, show
-
-sys.path.insert(0, str(TOP))
-
-from tool import manual, words  # noqa: E402
 
 README = TOP / "README.md"
 FORMATS = TOP / "docs" / "formats.md"
@@ -276,41 +271,41 @@ def refusals_that_differ():
 
 def help_options():
     """What the launcher's table of words says of each option, without its numbers."""
-    return {word: option.what for word, option in words.OPTIONS.items()}
+    return {word: option.what for word, option in shell.OPTIONS.items()}
 
 
 def statuses_that_fail():
     """The statuses of the launcher's help and of docs/formats.md."""
-    found, told = [], manual.ENDINGS
+    found, told = [], shell.endings()
     section_text = " ".join(section(FORMATS, "Faults and statuses").split())
     for number, name, _ in statuses():
         if told.get(number) != ENDINGS.get(name):
-            found.append(f"tool/manual.py: says of status {number} '{told.get(number)}', but {name} is '{ENDINGS.get(name)}'")
+            found.append(f"shell/both/manual.js: says of status {number} '{told.get(number)}', but {name} is '{ENDINGS.get(name)}'")
         found += [f"docs/formats.md: no answer of status {number} begins with {answer}"
                   for answer in ANSWERS[name] if f"- **{number}**: {answer}" not in section_text]
     numbers = {number for number, _, _ in statuses()} | {10, 130}
     beyond = set(told) - numbers | {int(number) for number in re.findall(r"- \*\*(\d+)\*\*", section_text)} - numbers
-    return found + [f"tool/manual.py, docs/formats.md: there is no status {number}" for number in sorted(beyond)]
+    return found + [f"shell/both/manual.js, docs/formats.md: there is no status {number}" for number in sorted(beyond)]
 
 
 def help_that_fails():
     """The commands and options of the launcher's table of words, and whether its help names each."""
-    found, told = [], {word: len(command.names) for word, command in words.COMMANDS.items()}
+    found, told = [], {word: len(command.names) for word, command in shell.COMMANDS.items()}
     if told != commands():
-        found.append(f"tool/words.py: has the commands {told}, the program {commands()}")
-    if list(words.OPTIONS) != list(options()):
-        found.append(f"tool/words.py: has the options {list(words.OPTIONS)}, the program {list(options())}")
+        found.append(f"shell/both/commands.js: has the commands {told}, the program {commands()}")
+    if list(shell.OPTIONS) != list(options()):
+        found.append(f"shell/both/commands.js: has the options {list(shell.OPTIONS)}, the program {list(options())}")
     for word, taken in options().items():
-        option = words.OPTIONS.get(word)
+        option = shell.OPTIONS.get(word)
         if not option:
             continue
         if isinstance(taken, tuple) and (option.low, option.high, option.usual) != (taken[0], taken[1], str(taken[2])):
             low, high, usual = taken
-            found.append(f"tool/words.py: {word} takes {low} to {high}, without it {usual}")
+            found.append(f"shell/both/commands.js: {word} takes {low} to {high}, without it {usual}")
         if taken == "order" and option.usual != ",".join(usual_order()):
-            found.append(f"tool/words.py: says of {word} '{option.usual}', but the order is {','.join(usual_order())}")
-    text = manual.overview("railplan")
-    return found + [f"tool/manual.py: the help doesn't name {word}" for word in [*told, *words.OPTIONS]
+            found.append(f"shell/both/commands.js: says of {word} '{option.usual}', but the order is {','.join(usual_order())}")
+    text = shell.overview()
+    return found + [f"shell/both/manual.js: the help doesn't name {word}" for word in [*told, *shell.OPTIONS]
                     if not re.search(rf"^  {word}\b", text, re.M)]
 
 

@@ -1,11 +1,8 @@
 """Options that a page names and that no command has."""
 import re
-import sys
 
-from checking.crates import DOCUMENTS, TOP, read, show
-
-sys.path.insert(0, str(TOP))
-from tool.words import OPTIONS, OWN_OPTIONS, PAGE_WORDS
+from checking.crates import DOCUMENTS, read, show
+from checking.shell import OPTIONS, OWN_OPTIONS, PAGE_WORDS
 
 # those of other commands: rt, the launcher's own, scripts of bench/ and docs/, Slurm
 OTHERS = {"--anew", "--array", "--count", "--cpus-per-task", "--dependency", "--help", "--job-name", "--like", "--new", "--only",

@@ -58,7 +58,7 @@ NUMBERS = [
 
 GEOMETRY = "plan_core/specs/Laws.antt"
 
-# (file under crates/, or from `tool/`, `pages/` or `.ci/` on, a line of it, and the sentences that tell it: of each its page and its words)
+# (file under crates/, or from `shell/` or `.ci/` on, a line of it, and the sentences that tell it: of each its page and its words)
 SAYINGS = [
     # the seven laws
     (GEOMETRY, "pub in_width : p.x ≤ grid.width pub in_height : p.y ≤ grid.height",
@@ -160,22 +160,20 @@ SAYINGS = [
     ("run_draw_front/src/trialling.rt", "Order::new(&[Criterion::Height, Criterion::Width])", [(FORMATS, "in the order `height,width`")]),
     ("plan_core/src/limits.rt", "MAX_FILE_BYTES: usize = 4_194_304;", [(README, "4 MiB")]),
     # around the program
-    ("tool/advice.py", 'SLIPS = {"doubleSwitchCrossing": "a double slip", "simpleSwitchCrossing": "a single slip"}',
+    ("shell/both/messages/not_shown.js",
+     'const SLIPS = new Map([["doubleSwitchCrossing", "a double slip"], ["simpleSwitchCrossing", "a single slip"]]);',
      [(README, "A slip with two connections is drawn as a crossing without its slips, a Y switch with one straight leg; standard "
                "error says each. Three-way switches are faults.")]),
-    ("tool/launch.py", "this is a fault of the launcher itself, so nothing more is known: {type(error).__name__}: {error}\") return 10",
+    ("shell/terminal/launch.js", "say(`this is a fault of the launcher itself, so nothing more is known: ${name}: ${message}`); } return 10;",
      [(FORMATS, "The launcher ends with 10 too"), ("THEOREM.md", "The launcher also ends with 10 and 130")]),
-    ("tool/built.py", 'FIRST_BUILD = "most of an hour on four processors" UNPROVED_BUILD = "about a minute"',
-     [(README, "The first run with proofs takes most of an hour on four processors, and says where it is."),
-      (README, "the same page without proofs, in about a minute")]),
-    # dicts joined by a stroke, which Python has from 3.9 on
-    ("pages/changes.py", 'nodes |= {', [(README, "Python 3.9 or later")]),
-    ("tool/install.py", 'line.words[1] if len(line.words) > 1 else "~/.local"', [(README, "`./railplan install ~/.local` makes a link in `~/.local/bin`")]),
-    ("pages/columns.py", 'PAPERS = {"A4": (297, 210), "A3": (420, 297), "A2": (594, 420), "A1": (841, 594)}', [("docs/guide.md", "A4 to A1 go as well")]),
-    (".ci/run", "rt ci status=$?", [(README, "is the gate. It runs `rt ci` (proofs, tests, edits that must fail), `docs/check`, tests of `bench/hostile`,")]),
-    (".ci/run", "cases/run crates/railplan_main/out/railplan_main >&2 || status=1 bench/hostile/run crates/railplan_main/out/railplan_main "
-     ">&2 || status=1 python3 pages/check.py >&2 || status=1 python3 -m unittest discover -s tool -t . >&2 || status=1 python3 docs/check",
-     [(README, "`docs/check`, tests of `bench/hostile`, `pages/` and `tool/`, and the runs of `cases/`")]),
+    ("shell/terminal/built.js", 'FIRST_BUILD = "most of an hour on four processors"; export const UNPROVED_BUILD = "about a minute";',
+     [(README, "`railplan prove` takes most of an hour on four processors"), (README, "builds the program without proofs, in about a minute")]),
+    ("shell/terminal/install.js", 'line.words[1] ?? "~/.local"', [(README, "`./railplan install ~/.local` copies what it needs into `~/.local`")]),
+    ("shell/both/page/columns.js", 'PAPERS = new Map([["A4", [297, 210]], ["A3", [420, 297]], ["A2", [594, 420]], ["A1", [841, 594]]]);', [("docs/guide.md", "A4 to A1 go as well")]),
+    (".ci/run", "{ rt ci; echo $? >out/gate.status;", [(README, "`.ci/run` is the gate. It runs `rt ci` (proofs, tests, edits that must fail)")]),
+    (".ci/run", "shell/check >&2 || status=1 cases/run $program >&2 || status=1 "
+     "bench/hostile/run $program >&2 || status=1 mypy >&2 || status=1 python3 docs/check",
+     [(README, "the types and tests of `shell/`, the runs of `cases/`, `bench/hostile`, the types of scripts, and `docs/check`")]),
 ]
 
 
@@ -196,7 +194,7 @@ def numbers_that_differ():
 def sayings_that_fail():
     found = []
     for name, line, told in SAYINGS:
-        path = name if name.startswith(("tool/", "pages/", ".ci/")) else f"crates/{name}"
+        path = name if name.startswith(("shell/", ".ci/")) else f"crates/{name}"
         if plain(line) not in plain(read(TOP / path)):
             found.append(f"{path}: has no line '{plain(line)[:70]}' any more; read what pages say of it, and "
                          "docs/checking/sayings.py")
