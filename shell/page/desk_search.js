@@ -21,7 +21,7 @@ export class Search {
      * @param {{main: WasmEngine, second: WasmEngine}} engines
      * @param {string[]} words with the log and the picture, where the command has them
      * @param {Map<string, Uint8Array>} files
-     * @param {{far: (said: string) => void, found: (found: Found) => void}} hear is told how far it is, and each better drawing
+     * @param {{far: (said: string) => void, found: (found: Found) => void}} hear hears how far it is, and of each better drawing
      */
     constructor(engines, words, files, hear) {
         this.engines = engines;

@@ -19,7 +19,7 @@ const LEFT_OUT = new Set(["out", "must-fail"]);
 
 /** how long it takes to prove and build the program where nothing is proved yet, and how soon it is there without proofs */
 export const FIRST_BUILD = "most of an hour on four processors";
-export const UNPROVED_BUILD = "about a minute";
+export const UNPROVED_BUILD = "two to three minutes";
 
 /** A program of a clone: its path from the top, and whether it is the one that proofs go before. */
 export class Program {
