@@ -92,8 +92,8 @@ test("the version says whether the program is proved", (it) => {
     const clone = new InClone(it), version = () => clone.launch(["--version"]);
     assert.deepEqual(version(), clone.launch(["version"]));
     assert.match(version()[1],
-        new RegExp(`^railplan ${VERSION}\nprogram: not built yet; the next run builds it without proofs, in about a `
-        + "minute\nproofs: \\S+ prove proves and builds it, in most of an hour on four processors\n$"));
+        new RegExp(`^railplan ${VERSION}\nprogram: not built yet; the next run builds it without proofs, in two to `
+        + "three minutes\nproofs: \\S+ prove proves and builds it, in most of an hour on four processors\n$"));
     clone.launch(["graph", "one.xml"]);
     assert.match(version()[1], /^railplan \S+\nprogram: proved and built from these sources with kit-1\nSHA-256: \w{64}\n$/);
     clone.write("crates/low/src/lib.rt", "// other\n");
