@@ -6,6 +6,6 @@ import { document, element } from "../shell/both/page/markup.js";
 import { Run } from "../shell/both/page/run.js";
 import { bodyOf } from "../shell/both/page/whole.js";
 
-const parts = await partsOf(readFileSync(process.argv[2], "utf8"));
+const parts = await carriedBy(readFileSync(process.argv[2], "utf8"));
 if (!parts) throw new Error("the page carries no run");
 process.stdout.write(document(element("html", {}, element("body", {}, bodyOf(make(new Run(parts.record)))))));

@@ -7,7 +7,7 @@ import { knownOf } from "../shell/both/page/whole.js";
 
 /** @type {(name: string, value: unknown) => unknown} numbers without an end are no JSON; they are asked for by nothing */
 const plain = (_, value) => typeof value === "bigint" ? String(value) : value;
-const parts = await partsOf(readFileSync(process.argv[2], "utf8"));
+const parts = await carriedBy(readFileSync(process.argv[2], "utf8"));
 const known = parts && knownOf(make(new Run(parts.record)));
 const asked = known && { objects: Object.fromEntries(known.objects), signals: Object.fromEntries(known.signals) };
 console.log(JSON.stringify(asked, plain));
