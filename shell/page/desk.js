@@ -17,7 +17,8 @@ import { button, element, sized } from "./elements.js";
 
 /** the commands in the order of the work */
 const ORDER = ["draw", "signals", "explain", "front", "redraw", "verify", "check", "trim", "recheck", "graph"];
-const STOPPED = 130;
+/** how a run ends that has no answer: it was stopped, had no memory, or was ended by the browser or by a check of the program */
+const CUT = new Set([130, 7, 134]);
 
 /** @param {string} id */
 const part = (id) => /** @type {HTMLElement} */ (document.getElementById(id));
@@ -61,7 +62,7 @@ class Desk {
 
     /** where a station is dropped or chosen */
     dropPlace() {
-        const example = button("Take the example", () => this.place("station", "station.xml", new TextEncoder().encode(this.data.example)));
+        const example = button("Take the example", () => this.begin("station.xml", new TextEncoder().encode(this.data.example)));
         const drop = element("div", { class: "drop row" }, "Drop a railML file here, or choose one:", this.chooser("station"), example);
         drop.addEventListener("dragover", (event) => {
             event.preventDefault();
@@ -79,7 +80,11 @@ class Desk {
     /** @param {Slot} slot */
     chooser(slot) {
         const input = element("input", { type: "file", "aria-label": `choose ${SLOTS.get(slot)}` });
-        input.addEventListener("change", () => void this.take(slot, input.files?.[0]));
+        input.addEventListener("change", () => {
+            void this.take(slot, input.files?.[0]);
+            // else the same file, changed meanwhile, couldn't be chosen again
+            input.value = "";
+        });
         return input;
     }
 
@@ -88,13 +93,34 @@ class Desk {
      * @param {File | undefined} file
      */
     async take(slot, file) {
-        if (file) {
-            this.place(slot, file.name, new Uint8Array(await file.arrayBuffer()));
+        if (!file) {
+            return;
+        }
+        try {
+            const bytes = new Uint8Array(await file.arrayBuffer());
+            slot === "station" ? this.begin(file.name, bytes) : this.place(slot, file.name, bytes);
+        } catch {
+            this.shown.replaceChildren(element("p", { class: "said bad" }, `${file.name} can't be read. Is it a folder?`));
         }
     }
 
     /**
-     * Puts a file in its place; no two files of a run have one name. What was made of another station goes.
+     * Begins with a station. What was made of another one goes, so that no drawing is taken for this station's; a run is stopped.
+     * @param {string} name
+     * @param {Uint8Array} bytes
+     */
+    begin(name, bytes) {
+        this.search?.stop.abort();
+        for (const slot of /** @type {Slot[]} */ (["sheet", "log", "hints"])) {
+            this.placed.delete(slot);
+        }
+        this.shown.replaceChildren();
+        this.far.textContent = "";
+        this.place("station", name, bytes);
+    }
+
+    /**
+     * Puts a file in its place; no two files of a run have one name.
      * @param {Slot} slot
      * @param {string} name
      * @param {Uint8Array} bytes
@@ -145,6 +171,7 @@ class Desk {
     /** runs the command, and shows its answer */
     async run() {
         const given = this.words(), pages = pagesOf(this.form), options = commandOf(this.command).options;
+        const station = this.placed.get("station");
         const beside = [["--svg", PICTURE], ["--log", LOG]].filter(([option]) => options.includes(option)).flat();
         const files = new Map(slotsOf(this.command).map((slot) => {
             const it = /** @type {Placed} */ (this.placed.get(slot));
@@ -152,15 +179,24 @@ class Desk {
         }));
         const search = new Search(this.engines, [...given, ...beside], files, {
             far: (said) => { this.far.textContent = said; },
-            found: (found) => this.shown.replaceChildren(pictureOf(found.picture, "The best drawing so far; the search goes on")),
+            found: (found) => {
+                const what = `The best drawing of ${station?.name} so far; the search goes on`;
+                this.shown.replaceChildren(...(this.placed.get("station") === station ? [pictureOf(found.picture, what)] : []));
+            },
         });
         this.search = search;
         this.shown.replaceChildren();
         this.renew();
-        const ran = await search.run();
-        this.search = undefined;
-        await this.show(given, pages, files, ran, search);
-        this.renew();
+        try {
+            const ran = await search.run();
+            // another station was put there meanwhile: this answer isn't its
+            if (this.placed.get("station") === station) {
+                await this.show(given, pages, files, ran, search);
+            }
+        } finally {
+            this.search = undefined;
+            this.renew();
+        }
     }
 
     /**
@@ -171,7 +207,7 @@ class Desk {
      * @param {Search} search
      */
     async show(words, pages, files, ran, search) {
-        const best = ran.status === STOPPED ? search.best : undefined, output = best?.sheet ?? ran.output;
+        const station = this.placed.get("station"), best = CUT.has(ran.status) ? search.best : undefined, output = best?.sheet ?? ran.output;
         const picture = best?.picture ?? ran.files.get(PICTURE), log = best?.log ?? ran.files.get(LOG), hints = ran.files.get(`${this.stem}.hints`);
         const isSheet = words[0] === "draw" && (best !== undefined || [0, 3, 4].includes(ran.status));
         /** @type {[string, Uint8Array, string][]} */
@@ -189,13 +225,16 @@ class Desk {
         keep(isSheet ? "log" : "", isSheet ? "log" : `${words[0]}.log`, log);
         keep("hints", "hints", hints);
         const run = { line: read(words), status: ran.status, output, trap: ran.trap, seen: seenOn(files), graph: () => this.graph(files) };
-        const stopped = best ? [element("p", {}, "The search was stopped. This is the best drawing that it had found by then.")] : [];
+        const stopped = best ? [element("p", {}, "The search ended before its end. This is the last drawing that was drawn by then.")] : [];
         const { version, isProved, wasm } = this.data;
         const ask = (/** @type {string[]} */ further) => this.engines.second.run({ words: further, files });
-        const page = ran.trap || ran.status === STOPPED && !best ? ""
+        const page = CUT.has(ran.status) && !best ? ""
             : await pageOf(best ? { ...run, status: 4 } : run, { files, pages, picture, parts: this.parts, wasm, version, isProved, ask });
         const answer = await answerOf(run, { picture: page ? undefined : picture, saved: page
             ? [[`${this.stem}.html`, new TextEncoder().encode(page), "text/html"], ...saved] : saved });
+        if (this.placed.get("station") !== station) {
+            return;
+        }
         this.shown.replaceChildren(...stopped, answer, ...(page ? [framed(page, `The page of ${words.join(" ")}`)] : []));
         this.far.textContent = `${ran.seconds.toFixed(2)} s`;
     }

@@ -9,7 +9,7 @@ import { element, saving } from "./elements.js";
 const ENDINGS = new Map([
     [0, "Done"], [1, "The file has a fault"], [2, "The words have a fault"], [3, "No drawing is lawful on this grid"],
     [4, "The search stopped before its end"], [5, "A file isn't there"], [6, "A file couldn't be written"], [7, "There was no memory for this run"],
-    [8, "Refused"], [130, "Stopped"], [134, "The browser ended the run"],
+    [8, "Refused"], [130, "Stopped"], [134, "The run was ended, by the browser or by a check of the program"],
 ]);
 const GOOD = new Set([0, 3, 4]);
 /** of the program's text no more than this is shown; all of it can be saved */

@@ -50,10 +50,12 @@ export class Search {
         const tick = setInterval(() => this.say(hasLog), OFTEN);
         this.say(hasLog);
         const job = { words: this.words, files: this.files, signal: this.stop.signal };
-        const ran = await this.engines.main.run(hasLog ? { ...job, seen } : job);
-        clearInterval(tick);
-        this.stop.abort();
-        return ran;
+        try {
+            return await this.engines.main.run(hasLog ? { ...job, seen } : job);
+        } finally {
+            clearInterval(tick);
+            this.stop.abort();
+        }
     }
 
     /** @param {boolean} hasLog */
