@@ -79,28 +79,54 @@ export async function unprovedModule(bench, crate) {
 }
 
 /**
- * The module of the proved program: as `rt run` hands it to the compiler once more, over what is proved and kept. The program
- * that comes of it is to be the same, byte for byte, as the one that was there.
+ * How the proved program is compiled once more over the libraries that are proved: by the words that rt itself would use, of which its
+ * own library of functions knows how they are made. The arguments are the kit's folder and the file for what is compiled.
+ */
+const ONCE_MORE = `
+import importlib.machinery, importlib.util, os, sys
+sys.dont_write_bytecode = True
+kit, made = sys.argv[1:]
+loader = importlib.machinery.SourceFileLoader("rtlib", kit + "/bin/rtlib.py")
+rtlib = importlib.util.module_from_spec(importlib.util.spec_from_loader("rtlib", loader))
+sys.modules["rtlib"] = rtlib
+loader.exec_module(rtlib)
+crate = rtlib.Crate(os.getcwd(), os.path.realpath("../.."), {})
+words = crate.words([]) + ["--toolchain", kit + "/toolchain", "--backend", "llvm", *rtlib.KEPT, "-o", made]
+os.execv(rtlib.RATTLE, [rtlib.RATTLE, "build", *words])
+`;
+
+/**
+ * The module of the proved program: as the compiler is given it when the program is checked and compiled once more, over the libraries
+ * that are proved. The program that comes of it is to be the same, byte for byte, as the one that is there.
  * @param {Bench} bench
  * @param {string} crate the folder of the program's crate, in whose out/ the proved program lies
  * @returns {Promise<string>} the module's file
  * @throws {Otherwise} where the kit goes other ways, or another program comes of it
  */
 export async function provedModule(bench, crate) {
-    const module = join(bench.room, "module.bc"), kit = join(bench.room, "kit"), program = join(crate, "out/railplan_main");
-    const before = readFileSync(program);
+    const module = join(bench.room, "module.bc"), kit = join(bench.room, "kit"), made = join(bench.room, "proved");
     standIn(bench.kit, kit, { word: "", ends: false, keptAs: module });
-    // the file that says that the program needn't be built again
-    rmSync(`${program}.stamp`, { force: true });
-    const ran = await called(join(kit, "bin/rt"), ["run"], { cwd: crate, signal: bench.signal });
+    const ran = await called("python3", ["-c", ONCE_MORE, kit, `${made}.o`], { cwd: crate, signal: bench.signal });
     bench.signal?.throwIfAborted();
-    if (!existsSync(module)) {
-        throw new Otherwise(`no module came of rt run: ${ran.said.trim().slice(-300)}`);
+    if (ran.status !== 0 || !existsSync(module)) {
+        throw new Otherwise(`the proved program couldn't be compiled once more: ${ran.said.trim().slice(-300)}`);
     }
-    if (!readFileSync(program).equals(before)) {
-        throw new Otherwise("rt run made another program than the one that was there");
+    await linked(bench, `${made}.o`, made);
+    if (!readFileSync(made).equals(readFileSync(join(crate, "out/railplan_main")))) {
+        throw new Otherwise("another program came of it than the one that is there");
     }
     return module;
+}
+
+/**
+ * Links what was compiled to a program.
+ * @param {Bench} bench
+ * @param {string} compiled
+ * @param {string} to
+ */
+async function linked(bench, compiled, to) {
+    const { kit } = bench, words = ["--target", "x86_64-unknown-linux-gnu", "--toolchain", `${kit}/toolchain`, "-o", to, compiled];
+    await step(bench, join(kit, "bin/rattle-link"), [...words, `${kit}/c/libos_c.a`, `${kit}/c/liblibc_c.a`]);
 }
 
 /**
@@ -131,8 +157,7 @@ export async function nativeProgram(bench, module, to) {
     const text = await textFor(bench, module, "native"), made = join(room, "program");
     const words = [...NATIVE, `--sysroot=${kit}/toolchain`, ...OF_RATTLE, ...ALWAYS, "-fintegrated-cc1", "-O3"];
     await step(bench, clang, [...words, "-c", "-x", "ir", text, "-o", `${made}.o`]);
-    const linked = ["--target", "x86_64-unknown-linux-gnu", "--toolchain", `${kit}/toolchain`, "-o", made, `${made}.o`];
-    await step(bench, join(kit, "bin/rattle-link"), [...linked, `${kit}/c/libos_c.a`, `${kit}/c/liblibc_c.a`]);
+    await linked(bench, `${made}.o`, made);
     await step(bench, made, ["make", "1"]);
     writeFileSync(`${to}.part`, readFileSync(made), { mode: 0o755 });
     renameSync(`${to}.part`, to);

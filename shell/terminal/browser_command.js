@@ -26,7 +26,26 @@ const WASM_BUILD = "two to four minutes";
  */
 export async function wasmFor({ clone, called, signal }) {
     const proved = await findProved(clone), isProved = proved.isFresh && proved.isListed;
-    const program = isProved ? clone.wasm : clone.quickWasm, found = await find(clone, program);
+    const program = isProved ? clone.wasm : clone.quickWasm;
+    return isProved ? made(clone, program, proved.kit, called, signal).catch((error) => {
+        if (!(error instanceof Otherwise)) {
+            throw error;
+        }
+        say(`it can't be made of the proved program here: ${error.message}`);
+        return made(clone, clone.quickWasm, proved.kit, called, signal);
+    }) : made(clone, program, proved.kit, called, signal);
+}
+
+/**
+ * @param {Clone} clone
+ * @param {import("./built.js").Program} program
+ * @param {string} kit
+ * @param {string} called
+ * @param {AbortSignal} signal
+ * @returns {Promise<Built>}
+ */
+async function made(clone, program, kit, called, signal) {
+    const { isProved } = program, found = await find(clone, program);
     if (found.isListed) {
         return found;
     }
@@ -37,7 +56,7 @@ export async function wasmFor({ clone, called, signal }) {
     const { provedWasm, quickWasm } = await import("../engine/quick_build.js");
     await (isProved ? provedWasm : quickWasm)(clone, rt, program.path, signal);
     chmodSync(program.path, 0o755);
-    return list(program, states, proved.kit);
+    return list(program, states, kit);
 }
 
 /**
