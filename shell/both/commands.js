@@ -337,8 +337,9 @@ export default {
             "more": [
                 "Stations are found by operational points, else by distance. What leads on to another station ends in",
                 "an open end, named after it. Each file is judged before it is written: by the program's own track",
-                "graph each switch and crossing has the legs, sides and neighbours that it has in IN. Else the file",
-                "isn't written, and why is said. What is in no file is said too. It is no part of what is proved."
+                "graph the two legs of each switch, and the paths of each crossing, lie on the side that they have in",
+                "IN, with the same track above. Else the file isn't written, and why is said. Switches, tracks and",
+                "signals that are in no file are said too. It is no part of what is proved."
             ],
             "names": [
                 { "word": "IN", "what": "the railML 2 file of a line", "kind": "railml" },
