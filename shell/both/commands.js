@@ -367,9 +367,10 @@ export default {
             "word": "check-page",
             "what": "judges a page that somebody else made, by your own program",
             "more": [
-                "Its file, track graph, sheet and hints are taken out of the page and judged anew: right, wrong, or open where",
-                "nobody judged it, as an explanation. It ends with 8 where one doesn't hold, and with 4 where the page's",
-                "script is another than that of this version."
+                "Its file, track graph, sheet and hints are taken out of the page and judged anew, and the page is compared",
+                "with the one that this version writes of the same run. A line says right, wrong, or open where nobody",
+                "judged it, as an explanation, or a script of another version. It ends with 8 where something is wrong,",
+                "and with 4 where something is open beside names, dates and the command line."
             ],
             "names": [
                 { "word": "PAGE", "what": "a page that railplan wrote", "kind": "page" }

@@ -83,7 +83,7 @@ export async function contextFor(asking, line) {
     }
     sayUnproved(built, asking);
     const engine = await engineOf(built.program, isApart);
-    const wasm = line.pages.size || line.command === "folder" ? await wasmThere(clone, built) : "";
+    const wasm = line.pages.size || ["folder", "check-page"].includes(line.command) ? await wasmThere(clone, built) : "";
     return { top: clone.top, called, engine, build: await buildOf(built, line.pages.size > 0), wasm, signal };
 }
 

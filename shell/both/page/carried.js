@@ -2,7 +2,13 @@
 import { unpacked } from "../packing.js";
 import { recordOf } from "./record.js";
 
-/** @typedef {{record: import("./run.js").RunRecord, hints: Uint8Array | null, script: string}} Carried */
+/** @typedef {object} Carried
+ * @property {import("./run.js").RunRecord} record its run
+ * @property {Uint8Array | null} hints its hinted lines, where it has any
+ * @property {Uint8Array | null} program the program as WebAssembly, where it has it
+ * @property {string} script the script that draws it
+ * @property {string} before all of the page's text before what it carries
+ * @property {{data: string, program: string, worker: string, hints: string}} packed each as it is in the page; "" for what isn't there */
 
 const DATA = (/** @type {string} */ kind) => `(?:<script type="application/json" class="${kind}">("(?:[^"<\\\\]|\\\\.)*")</script>)`;
 /** the end of a page: its data one behind the other, then its one script, and nothing behind that */
@@ -20,9 +26,11 @@ export async function carriedBy(page) {
         return null;
     }
     try {
-        const [record, , , hints] = found.slice(1, 5).map((it) => (it ? JSON.parse(it) : ""));
+        const [data, program, worker, hints] = found.slice(1, 5).map((it) => (it ? String(JSON.parse(it)) : ""));
         return {
-            record: recordOf(new TextDecoder().decode(await unpacked(record))), hints: hints ? await unpacked(hints) : null, script: found[5],
+            record: recordOf(new TextDecoder("utf-8", { ignoreBOM: true }).decode(await unpacked(data))), hints: hints ? await unpacked(hints) : null,
+            program: program ? await unpacked(program) : null, script: found[5], before: page.slice(0, found.index),
+            packed: { data, program, worker, hints },
         };
     } catch {
         return null;

@@ -101,7 +101,7 @@ class Judging {
         } else if (command !== "draw" && command !== "verify") {
             open.push(`the answer of ${command}`);
         }
-        open.push("the command line, names and dates, and what it says that the drawing doesn't show");
+        open.push("the command line, names and dates");
     }
 
     /**

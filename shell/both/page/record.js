@@ -2,6 +2,8 @@
  * The record of a run as a text, which a page carries, and back.
  */
 
+import { Run } from "./run.js";
+
 /** @typedef {import("./run.js").Input} Input */
 /** @typedef {import("./run.js").RunRecord} RunRecord */
 /** @typedef {{text: string} | {bytes: string} | null} Content a file's UTF-8 as a text, or other bytes by their numbers */
@@ -33,12 +35,28 @@ export function textOf(record) {
 }
 
 /**
+ * Whether a record has all that a run has, each of its kind.
+ * @param {RunRecord} record
+ */
+function isWhole(record) {
+    const kindOf = (/** @type {unknown} */ it) => (Array.isArray(it) ? "list" : it instanceof Map ? "map" : typeof it);
+    const { log, date, ...wanted } = new Run({ words: [], output: "" }).record;
+    const isAlike = /** @type {(keyof typeof wanted)[]} */ (Object.keys(wanted)).every((key) => kindOf(record[key]) === kindOf(wanted[key]));
+    return isAlike && typeof record.log === "object" && (record.date === null || Number.isFinite(record.date))
+        && [...record.words, ...record.names].every((it) => typeof it === "string")
+        && record.inputs.every(({ facts }) => typeof facts?.sha256 === "string" && typeof facts.name === "string");
+}
+
+/**
  * @param {string} text
  * @returns {RunRecord}
+ * @throws where it is none
  */
 export function recordOf(text) {
     const given = JSON.parse(text);
-    return { ...given, options: new Map(given.options), drawings: new Map(given.drawings),
+    const record = { ...given, options: new Map(given.options), drawings: new Map(given.drawings),
         inputs: given.inputs.map((/** @type {{facts: Input["facts"], content: Content}} */ { facts, content }) =>
             ({ facts, content: bytesOf(content) })) };
+    if (!isWhole(record)) throw new TypeError("no record of a run");
+    return record;
 }
