@@ -1,13 +1,17 @@
 #!/usr/bin/env python3
-"""Drives a desk, which `./railplan browser DESK.html` writes, in Debian's chromium: each command over the example, a fault's
-sentence, and a stop that keeps the best drawing so far. Nothing may be asked for, fail, or lack a name for a screen reader. It says
-what is seen, and ends with 1 where something isn't so."""
+"""Drives a desk, which `./railplan browser DESK.html` writes, in Debian's chromium, through all that it has: each command over the
+example, a fault, a stop that keeps the best drawing so far, a file that is mended, a line that is cut, several stations that are drawn and
+certified with their archive, pages that are judged, a narrow window and the keyboard. Nothing may be asked for, fail, or lack a name for a
+screen reader. It says what is seen, and ends with 1 where something isn't so. With --short it leaves out the long search."""
 from __future__ import annotations
 
 import argparse
+import base64
+import io
 import json
 import sys
 import time
+import zipfile
 from pathlib import Path
 from typing import Iterator
 
@@ -18,6 +22,7 @@ from browser import Browser, Gone, Tab  # noqa: E402
 
 TOP = Path(__file__).resolve().parent.parent
 SECONDS = 240
+EXAMPLE = TOP / "examples/station.xml"
 Check = tuple[str, bool]
 # the commands over the example, each with fields that keep it short, and what the answer is to begin with
 COMMANDS: list[tuple[str, dict[str, str], str]] = [
@@ -34,6 +39,22 @@ CHOOSE = """((label, name, text) => {
   input.files = given.files;
   input.dispatchEvent(new Event('change'));
 })"""
+# files, as if they were chosen in the field for stations
+SEVERAL = """((files) => {
+  const input = document.querySelector('input[aria-label="choose the station, or several"]'), given = new DataTransfer();
+  for (const [name, text] of files) given.items.add(new File([text], name));
+  input.files = given.files;
+  input.dispatchEvent(new Event('change'));
+})"""
+# keeps what is offered to be saved, since a desk's own policy lets nothing be fetched, not even from itself
+KEEP = """(() => { const made = URL.createObjectURL; window.offered = new Map();
+  URL.createObjectURL = (it) => { const url = made.call(URL, it); window.offered.set(url, it); return url; }; })()"""
+# what is offered under a name, in base64
+SAVED = """(async (ending) => {
+  const link = [...document.querySelectorAll('a[download]')].find(it => it.download.endsWith(ending));
+  const bytes = new Uint8Array(await window.offered.get(link.href).arrayBuffer());
+  return btoa(Array.from(bytes, it => String.fromCharCode(it)).join(''));
+})"""
 FILL = """((fields) => {
   for (const [name, value] of Object.entries(fields)) document.querySelector(`form input[name="${name}"]`).value = value;
   document.querySelector('form').dispatchEvent(new Event('input'));
@@ -48,6 +69,7 @@ class Desk:
         self.tab = tab
         tab.open(page)
         self.wait("document.body.dataset.ready")
+        self.tab.run(KEEP)
 
     def wait(self, what: str) -> None:
         """waits until something is so"""
@@ -70,10 +92,22 @@ class Desk:
         self.tab.run(f"{FILL}({json.dumps(fields)})")
         self.press("Run")
 
+    def saved(self, ending: str) -> bytes:
+        """what can be saved under a name with an ending"""
+        return base64.b64decode(str(self.tab.run(f"{SAVED}({json.dumps(ending)})")))
+
     def answer(self) -> str:
         """what the answer says, once it is there"""
         self.wait(f"{IS_READY} && document.querySelector('#answer .said')")
         return str(self.tab.run("document.querySelector('#answer .said').textContent"))
+
+    def take(self, *files: tuple[str, str]) -> None:
+        """chooses files where a station is dropped"""
+        self.tab.run(f"{SEVERAL}({json.dumps(files)})")
+
+    def text(self, what: str) -> str:
+        """the text of the first element of a kind; "" where there is none"""
+        return str(self.tab.run(f"document.querySelector({json.dumps(what)})?.textContent ?? ''"))
 
     def named(self, what: str) -> Check:
         return f"{what}: everything has a name for a screen reader", self.tab.unnamed() == []
@@ -81,8 +115,11 @@ class Desk:
 
 def commands(desk: Desk) -> Iterator[Check]:
     """each command over the example"""
-    example = (TOP / "examples/station.xml").read_text(encoding="utf-8")
+    example = EXAMPLE.read_text(encoding="utf-8")
     desk.press("Take the example")
+    desk.wait("document.querySelector('.read')")
+    yield "what was read is said", desk.text(".read") == (
+        "station.xml: 1,962 bytes, 4 tracks, 4 switches and crossings; 8 nodes and 8 pieces of track between them.")
     for command, fields, wanted in COMMANDS:
         desk.press(command)
         if command == "redraw":
@@ -94,13 +131,41 @@ def commands(desk: Desk) -> Iterator[Check]:
     saved = "[...document.querySelectorAll('#answer a[download]')].map(it => it.download)"
     desk.begin("draw", {})
     desk.answer()
-    yield "draw's picture, sheet and log can be saved", desk.tab.run(saved) == ["station.svg", "station.sheet", "station.log"]
+    yield "draw's page, picture, sheet and log can be saved", desk.tab.run(saved) == ["station.html", "station.svg", "station.sheet", "station.log"]
+    yield "the command line to be typed is there", desk.text(".command") == "railplan draw station.xml"
+
+
+def page(desk: Desk) -> Iterator[Check]:
+    """the page of an answer: saved and dropped again it is right, and a changed one is wrong; afterwards its files are taken"""
+    desk.take(("station.xml", EXAMPLE.read_text(encoding="utf-8")))
+    desk.begin("draw", {})
+    desk.answer()
+    made = desk.saved(".html").decode()
+    desk.wait("document.querySelector('iframe.page')")
+    desk.take(("made.html", made))
+    desk.wait("document.querySelector('.judged')")
+    yield "a page is judged", desk.tab.run("document.querySelectorAll('.judged .right').length") == 8
+    yield "a page is judged right", desk.tab.run("document.querySelectorAll('.judged .wrong').length") == 0
+    yield desk.named("a page")
+    desk.begin("verify", {})
+    yield "the sheet of a page is taken", desk.answer() == "Done: lawful 2 2 3 7"
+    for what, changed, wanted in (
+            ("a name in its picture", made.replace(">W3<", ">W4<"), "wrong what it shows without its script is what its run gives"),
+            ("its script", made.replace("<script>", "<script>0;"), "this version makes otherwise its script"),
+            ("its style", made.replace("<style>", "<style>.edge{display:none}"), "this version makes otherwise its style")):
+        name = f"{what.split(' ')[-1]}.html"
+        desk.take((name, changed))
+        desk.wait(f"document.querySelector('#answer .said')?.textContent.startsWith('{name}') && document.querySelector('.judged')")
+        yield f"a page with a change of {what} is seen", wanted in desk.text(".judged")
+    desk.take(("other.html", "<!DOCTYPE html><p>railplan"))
+    desk.wait("document.querySelector('#answer .said.bad')?.textContent.startsWith('other.html')")
+    yield "another page isn't judged", "So nothing of it is judged" in desk.text("#answer .said.bad")
 
 
 def fault(desk: Desk) -> Iterator[Check]:
-    """a station with a fault: a sentence, and the line of the file"""
+    """a station with a fault: a sentence, and the line of the file; and one that can be mended"""
     desk.press("draw")
-    desk.choose("the station", "mutual.xml", (TOP / "cases/stations/mutual.xml").read_text(encoding="utf-8"))
+    desk.take(("mutual.xml", (TOP / "cases/stations/mutual.xml").read_text(encoding="utf-8")))
     desk.begin("draw", {})
     answer = desk.answer()
     yield f"a fault: {answer[:60]}", answer.startswith("The file has a fault: ")
@@ -108,20 +173,82 @@ def fault(desk: Desk) -> Iterator[Check]:
         "[...document.querySelectorAll('#answer div div')].some(it => /^mutual\\.xml:\\d+/.test(it.querySelector('p')?.textContent ?? '')"
         " && it.querySelector('pre')?.textContent.includes('<'))")
     yield desk.named("a fault")
+    broken = EXAMPLE.read_text(encoding="utf-8").replace('pos="310"', 'pos=" 310"').replace('pos="402.5"', 'pos="402.50000000"')
+    desk.take(("blank.xml", broken))
+    desk.wait("document.querySelector('.read')?.textContent.startsWith('blank.xml')")
+    desk.press("What would prepare mend?")
+    desk.wait("[...document.querySelectorAll('button')].some(it => it.textContent === 'Use the mended file')")
+    yield "what prepare changes is shown before it is used", "prepare would change" in desk.text("#files")
+    desk.press("Use the mended file")
+    desk.wait("document.querySelector('.read')?.textContent.startsWith('blank_mended.xml')")
+    desk.begin("draw", {})
+    yield "the mended file is drawn", desk.answer() == "Done: end best"
+
+
+def several(desk: Desk) -> Iterator[Check]:
+    """several stations, drawn and certified side by side, with an archive; a file with a fault among them"""
+    example = EXAMPLE.read_text(encoding="utf-8")
+    fault = (TOP / "cases/stations/mutual.xml").read_text(encoding="utf-8")
+    desk.take(("one.xml", example), ("two.xml", example), ("two.xml", example), ("fault.xml", fault))
+    desk.wait("document.querySelectorAll('.station').length === 4")
+    desk.tab.run("document.querySelector('input[name=certify]').click()")
+    desk.press("Draw all 4")
+    desk.wait("document.querySelector('#answer a[download$=\".zip\"]')")
+    yield "several stations are drawn and certified", desk.text("#answer p[role=status]") == (
+        "4 of 4 stations: 3 best, 1 refused; 3 with a certificate that was checked again")
+    yield "each has its small drawing", desk.tab.run("document.querySelectorAll('.station img').length") == 3
+    names = zipfile.ZipFile(io.BytesIO(desk.saved(".zip"))).namelist()
+    yield "the archive has all that was made", sorted(names) == sorted(["index.html", "fault.html", *[
+        f"{front}{it}{ending}" for it in ("one", "two", "two_2")
+        for front, ending in (("", ".html"), ("", ".svg"), ("", ".sheet"), ("", ".hints"), ("small/", ".svg"))]])
+    yield desk.named("several stations")
+    desk.press("Open the page of one")
+    desk.wait("document.querySelector('iframe.page')")
+    yield "a station's page is opened", desk.tab.run("document.querySelector('iframe.page').title") == "The page of one"
+
+
+def line(desk: Desk) -> Iterator[Check]:
+    """the file of a line, cut into its stations"""
+    desk.take(("line.xml", page_stations.line_of(16)))
+    desk.wait("document.querySelector('.read')?.textContent.startsWith('line.xml')")
+    desk.press("Cut it into stations")
+    desk.wait("document.querySelectorAll('.station').length > 0")
+    yield "a line is cut into its stations", desk.tab.run("document.querySelectorAll('.station').length") == 16
+    yield "how many switches are in files is said", "16 files with 64 of 64 switches and crossings" in desk.text("#files")
+    desk.press("Draw all 16")
+    desk.wait("document.querySelector('#answer a[download$=\".zip\"]')")
+    yield "the stations of a line are drawn", desk.text("#answer p[role=status]") == "16 of 16 stations: 16 best"
+    yield desk.named("a line")
+
+
+def narrow(desk: Desk) -> Iterator[Check]:
+    """a window of 320 pixels, and the keyboard alone"""
+    desk.tab.size(320, 800, is_phone=True)
+    desk.press("Take the example")
+    desk.begin("draw", {})
+    desk.answer()
+    yield "nothing is wider than a window of 320 pixels", desk.tab.run("document.documentElement.scrollWidth") <= 320
+    desk.tab.size(1600, 1000)
+    desk.tab.run("document.activeElement.blur()")
+    reached: list[str] = []
+    for _ in range(40):
+        desk.tab.key("Tab")
+        reached.append(str(desk.tab.run("document.activeElement.textContent || document.activeElement.name || document.activeElement.ariaLabel")))
+    yield "all is reached by the keyboard", {"Take the example", "draw", "graph", "--width", "Run"} <= set(reached)
 
 
 def stop(desk: Desk) -> Iterator[Check]:
     """a long search that is stopped"""
     desk.press("draw")
-    desk.choose("the station", "long.xml", page_stations.file_of(dict(page_stations.STATIONS)["scissors 12"], "plain"))
+    desk.take(("long.xml", page_stations.file_of(dict(page_stations.STATIONS)["scissors 12"], "plain")))
     desk.begin("draw", {"--width": "64", "--height": "12"})
-    desk.wait("document.querySelector('#answer figcaption')?.textContent.startsWith('The best drawing so far')")
+    desk.wait("document.querySelector('#answer figcaption')?.textContent.startsWith('The best drawing of long.xml so far')")
     desk.press("Stop")
     answer = desk.answer()
     yield "a stop ends the search", answer.startswith("Stopped")
     yield "a stop keeps the best drawing so far", desk.tab.run(
-        "document.querySelector('#answer').textContent.includes('The search was stopped. This is the best drawing that it had found by then.')"
-        " && !!document.querySelector('#answer figure img')")
+        "document.querySelector('#answer').textContent.includes('The search ended before its end. This is the last drawing that was drawn by"
+        " then.') && !!document.querySelector('#answer iframe.page')")
     desk.begin("verify", {})
     yield "this drawing is lawful", desk.answer().startswith("Done: lawful")
     yield desk.named("a stop")
@@ -130,12 +257,14 @@ def stop(desk: Desk) -> Iterator[Check]:
 def main() -> int:
     parser = argparse.ArgumentParser(description=__doc__, formatter_class=argparse.RawDescriptionHelpFormatter)
     parser.add_argument("desk", type=Path, metavar="DESK.html")
+    parser.add_argument("--short", action="store_true", help="leave out the long search")
     words = parser.parse_args()
+    parts = (commands, page, fault, several, line, narrow, *(() if words.short else (stop,)))
     failed = False
     with Browser() as browser:
         tab = Tab(browser)
         desk = Desk(tab, words.desk)
-        for part in (commands, fault, stop):
+        for part in parts:
             try:
                 for what, is_so in part(desk):
                     print(f"{what}: {'yes' if is_so else 'NO'}", flush=True)

@@ -97,3 +97,24 @@ def add_signals(text: str, name: Callable[[int, str], str], count: Iterator[int]
                                 + (f' name="{escaped(shown)}"' if shown else "") + (f' dir="{way}"' if way else "") + "/>")
         parts[at + 1] = f"</trackTopology><ocsElements><signals>{''.join(made)}</signals></ocsElements></track>"
     return "".join(parts)
+
+
+def line_of(count: int) -> str:
+    """the file of a single line with so many stations, 5 km apart, each with a loop above and one below its track"""
+    main, loops = [], []
+    for number in range(count):
+        for side, (west, east) in enumerate([(1000, 1900), (1100, 1800)]):
+            name, places = f"L{number}{'ab'[side]}", [5000 * number + west, 5000 * number + east]
+            for which, place, end in zip("we", places, ("west", "east")):
+                # a loop above leaves to the left, one below to the right; at its east end it is seen from the other side
+                hand = "left" if (side == 0) == (which == "w") else "right"
+                way = "outgoing" if which == "w" else "incoming"
+                main.append((place, f'<switch id="{name}{which}" pos="{place}" absPos="{place}"><connection id="{name}{which}.c" ref="{name}.{end}"'
+                                    f' course="{hand}" orientation="{way}"/></switch>'))
+            loops.append(f'<track id="{name}"><trackTopology><trackBegin id="{name}.begin" pos="0" absPos="{places[0]}"><connection id="{name}.west" '
+                         f'ref="{name}w.c"/></trackBegin><trackEnd id="{name}.end" pos="{places[1] - places[0]}" absPos="{places[1]}"><connection '
+                         f'id="{name}.east" ref="{name}e.c"/></trackEnd></trackTopology></track>')
+    length, switches = 5000 * count, "".join(it for _, it in sorted(main))
+    return (f'<railml xmlns="http://www.railml.org/schemas/2013" version="2.2"><infrastructure id="line"><tracks><track id="main"><trackTopology>'
+            f'<trackBegin id="A" pos="0" absPos="0"><openEnd id="A.open"/></trackBegin><trackEnd id="B" pos="{length}" absPos="{length}"><openEnd '
+            f'id="B.open"/></trackEnd><connections>{switches}</connections></trackTopology></track>{"".join(loops)}</tracks></infrastructure></railml>')

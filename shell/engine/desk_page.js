@@ -2,8 +2,8 @@
 import { readFileSync } from "node:fs";
 import { dirname, join } from "node:path";
 import { fileURLToPath } from "node:url";
+import { PAPERS } from "../both/page/columns.js";
 import { stylesOf } from "../both/page/written.js";
-import { PAGE_WORDS } from "../both/words.js";
 import { packedScript, stylesIn } from "../terminal/bundle.js";
 import { packed, sourceOf, written } from "./packed.js";
 
@@ -16,15 +16,16 @@ const PAGE = join(dirname(dirname(fileURLToPath(import.meta.url))), "page");
  * @returns {string} the page
  */
 export function deskPage(top, parts) {
-    const script = packedScript(top, "desk"), style = readFileSync(join(PAGE, "desk.css"), "utf8");
+    const begin = packedScript(top, "begin"), style = readFileSync(join(PAGE, "desk.css"), "utf8");
     // what the pages of answers are made of: they are shown in a frame, under this page's own policy
     const pages = { ...stylesIn(top), script: packedScript(top, "page"), worker: packedScript(top, "worker") };
-    const styles = [style, ...stylesOf(pages, PAGE_WORDS.get("--paper")?.usual ?? "")];
-    const data = written({ ...parts, wasm: packed(parts.wasm), pages: packed(Buffer.from(JSON.stringify(pages))) });
+    const styles = [style, ...[...PAPERS.keys()].flatMap((paper) => stylesOf(pages, paper))];
+    const scripts = JSON.stringify({ ...pages, desk: packedScript(top, "desk") });
+    const data = written({ ...parts, wasm: packed(parts.wasm), packed: packed(Buffer.from(scripts)) });
     const policy = [
-        "default-src 'none'", `script-src ${[script, pages.script].map(sourceOf).join(" ")} 'wasm-unsafe-eval' blob:`, "worker-src blob:",
-        "frame-src blob:", `style-src ${styles.map(sourceOf).join(" ")}`, "img-src blob: data:", "base-uri 'none'", "form-action 'none'",
+        "default-src 'none'", `script-src ${[begin, pages.script].map(sourceOf).join(" ")} 'wasm-unsafe-eval' blob:`, "worker-src blob:",
+        "frame-src blob:", `style-src ${[...new Set(styles.map(sourceOf))].join(" ")}`, "img-src blob: data:", "base-uri 'none'", "form-action 'none'",
     ].join("; ");
-    const values = new Map([["POLICY", policy], ["STYLE", style], ["DATA", data], ["SCRIPT", script]]);
+    const values = new Map([["POLICY", policy], ["STYLE", style], ["DATA", data], ["SCRIPT", begin]]);
     return readFileSync(join(PAGE, "desk.html"), "utf8").replace(/POLICY|STYLE|DATA|SCRIPT/g, (name) => values.get(name) ?? name);
 }

@@ -1,19 +1,25 @@
 /** The desk: the whole program in a page. Files are chosen, a command is asked, and its answer is shown and can be saved. */
+import { judgedFile } from "../both/line/judged.js";
+import { printable } from "../both/printable.js";
 import { quotedLine } from "../both/quoted.js";
 import { read } from "../both/words.js";
 import { answerOf, pictureOf } from "./desk_answer.js";
-import { unpacked } from "../both/packing.js";
-import { engineOf, sha256 } from "./desk_engine.js";
+import { engineOf } from "./desk_engine.js";
+import { chooser, dropped, taken } from "./desk_files.js";
 import { SLOTS, commandOf, formOf, pagesOf, slotsOf, wordsOf } from "./desk_form.js";
+import { isPage, judgedPage } from "./desk_judged.js";
+import { Many } from "./desk_many.js";
 import { seenOn } from "./desk_memory.js";
 import { framed, pageOf } from "./desk_page.js";
 import { LOG, PICTURE, Search } from "./desk_search.js";
+import { whatWasRead } from "./desk_station.js";
 import { button, element, sized } from "./elements.js";
 
+/** @typedef {import("../both/wasm_engine.js").WasmEngine} WasmEngine */
+/** @typedef {import("./desk_files.js").Taken} Taken */
 /** @typedef {import("./desk_form.js").Slot} Slot */
-/** @typedef {{version: string, build: string, isProved: boolean, wasm: string, pages: string, example: string}} Data what the page
- * carries */
-/** @typedef {{name: string, bytes: Uint8Array}} Placed a file in its place */
+/** @typedef {{start: () => WasmEngine, reader: import("./desk_reading.js").Reader, maker: import("./desk_page.js").Maker, example: string}} Tools
+ * what starts a program, what reads files, what makes pages, and the text of the example */
 
 /** the commands in the order of the work */
 const ORDER = ["draw", "signals", "explain", "front", "redraw", "verify", "check", "trim", "recheck", "graph"];
@@ -24,17 +30,12 @@ const CUT = new Set([130, 7, 134]);
 const part = (id) => /** @type {HTMLElement} */ (document.getElementById(id));
 
 /** The files, the command that is asked, and the run that goes on. */
-class Desk {
-    /**
-     * @param {{main: import("../both/wasm_engine.js").WasmEngine, second: import("../both/wasm_engine.js").WasmEngine}} engines
-     * @param {Data} data
-     * @param {import("./desk_page.js").Parts} parts what pages are made of
-     */
-    constructor(engines, data, parts) {
-        this.engines = engines;
-        this.data = data;
-        this.parts = parts;
-        /** @type {Map<Slot, Placed>} */
+export class Desk {
+    /** @param {Tools} tools */
+    constructor(tools) {
+        this.tools = tools;
+        this.engines = { main: tools.start(), second: tools.start() };
+        /** @type {Map<Slot, Taken>} */
         this.placed = new Map();
         this.command = "draw";
         this.form = formOf(this.command);
@@ -48,22 +49,27 @@ class Desk {
         this.start = button("Run", () => void this.run(), "main");
         this.stop = button("Stop", () => this.search?.stop.abort());
         this.far = element("p", { role: "status" });
+        this.station = element("div", { "aria-live": "polite" });
         this.shown = element("div", {});
     }
 
     /** puts the desk's parts into the page */
     build() {
-        part("files").append(this.dropPlace());
+        part("files").append(this.dropPlace(), this.station);
         part("asked").append(this.chosen, this.what, this.slots, this.formPlace, element("p", {}, "The same in a terminal:"), this.commandLine,
             element("div", { class: "row" }, this.start, this.stop), this.far);
         part("answer").append(this.shown);
         this.choose("draw");
     }
 
-    /** where a station is dropped or chosen */
+    /** where files are dropped or chosen */
     dropPlace() {
-        const example = button("Take the example", () => this.begin("station.xml", new TextEncoder().encode(this.data.example)));
-        const drop = element("div", { class: "drop row" }, "Drop a railML file here, or choose one:", this.chooser("station"), example);
+        const example = button("Take the example", () => this.begin({ name: "station.xml", bytes: new TextEncoder().encode(this.tools.example) }));
+        const take = (/** @type {File[]} */ files) => void this.take(files);
+        const drop = element("div", { class: "drop" },
+            element("p", {}, "Drop a railML file here, several, a folder of them, or a page that railplan wrote. Or choose:"),
+            element("div", { class: "row" }, element("label", { class: "field" }, element("span", {}, "files"), chooser("choose the station, or several", take, "several")),
+                element("label", { class: "field" }, element("span", {}, "a folder"), chooser("choose a folder of stations", take, "folder")), example));
         drop.addEventListener("dragover", (event) => {
             event.preventDefault();
             drop.classList.add("over");
@@ -72,51 +78,124 @@ class Desk {
         drop.addEventListener("drop", (event) => {
             event.preventDefault();
             drop.classList.remove("over");
-            void this.take("station", event.dataTransfer?.files[0]);
+            if (event.dataTransfer) void dropped(event.dataTransfer).then(take);
         });
         return drop;
     }
 
-    /** @param {Slot} slot */
-    chooser(slot) {
-        const input = element("input", { type: "file", "aria-label": `choose ${SLOTS.get(slot)}` });
-        input.addEventListener("change", () => {
-            void this.take(slot, input.files?.[0]);
-            // else the same file, changed meanwhile, couldn't be chosen again
-            input.value = "";
-        });
-        return input;
+    /** @param {string} said */
+    refuse(said) {
+        this.station.replaceChildren(element("p", { class: "said bad" }, printable(said)));
     }
 
     /**
-     * @param {Slot} slot
-     * @param {File | undefined} file
+     * Takes files: a station, a page, or several stations.
+     * @param {File[]} given
      */
-    async take(slot, file) {
-        if (!file) {
-            return;
+    async take(given) {
+        /** @type {Taken[]} */
+        const files = [];
+        for (const it of given) {
+            try {
+                files.push(await taken(it));
+            } catch {
+                return this.refuse(`${it.name} can't be read`);
+            }
         }
-        try {
-            const bytes = new Uint8Array(await file.arrayBuffer());
-            slot === "station" ? this.begin(file.name, bytes) : this.place(slot, file.name, bytes);
-        } catch {
-            this.shown.replaceChildren(element("p", { class: "said bad" }, `${file.name} can't be read. Is it a folder?`));
+        if (!files.length) {
+            return this.refuse("There is no file whose name ends in .xml or .railml");
         }
+        if (files.length > 1) {
+            return this.several("stations", files);
+        }
+        return isPage(files[0].bytes) ? this.judge(files[0]) : this.begin(files[0]);
     }
 
-    /**
-     * Begins with a station. What was made of another one goes, so that no drawing is taken for this station's; a run is stopped.
-     * @param {string} name
-     * @param {Uint8Array} bytes
-     */
-    begin(name, bytes) {
+    /** takes away what was made of another station, and stops a run of it, so that no drawing is taken for this station's */
+    clear() {
         this.search?.stop.abort();
-        for (const slot of /** @type {Slot[]} */ (["sheet", "log", "hints"])) {
-            this.placed.delete(slot);
-        }
+        this.many?.stopping?.abort();
+        this.many = undefined;
+        this.placed.clear();
+        this.station.replaceChildren();
         this.shown.replaceChildren();
         this.far.textContent = "";
-        this.place("station", name, bytes);
+        this.renew();
+    }
+
+    /**
+     * Begins with a station, and says what was read of it.
+     * @param {Taken} file
+     */
+    begin(file) {
+        const former = this.placed.get("former");
+        this.clear();
+        if (former) this.placed.set("former", former);
+        this.place("station", file.name, file.bytes);
+        this.station.replaceChildren(element("p", {}, `${printable(file.name)} is being read ..`));
+        const hands = { reader: this.tools.reader, engine: this.engines.second, use: (/** @type {Taken} */ it) => this.begin(it),
+            cut: (/** @type {import("./desk_reading.js").Cut} */ cut, /** @type {string} */ name) => void this.cut(cut, name) };
+        const isStill = () => this.placed.get("station")?.bytes === file.bytes;
+        void whatWasRead(file, hands).catch((error) => [element("p", { class: "said bad" }, `It couldn't be read: ${error.message}`)])
+            .then((nodes) => isStill() && this.station.replaceChildren(...nodes));
+    }
+
+    /**
+     * Judges a page that somebody else made, and takes its files.
+     * @param {Taken} page
+     */
+    async judge(page) {
+        this.clear();
+        this.station.replaceChildren(element("p", {}, `${printable(page.name)} is being judged ..`));
+        const { shown, judged } = await judgedPage(page.name, page.bytes, this.engines.second, this.tools.maker);
+        const [file] = judged?.carried.record.inputs ?? [];
+        if (file?.content) {
+            this.place("station", file.facts.name.replace(/^.*\//, ""), file.content);
+            if (judged?.sheet) this.place("sheet", `${this.stem}.sheet`, judged.sheet);
+            if (judged?.carried.hints) this.place("hints", `${this.stem}.hints`, judged.carried.hints);
+        }
+        this.station.replaceChildren(element("p", {}, `${printable(page.name)} was judged; what it carries is taken apart here.`));
+        this.shown.replaceChildren(...shown);
+    }
+
+    /**
+     * Takes several stations, to draw them all.
+     * @param {string} title
+     * @param {Taken[]} files
+     */
+    several(title, files) {
+        this.clear();
+        const names = new Set(), named = files.map(({ name, bytes }) => {
+            const at = name.lastIndexOf(".");
+            let own = name;
+            for (let number = 2; names.has(own); number++) own = `${name.slice(0, at)}_${number}${name.slice(at)}`;
+            names.add(own);
+            return { name: own, bytes };
+        });
+        this.many = new Many(title, named, this.tools.start, () => {
+            const form = this.command === "draw" ? this.form : formOf("draw");
+            return { options: wordsOf("draw", form, () => "", "").slice(2), pages: pagesOf(form), maker: this.tools.maker };
+        }, (file) => this.begin(file));
+        this.choose("draw");
+        this.shown.replaceChildren(...this.many.shown());
+    }
+
+    /**
+     * Takes the stations of a line, each judged by the program's own track graph.
+     * @param {import("./desk_reading.js").Cut} cut
+     * @param {string} name the line's file
+     */
+    async cut({ said, files, whole }, name) {
+        const good = [], notes = [...said];
+        for (const file of files) {
+            const { bytes, reason } = await judgedFile(this.engines.second, whole, file);
+            reason ? notes.push(`${file.name}.xml isn't taken: ${reason}`) : good.push({ name: `${file.name}.xml`, bytes });
+        }
+        if (good.length) {
+            this.several(name.replace(/\.\w+$/, ""), good);
+        }
+        this.station.replaceChildren(element("p", {}, `${printable(name)} was cut into stations. This is no part of what is proved.`),
+            element("ul", {}, ...notes.map((it) => element("li", {}, printable(it)))));
     }
 
     /**
@@ -129,6 +208,18 @@ class Desk {
         const isTaken = [...this.placed].some(([other, it]) => other !== slot && it.name === name);
         this.placed.set(slot, { name: isTaken ? `${slot}_${name}` : name, bytes });
         this.renew();
+    }
+
+    /**
+     * Takes the file that was chosen for a place.
+     * @param {Slot} slot
+     * @param {File[]} files
+     */
+    async fill(slot, [file]) {
+        if (file) {
+            const { name, bytes } = await taken(file);
+            this.place(slot, name, bytes);
+        }
     }
 
     /** @param {string} command */
@@ -160,7 +251,8 @@ class Desk {
         const slots = slotsOf(this.command);
         this.slots.replaceChildren(...slots.map((slot) => {
             const it = this.placed.get(slot), there = it ? `${it.name}, ${sized(it.bytes.length)}` : "not there yet";
-            return element("li", {}, `${SLOTS.get(slot)}: `, element("b", {}, there), ...(slot === "station" ? [] : [" ", this.chooser(slot)]));
+            return element("li", {}, `${SLOTS.get(slot)}: `, element("b", {}, there), ...(slot === "station" ? []
+                : [" ", chooser(`choose ${SLOTS.get(slot)}`, (files) => void this.fill(slot, files))]));
         }));
         const pages = pagesOf(this.form), page = pages.size ? ["--html", `${this.stem}.html`, ...[...pages].flat()] : [];
         this.commandLine.textContent = `railplan ${quotedLine([...page, ...this.words()])}`;
@@ -174,7 +266,7 @@ class Desk {
         const station = this.placed.get("station");
         const beside = [["--svg", PICTURE], ["--log", LOG]].filter(([option]) => options.includes(option)).flat();
         const files = new Map(slotsOf(this.command).map((slot) => {
-            const it = /** @type {Placed} */ (this.placed.get(slot));
+            const it = /** @type {Taken} */ (this.placed.get(slot));
             return [it.name, it.bytes];
         }));
         const search = new Search(this.engines, [...given, ...beside], files, {
@@ -226,10 +318,9 @@ class Desk {
         keep("hints", "hints", hints);
         const run = { line: read(words), status: ran.status, output, trap: ran.trap, seen: seenOn(files), graph: () => this.graph(files) };
         const stopped = best ? [element("p", {}, "The search ended before its end. This is the last drawing that was drawn by then.")] : [];
-        const { version, isProved, wasm } = this.data;
         const ask = (/** @type {string[]} */ further) => this.engines.second.run({ words: further, files });
         const page = CUT.has(ran.status) && !best ? ""
-            : await pageOf(best ? { ...run, status: 4 } : run, { files, pages, picture, parts: this.parts, wasm, version, isProved, ask });
+            : (await pageOf(best ? { ...run, status: 4 } : run, { files, pages, picture, ask }, this.tools.maker)).text;
         const answer = await answerOf(run, { picture: page ? undefined : picture, saved: page
             ? [[`${this.stem}.html`, new TextEncoder().encode(page), "text/html"], ...saved] : saved });
         if (this.placed.get("station") !== station) {
@@ -248,17 +339,3 @@ class Desk {
         return ran.status === 0 ? new TextDecoder().decode(ran.output).split("\n").slice(0, -1) : [];
     }
 }
-
-/** starts the desk out of the page's own data */
-async function open() {
-    const data = /** @type {Data} */ (JSON.parse(part("data").textContent ?? ""));
-    const wasm = await unpacked(data.wasm), sum = await sha256(wasm), module = await WebAssembly.compile(wasm);
-    const parts = JSON.parse(new TextDecoder().decode(await unpacked(data.pages)));
-    part("program").textContent = `Version ${data.version}. The program: ${data.build}; as WebAssembly its SHA-256 is ${sum}.`;
-    new Desk({ main: engineOf(module, parts.worker), second: engineOf(module, parts.worker) }, data, parts).build();
-    document.body.dataset.ready = "yes";
-}
-
-open().catch((/** @type {unknown} */ why) => {
-    part("answer").append(element("p", { class: "said bad" }, `The program couldn't be started in this browser: ${why}`));
-});

@@ -50,6 +50,7 @@ export async function answerOf(run, made) {
     const notes = run.status === 130 || run.trap ? [] : await notesOf({ ...run, called: "railplan" });
     return element("div", {}, element("p", { class: GOOD.has(run.status) ? "said" : "said bad" }, head), ...notes.map(noteOf),
         ...(made.picture ? [pictureOf(made.picture, "The program's own drawing")] : []),
-        element("p", { class: "row" }, ...made.saved.map((it) => saving(...it))),
-        element("pre", { tabindex: 0, "aria-label": "what the program printed" }, text.length > MOST_SHOWN ? `${text.slice(0, MOST_SHOWN)}\n…` : text));
+        ...(made.saved.length ? [element("p", { class: "row" }, ...made.saved.map((it) => saving(...it)))] : []),
+        ...(lines.length > 1 ? [element("details", {}, element("summary", {}, "What the program printed"),
+            element("pre", { tabindex: 0 }, text.length > MOST_SHOWN ? `${text.slice(0, MOST_SHOWN)}\n…` : text))] : []));
 }

@@ -10,8 +10,10 @@ import { writeWhole } from "./files.js";
 import { end } from "./say.js";
 
 /** where scripts are kept, and the module with which each begins */
-const KEPT = "out/shell", ENTRIES = { page: "page/opened.js", worker: "page/desk_worker.js", desk: "page/desk.js" };
-const FOLDERS = ["both", "both/messages", "both/page", "page"];
+const KEPT = "out/shell", ENTRIES = {
+    page: "page/opened.js", worker: "page/desk_worker.js", desk: "page/desk_opened.js", begin: "page/desk_begin.js",
+};
+const FOLDERS = ["both", "both/line", "both/messages", "both/page", "page"];
 
 /**
  * What the modules of pages are, as one hash.

@@ -36,7 +36,7 @@ export async function run({ top, called, engine, wasm, signal }, line) {
     const own = { ...stylesIn(top), script: scriptOf(top), worker: workerOf(top), hashOf: sourceOf,
         program: wasm && existsSync(wasm) ? sum(readFileSync(wasm)) : "" };
     const judging = { kind: engine.kind, run: (/** @type {import("../both/engine.js").Job} */ job) => engine.run({ ...job, signal }) };
-    const judged = await judgeWhole(text, own, judging, sha256).catch((error) => {
+    const judged = await judgeWhole(text, async () => own, judging, sha256).catch((error) => {
         if (error instanceof Unjudged) {
             end(signal.aborted ? 130 : 10, `${page} couldn't be judged: ${error.message}`);
         }

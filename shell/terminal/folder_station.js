@@ -6,12 +6,13 @@ import { join } from "node:path";
 import { fileURLToPath } from "node:url";
 import { longestChain, oddPicture } from "../both/messages/advice.js";
 import { linesOf, notesOf } from "../both/messages/telling.js";
+import { MOST_HINTS, grids, note } from "../both/folder_grids.js";
 import { ENDINGS, FolderRecord, RECORDS, fileName, readRecord } from "../both/folder_record.js";
 import { plain } from "../both/notes.js";
 import { NoPage } from "../both/page/texts.js";
 import { withHints } from "../both/page/written.js";
 import { VERSION } from "../both/version.js";
-import { OPTIONS, read } from "../both/words.js";
+import { read } from "../both/words.js";
 import { packed } from "../engine/packed.js";
 import { path } from "./bytes.js";
 import { Refused, remove, stateOf, writeWhole } from "./files.js";
@@ -28,21 +29,8 @@ import { SEEN } from "./seen_files.js";
  * @property {string[]} options those of draw, each with its value
  * @property {boolean} certifies */
 
-/** a page carries hinted lines that have no more signs than this, packed */
-const MOST_HINTS = 2 << 20;
-
 /** The run was stopped, and with it all that draws. */
 export class Stopped extends Error {}
-
-/**
- * The value of an option that is a number.
- * @param {string[]} options @param {string} word
- * @returns {number}
- */
-function numberOf(options, word) {
-    const at = options.indexOf(word);
-    return Number(at < 0 ? OPTIONS.get(word)?.usual : options[at + 1]);
-}
 
 /** what makes pages and says what they don't show, as one hash @type {string} */
 let sumOfShell = "";
@@ -87,29 +75,6 @@ export function recordIn(out, name) {
     } catch {
         return null;
     }
-}
-
-/**
- * The grids that are tried, each larger than the one before; those that are too narrow for the longest chain of pieces are
- * left out, but not all.
- * @param {string[]} options @param {number} chain
- * @returns {[number, number][]}
- */
-export function grids(options, chain) {
-    const [width, height, least] = ["--width", "--height", "--least"].map((word) => numberOf(options, word));
-    const wide = OPTIONS.get("--width")?.high ?? width, high = OPTIONS.get("--height")?.high ?? height;
-    /** @type {[number, number][]} */
-    const all = [[width, height], [wide, height], [wide, high]];
-    const listed = all.filter((it, at) => all.findIndex((other) => String(other) === String(it)) === at);
-    const left = listed.filter((it) => chain * least <= it[0]);
-    return left.length ? left : listed.slice(0, 1);
-}
-
-/**
- * @param {string[]} lines @param {string} word @returns {string[]} what is behind the word in the first line that begins so
- */
-function fieldsOf(lines, word) {
-    return lines.find((line) => line.startsWith(`${word} `))?.split(" ").slice(1) ?? [];
 }
 
 /**
@@ -217,15 +182,9 @@ class Drawing {
         const began = performance.now(), asked = await this.program("graph", this.station);
         const graph = asked.status ? [] : linesOf(asked.output);
         const { ran, words, grid } = await this.draw(graph), { options, certifies } = this.setting;
-        const lines = linesOf(ran.output), record = new FolderRecord(this.name, key);
-        record.status = ran.status;
-        record.end = lines.at(-1) ?? "";
-        record.grid = grid;
-        record.isLarger = grid[0] !== numberOf(options, "--width") || grid[1] !== numberOf(options, "--height");
-        if (lines[0] === "railplan 2") {
+        const record = new FolderRecord(this.name, key), hasSheet = note(record, ran.status, linesOf(ran.output), grid, options);
+        if (hasSheet) {
             writeWhole(this.place("sheet"), ran.output);
-            record.order = fieldsOf(lines, "order");
-            record.values = fieldsOf(lines, "values").map(Number);
             record.certified = certifies ? await this.certify() : "";
             this.carryHints();
         }

@@ -3,12 +3,10 @@
  */
 import { mkdirSync, readdirSync } from "node:fs";
 import { join } from "node:path";
-import { MOST_BYTES } from "../both/file_kinds.js";
-import { differing, forksOfFile } from "../both/line/judged.js";
+import { forksOfFile, judgedFile } from "../both/line/judged.js";
 import { micrometres } from "../both/line/network.js";
 import { cutLine } from "../both/line/stations.js";
 import { unread } from "../both/messages/telling.js";
-import { readGraph } from "../both/page/texts.js";
 import { mended } from "../both/prepare.js";
 import { quoted } from "../both/quoted.js";
 import { read } from "../both/railml.js";
@@ -101,30 +99,6 @@ function readLine(name) {
 }
 
 /**
- * Whether a station's file says of each switch and crossing what the whole file says; else why that isn't known.
- * @param {Engine} engine
- * @param {Map<string, import("../both/line/judged.js").Fork[]>} whole
- * @param {StationFile} file
- * @param {AbortSignal} signal
- */
-async function judged(engine, whole, file, signal) {
-    const bytes = new TextEncoder().encode(file.text), name = `${file.name}.xml`;
-    if (bytes.length > (MOST_BYTES.get("railml") ?? 0)) {
-        return "it has more than 4 MiB";
-    }
-    const ran = await engine.run({ words: ["graph", name], files: new Map([[name, bytes]]), signal });
-    if (ran.wasStopped) {
-        end(130, "stopped");
-    }
-    const text = new TextDecoder().decode(ran.output);
-    if (ran.status !== 0) {
-        return `the program says of it: ${text.trim()}`;
-    }
-    const other = differing(whole, file, readGraph(text));
-    return other === undefined ? "" : `it can't be shown that ${other} has the same legs and sides there`;
-}
-
-/**
  * Refuses a folder that has one of the files already: what is there isn't written over.
  * @param {string} out
  * @param {StationFile[]} files
@@ -169,14 +143,17 @@ export async function run({ engine, signal }, line) {
     const whole = forksOfFile(document);
     let refused = 0;
     for (const file of files) {
-        const reason = await judged(engine, whole, file, signal), name = join(out, `${file.name}.xml`);
+        const { bytes, reason, wasStopped } = await judgedFile(engine, whole, file, signal), name = join(out, `${file.name}.xml`);
+        if (wasStopped) {
+            end(130, "stopped");
+        }
         if (reason) {
             refused++;
             say(`${name} isn't written (${file.title}, ${file.points.length} switches and crossings): ${reason}`);
             continue;
         }
         try {
-            writeWhole(name, new TextEncoder().encode(file.text));
+            writeWhole(name, bytes);
         } catch (error) {
             end(6, `${name} couldn't be written: ${why(error)}`);
         }

@@ -10,7 +10,7 @@ import { FolderRecord, readRecord } from "../both/folder_record.js";
 import { text as pageOf, worst } from "../both/page/folder_index.js";
 import { processors } from "../terminal/building.js";
 import { Shown, stations } from "../terminal/folder.js";
-import { grids } from "../terminal/folder_station.js";
+import { grids } from "../both/folder_grids.js";
 import { readFolderWords } from "../terminal/folder_words.js";
 
 // a program that answers by the name of the file: it says what it was asked for

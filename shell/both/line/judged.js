@@ -3,6 +3,8 @@
  * which node lies above and below there. The whole file is read here; what the station's file says is the program's own track
  * graph of it.
  */
+import { MOST_BYTES } from "../file_kinds.js";
+import { readGraph } from "../page/texts.js";
 import { TrackGraph } from "../track_graph.js";
 
 /** @typedef {import("../page/texts.js").Graph} Graph */
@@ -79,4 +81,27 @@ export function differing(whole, file, graph) {
             return !other || !isSame(fork.upper, other.upper, file, inside) || !isSame(fork.lower, other.lower, file, inside);
         });
     });
+}
+
+/**
+ * A station's file judged by the program's own track graph of it.
+ * @param {import("../engine.js").Engine} engine
+ * @param {Map<string, Fork[]>} whole the forks of the whole file
+ * @param {StationFile} file
+ * @param {AbortSignal} [signal]
+ * @returns {Promise<{bytes: Uint8Array, reason: string, wasStopped: boolean}>} the file's bytes, and why it isn't known that each switch and
+ *     crossing is there as in the whole file; "" where it is known
+ */
+export async function judgedFile(engine, whole, file, signal) {
+    const bytes = new TextEncoder().encode(file.text), name = `${file.name}.xml`;
+    if (bytes.length > (MOST_BYTES.get("railml") ?? 0)) {
+        return { bytes, reason: "it has more than 4 MiB", wasStopped: false };
+    }
+    const { output, status, wasStopped } = await engine.run({ words: ["graph", name], files: new Map([[name, bytes]]), signal });
+    const text = new TextDecoder().decode(output);
+    if (status !== 0) {
+        return { bytes, reason: `the program says of it: ${text.trim()}`, wasStopped };
+    }
+    const other = differing(whole, file, readGraph(text));
+    return { bytes, reason: other === undefined ? "" : `it can't be shown that ${other} has the same legs and sides there`, wasStopped };
 }

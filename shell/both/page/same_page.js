@@ -7,6 +7,7 @@ import { notShown } from "../messages/not_shown.js";
 import { linesOf } from "../messages/telling.js";
 import { read } from "../words.js";
 import { carriedBy } from "./carried.js";
+import { PAPERS } from "./columns.js";
 import { outline } from "./kinds.js";
 import { inWords, judgePage, sheetOf } from "./page_check.js";
 import { Run } from "./run.js";
@@ -22,13 +23,16 @@ import { pageText } from "./written.js";
  * @property {string} worker the script of the worker that runs the program
  * @property {string} program the SHA-256 of this version's program as WebAssembly; "" where there is none to compare with
  * @property {(text: string) => string} hashOf what a browser is given to know a script or a style by */
+/** @typedef {(paper: string) => Promise<Own>} OwnFor of a paper, as styles and what a browser knows them by depend on it */
 /** @typedef {"right" | "wrong" | "open"} Word a claim holds, doesn't, or nobody judged it */
 /**
- * @typedef {{carried: Carried, verdict: Verdict, lines: [Word, string][], said: string}} Judgement of a page: each claim with its word, and
- * all in a line
+ * @typedef {{carried: Carried, verdict: Verdict, sheet: Uint8Array | null, lines: [Word, string][], said: string}} Judgement of a page: its
+ * sheet, each claim with its word, and all in a line
  */
 
 const NOTES = "what it says that the drawing doesn't show", WITHOUT_SCRIPT = "what it shows without its script";
+/** how a page's data begins */
+const DATA = '<script type="application/json" class="data">';
 /** the parts of a page by which it may show something else than its run, each with where it is in the text before its data */
 const HEAD = /** @type {[string, RegExp][]} */ ([
     ["what it lets a browser do", /<meta http-equiv="Content-Security-Policy" content="[^"]*">/],
@@ -62,7 +66,7 @@ function partsOf(text) {
 }
 
 /**
- * The page that this version writes of a run, up to its data; with the program's picture and without it, as either may be there.
+ * The pages that this version writes of a run: without the program's picture and with it, as either may be there.
  * @param {Carried} carried
  * @param {Own} own
  * @returns {string[]}
@@ -70,11 +74,22 @@ function partsOf(text) {
 function remade({ record, packed }, own) {
     const sheet = record.words[0] === "draw" ? sheetOf(record) : null, page = outline(new Run(record));
     const pictures = sheet ? ["", pictureOf(new TextDecoder().decode(sheet))] : [""];
-    return pictures.map((picture) => {
-        const text = pageText(page, record.settings.paper, { ...own, picture, data: packed.data,
-            carried: packed.program ? { program: packed.program, worker: own.worker, hints: packed.hints } : null });
-        return text.slice(0, text.indexOf('<script type="application/json" class="data">'));
-    });
+    return pictures.map((picture) => pageText(page, record.settings.paper, { ...own, picture, data: packed.data,
+        carried: packed.program ? { program: packed.program, worker: own.worker, hints: packed.hints } : null }));
+}
+
+/**
+ * The page of what a page carries, as this version writes it, so that nothing of what was handed over is run.
+ * @param {Carried} carried
+ * @param {Own} own
+ * @returns {string} "" where there is no page of its run
+ */
+export function shownBy(carried, own) {
+    try {
+        return remade({ ...carried, packed: { ...carried.packed, program: "" } }, own)[0];
+    } catch {
+        return "";
+    }
 }
 
 /**
@@ -85,7 +100,7 @@ function remade({ record, packed }, own) {
  * @throws where its run has an output that no program gives, so that there is no page of it
  */
 export function otherParts(carried, own) {
-    const wanted = remade(carried, own).map(partsOf);
+    const wanted = remade(carried, own).map((text) => partsOf(text.slice(0, text.indexOf(DATA))));
     const others = [...partsOf(carried.before)].filter(([name, text]) => !wanted.some((it) => it.get(name) === text)).map(([name]) => name);
     if (carried.script !== own.script) others.push("its script");
     if (carried.packed.program && carried.packed.worker !== own.worker) others.push("the script of its worker");
@@ -145,19 +160,19 @@ async function compare(carried, { findings, open }, own, sha256) {
 /**
  * Judges the text of a page.
  * @param {string} text
- * @param {Own} own
+ * @param {OwnFor} ownFor
  * @param {import("../engine.js").Engine} engine the reader's program
  * @param {(bytes: Uint8Array) => Promise<string>} sha256
  * @returns {Promise<Judgement | null>} nothing where it isn't built as pages are, so that nothing of it can be judged
  */
-export async function judgeWhole(text, own, engine, sha256) {
+export async function judgeWhole(text, ownFor, engine, sha256) {
     const carried = await carriedBy(text);
-    if (!carried) return null;
+    if (!carried || !PAPERS.has(carried.record.settings.paper)) return null;
     const verdict = await judgePage(carried.record, carried.hints, engine, sha256);
-    await compare(carried, verdict, own, sha256);
+    await compare(carried, verdict, await ownFor(carried.record.settings.paper), sha256);
     const { findings, open } = verdict;
     return {
-        carried, verdict, said: inWords(carried.record, verdict),
+        carried, verdict, sheet: sheetOf(carried.record), said: inWords(carried.record, verdict),
         lines: [...findings.map(({ what, isRight }) => /** @type {[Word, string]} */ ([isRight ? "right" : "wrong", what])),
             ...open.map((what) => /** @type {[Word, string]} */ (["open", what]))],
     };
