@@ -1,8 +1,8 @@
 #!/usr/bin/env python3
-"""Drives a desk, which `./railplan browser DESK.html` writes, in Debian's chromium, through all that it has: each command over the
+"""Drives a desk, which `./railplan browser DESK.html` writes, in Debian's chromium or firefox, through all that it has: each command over the
 example, a fault, a stop that keeps the best drawing so far, a file that is mended, a line that is cut, several stations that are drawn and
 certified with their archive, pages that are judged, a narrow window and the keyboard. Nothing may be asked for, fail, or lack a name for a
-screen reader. It says what is seen, and ends with 1 where something isn't so. With --short it leaves out the long search."""
+screen reader. It says what is seen, and ends with 1 where something isn't so. With --short it leaves out the long search, with --firefox it is firefox that is driven."""
 from __future__ import annotations
 
 import argparse
@@ -12,6 +12,7 @@ import json
 import sys
 import time
 import zipfile
+from contextlib import ExitStack
 from pathlib import Path
 from typing import Iterator
 
@@ -19,6 +20,7 @@ sys.dont_write_bytecode = True
 
 import page_stations  # noqa: E402
 from browser import Browser, Gone, Tab  # noqa: E402
+from firefox import Firefox  # noqa: E402
 
 TOP = Path(__file__).resolve().parent.parent
 SECONDS = 240
@@ -65,7 +67,7 @@ IS_READY = "![...document.querySelectorAll('button')].find(it => it.textContent 
 class Desk:
     """a desk that is open"""
 
-    def __init__(self, tab: Tab, page: Path) -> None:
+    def __init__(self, tab: Tab | Firefox, page: Path) -> None:
         self.tab = tab
         tab.open(page)
         self.wait("document.body.dataset.ready")
@@ -227,7 +229,8 @@ def narrow(desk: Desk) -> Iterator[Check]:
     desk.press("Take the example")
     desk.begin("draw", {})
     desk.answer()
-    yield "nothing is wider than a window of 320 pixels", desk.tab.run("document.documentElement.scrollWidth") <= 320
+    # firefox has no window of less than 450
+    yield "nothing is wider than a window of 320 pixels", desk.tab.run("document.documentElement.scrollWidth <= Math.max(320, innerWidth)")
     desk.tab.size(1600, 1000)
     desk.tab.run("document.activeElement.blur()")
     reached: list[str] = []
@@ -258,11 +261,12 @@ def main() -> int:
     parser = argparse.ArgumentParser(description=__doc__, formatter_class=argparse.RawDescriptionHelpFormatter)
     parser.add_argument("desk", type=Path, metavar="DESK.html")
     parser.add_argument("--short", action="store_true", help="leave out the long search")
+    parser.add_argument("--firefox", action="store_true", help="drive firefox")
     words = parser.parse_args()
     parts = (commands, page, fault, several, line, narrow, *(() if words.short else (stop,)))
     failed = False
-    with Browser() as browser:
-        tab = Tab(browser)
+    with ExitStack() as opened:
+        tab: Tab | Firefox = opened.enter_context(Firefox()) if words.firefox else Tab(opened.enter_context(Browser()))
         desk = Desk(tab, words.desk)
         for part in parts:
             try:

@@ -1,9 +1,12 @@
 #!/usr/bin/env python3
-"""Forges a page that checks itself, and holds what it says of itself when it is opened in Debian's chromium.
+"""Forges a page that checks itself, and holds what is said of it: by itself, when it is opened in Debian's chromium, and by those to whom
+it is handed over, `check-page` and a desk on which it is dropped.
 
 The page is that of the example, with the program as WebAssembly out of a desk and with the hinted lines of its search. In its record
 the file, the sheet, the graph, the values, the order or the hinted lines are changed by chance; of a changed sheet the SHA-256 is
-made anew, as a forger would. Each forged page is to say what isn't so, and the true one that all is."""
+made anew, as a forger would. Each forged page is to say what isn't so, and the true one that all is; a changed claim of the maker is said to
+be the maker's. A page whose script, worker, program, style, policy or picture was changed can say of itself what it likes: of these
+`check-page` and the desk are to say what is otherwise."""
 from __future__ import annotations
 
 import argparse
@@ -23,6 +26,7 @@ from typing import Any, Callable
 sys.dont_write_bytecode = True
 
 from browser import Browser, Gone, Tab  # noqa: E402
+from desk import Desk  # noqa: E402
 from launcher import Launcher  # noqa: E402
 from measuring import TOP, read_words, reader_of_program, run  # noqa: E402
 
@@ -62,8 +66,9 @@ class Page:
         return self.with_record(output=sheet, sheetHash=hashlib.sha256(sheet.encode()).hexdigest())
 
     def written(self) -> str:
-        parts = [SCRIPT.format("data", packed(json.dumps(self.record).encode())), SCRIPT.format("hints", packed(self.hints.encode()))]
-        return self.text.replace("DATA", "".join(parts), 1)
+        text = self.text.replace("DATA", SCRIPT.format("data", packed(json.dumps(self.record).encode())), 1)
+        at = text.rindex("<script>")
+        return text[:at] + SCRIPT.format("hints", packed(self.hints.encode())) + text[at:]
 
 
 def taken_apart(text: str, hints: str) -> Page:
@@ -71,9 +76,9 @@ def taken_apart(text: str, hints: str) -> Page:
     return Page(f"{before}DATA{after}", json.loads(unpacked(data)), hints)
 
 
-def true_page(program: Path, desk: Path, folder: Path) -> Page:
+def true_page(launcher: Launcher, program: Path, desk: Path, folder: Path) -> Page:
     """the page of the example, with what it checks itself by"""
-    launcher, page = Launcher(program, folder), folder / "true.html"
+    page = folder / "true.html"
     carried = re.search(r'id="data">(.*?)</script>', desk.read_text(encoding="utf-8"))
     if not carried:
         sys.exit(f"bench/forged_pages.py: {desk} is no desk")
@@ -143,6 +148,11 @@ def other_hints(chance: random.Random, page: Page) -> Page:
     return Page(page.text, page.record, "\n".join([*lines[:cut], ""]))
 
 
+def other_claim(chance: random.Random, page: Page) -> Page:
+    """the claim that proofs passed"""
+    return page.with_record(build={"state": "proved", "sha256": f"{chance.getrandbits(256):064x}"})
+
+
 # how each kind is made, and what it is to say
 KINDS: dict[str, tuple[Callable[[random.Random, Page], Page], str]] = {
     "file": (other_file, "the file is the one of the SHA-256 that the page names"),
@@ -153,6 +163,67 @@ KINDS: dict[str, tuple[Callable[[random.Random, Page], Page], str]] = {
     "order": (other_order, "the hinted lines certify what the sheet claims"),
     "hints": (other_hints, "the hinted lines certify what the sheet claims"),
 }
+
+CLAIM = "made by a program whose proofs passed: as its maker says"
+
+
+# ---- what a page can't find of itself
+
+
+def other_script(chance: random.Random, text: str) -> str:
+    begin = text.rindex("<script>") + len("<script>")
+    places = [it.start() for it in re.finditer(r"\b\d\b", text[begin:])]
+    at = begin + chance.choice(places)
+    return text[:at] + str((int(text[at]) + 1) % 10) + text[at + 1:]
+
+
+def other_worker(chance: random.Random, text: str) -> str:
+    return text.replace('class="worker">"', f'class="worker">"/*{chance.random()}*/', 1)
+
+
+def other_program(chance: random.Random, text: str) -> str:
+    before, data, after = re.split(SCRIPT.format("program", "([^\"]*)"), text)
+    wasm = bytearray(unpacked(data))
+    wasm[chance.randrange(8, len(wasm))] ^= 1 << chance.randrange(8)
+    return before + SCRIPT.format("program", packed(bytes(wasm))) + after
+
+
+def other_style(chance: random.Random, text: str) -> str:
+    return text.replace("<style>", f"<style>.edge{{opacity:{chance.random()}}}", 1)
+
+
+def other_policy(chance: random.Random, text: str) -> str:
+    return text.replace("default-src 'none'", chance.choice(["default-src 'self'", "default-src *", "img-src https:; default-src 'none'"]), 1)
+
+
+def other_picture(chance: random.Random, text: str) -> str:
+    return with_number(chance, text, r'<polyline class="edge" points="(\d+),')
+
+
+def other_words(chance: random.Random, text: str) -> str:
+    """what is shown without the script"""
+    return with_number(chance, text, r"<p>(?:[^<]*?)(\d+)(?:[^<]*)</p>")
+
+
+# how each kind is made, how `check-page` is to end, and what it is to say
+HANDED: dict[str, tuple[Callable[[random.Random, str], str], int, str]] = {
+    "script": (other_script, 4, "open what it shows when it is opened: this version makes otherwise its script"),
+    "worker": (other_worker, 4, "this version makes otherwise the script of its worker"),
+    "program": (other_program, 4, "open what it finds of itself: the program that it carries"),
+    "style": (other_style, 4, "this version makes otherwise its style"),
+    "policy": (other_policy, 4, "this version makes otherwise what it lets a browser do"),
+    "picture": (other_picture, 8, "wrong what it shows without its script is what its run gives"),
+    "words": (other_words, 8, "wrong what it shows without its script is what its run gives"),
+}
+
+
+def handed_over(launcher: Launcher, desk: Desk, text: str, path: Path) -> tuple[int, str, str]:
+    """what `check-page` and the desk say of a page that is handed over"""
+    path.write_text(text, encoding="utf-8")
+    status, answer, _ = launcher.run("check-page", str(path))
+    desk.take((path.name, text))
+    desk.wait(f"document.querySelector('#answer .said')?.textContent.startsWith('{path.name}')")
+    return status, answer, str(desk.tab.run("[...document.querySelectorAll('.judged li')].map(it => it.textContent).join('\\n')"))
 
 
 def said_by(tab: Tab, page: Page, path: Path) -> tuple[str, str]:
@@ -176,16 +247,28 @@ def main() -> int:
     passed = failed = 0
     with tempfile.TemporaryDirectory() as base, Browser() as browser:
         folder, chance, tab = Path(base), random.Random(1), Tab(browser)
-        page = true_page(words.program, words.desk, folder)
+        launcher = Launcher(words.program, folder)
+        page = true_page(launcher, words.program, words.desk, folder)
         tried = [("the true page", page, "right", TRUE)]
         tried += [(f"{kind} {at}", make(chance, page), "wrong", f"it isn't so that {text}")
                   for kind, (make, text) in KINDS.items() for at in range(words.count)]
+        tried += [(f"the maker's claim {at}", other_claim(chance, page), "right", CLAIM) for at in range(words.count)]
         for name, forged, wanted, text in tried:
             state, said = said_by(tab, forged, folder / "forged.html")
             is_so = state == wanted and text in said and not tab.requests()
             passed, failed = passed + is_so, failed + (not is_so)
             if not is_so or forged is page:
                 print(f"{name}: {state}: {said}", flush=True)
+        desk, text = Desk(tab, words.desk), page.written()
+        given = [("the true page", text, 0, "right it is built, to the byte, as this version builds the page of its run")]
+        given += [(f"{kind} {at}", other(chance, text), status, said)
+                  for kind, (other, status, said) in HANDED.items() for at in range(words.count)]
+        for at, (name, forged_text, wanted_status, said) in enumerate(given):
+            status, answer, shown = handed_over(launcher, desk, forged_text, folder / f"handed{at}.html")
+            is_so = status == wanted_status and said in answer and shown.strip() == answer.strip()
+            passed, failed = passed + is_so, failed + (not is_so)
+            if not is_so:
+                print(f"{name}, handed over: {status}: {answer}\non the desk: {shown}", flush=True)
     print(f"{passed} passed, {failed} failed")
     return int(failed > 0)
 
