@@ -196,11 +196,15 @@ export class Line {
         return found;
     }
 
-    /** the page words and `--unproved` first, `--html` before all, then the program's words */
-    inOrder() {
+    /** the page words and `--unproved`, `--html` before all: what comes before the program's words */
+    get before() {
         const pages = [...this.pages].sort(([one], [other]) => Number(one !== "--html") - Number(other !== "--html"));
-        const more = [...this.lacking ? [this.lacking] : [], ...this.isUnproved ? ["--unproved"] : []];
-        return [...pages.flatMap(pageWords), ...more, ...this.words];
+        return [...pages.flatMap(pageWords), ...this.isUnproved ? ["--unproved"] : []];
+    }
+
+    /** what comes before the program's words, then these */
+    inOrder() {
+        return [...this.before, ...this.lacking ? [this.lacking] : [], ...this.words];
     }
 }
 

@@ -252,7 +252,7 @@ export function refuseUnwritable(written) {
             end(6, `${what}: ${folder} ${isThere ? "is no folder" : "isn't there"}. Make the folder, or name another file`);
         }
         if (!hasRight(folder, constants.W_OK | constants.X_OK)) {
-            end(6, `${what}: you haven't the right to make files in ${folder}. Name another file`);
+            end(6, `${what}: you haven't the right to make files in ${folder === "." ? "this folder" : folder}. Name another file`);
         }
     }
 }

@@ -1,5 +1,6 @@
 /** The words of `folder`: the two folders, and how the stations are drawn. */
 import { sentence } from "../both/messages/word_faults.js";
+import { near } from "../both/near.js";
 import { OPTIONS, OWN, OWN_OPTIONS, fault, isNumber } from "../both/words.js";
 import { end } from "./say.js";
 import { SEEN } from "./seen_files.js";
@@ -52,6 +53,13 @@ function parted(given) {
     return { names, extra, options };
 }
 
+/** @param {string} word @returns {string} which option of folder was meant, where that is clear */
+function meantBy(word) {
+    const known = OWN.get("folder")?.options ?? [], [front] = word.toLowerCase().split("=");
+    const meant = near(front, [...known, "--jobs"], 0.7).replace("--jobs", "-j"), value = OWN_OPTIONS.get(meant)?.value;
+    return meant && `. Did you mean ${meant}${value ? ` ${value}` : ""}`;
+}
+
 /**
  * What the words of folder ask for; a fault of them ends the run.
  * @param {string[]} given all words of the run @param {string} called @param {number} processors
@@ -63,6 +71,10 @@ export function readFolderWords(given, called, processors) {
     }
     const { names, extra, options } = parted(given.slice(1));
     const refuse = (/** @type {string} */ said) => end(2, `${said}: ${called} ${FORM}`);
+    const unknown = extra.find((it) => it.startsWith("-"));
+    if (unknown) {
+        refuse(`folder has no option ${unknown}${meantBy(unknown)}`);
+    }
     for (const [word, value] of options) {
         if (value === undefined) {
             refuse(`behind ${word} its value is missing`);

@@ -4,13 +4,18 @@
  * nothing.
  */
 import { createHash } from "node:crypto";
-import { linkSync, lstatSync, mkdirSync, readFileSync, renameSync, unlinkSync, writeFileSync } from "node:fs";
+import {
+    linkSync, lstatSync, mkdirSync, readFileSync, readdirSync, renameSync, statSync, unlinkSync, writeFileSync,
+} from "node:fs";
 import { bytesOf } from "./bytes.js";
 import { realPath, stateOf } from "./files.js";
 import { codeOf, end } from "./say.js";
 
 /** @typedef {import("../both/words.js").Line} Line */
 /** @typedef {"held" | "taken" | "none"} Hold that a lock is ours, that another run has it, or that there can be none */
+
+// from this age on, in milliseconds, a lock of no process is one that was left
+const OLD = 60000;
 
 /**
  * a process that is there: its number, and when it began; else nothing
@@ -118,6 +123,20 @@ function lockFolder() {
 }
 
 /**
+ * Takes the locks away that runs left which were killed; young ones may be just begun.
+ * @param {string} folder
+ */
+export function sweep(folder) {
+    for (const name of readdirSync(folder)) {
+        const path = `${folder}/${name}`, holder = holderOf(path);
+        const age = Date.now() - (statSync(path, { throwIfNoEntry: false })?.mtimeMs ?? Date.now());
+        if (age > OLD && processOf(holder.split(" ")[0]) !== holder) {
+            takeAwayStale(path, `${path}.${process.pid}`);
+        }
+    }
+}
+
+/**
  * Holds the files that are written for this run alone; the locks that are held.
  * @param {Line} line
  * @returns {string[]}
@@ -126,6 +145,9 @@ export function lock(line) {
     const folder = lockFolder();
     /** @type {string[]} */
     const held = [];
+    if (folder) {
+        sweep(folder);
+    }
     for (const it of folder ? line.filesWritten : []) {
         const there = stateOf(it.word);
         if (there && !there.isFile()) {

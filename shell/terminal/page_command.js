@@ -13,12 +13,13 @@ import { INPUTS } from "../both/page/run.js";
 import { NoPage } from "../both/page/texts.js";
 import { pageText, stylesOf } from "../both/page/written.js";
 import { ofLine } from "../both/places.js";
+import { quotedLine } from "../both/quoted.js";
 import { VERSION } from "../both/version.js";
-import { PAGE_WORDS, fault, pageWords } from "../both/words.js";
+import { COMMANDS, PAGE_WORDS, fault, pageWords } from "../both/words.js";
 import { scriptOf, stylesIn, workerOf } from "./bundle.js";
 import { Output, Refused, hashed, isOneFile, readOnce, reread } from "./files.js";
 import { runProgram, tell } from "./launch.js";
-import { Ended, end, isTerminal, say, writeOutput } from "./say.js";
+import { Ended, called, end, isTerminal, say, writeOutput } from "./say.js";
 import { SEEN } from "./seen_files.js";
 
 /** @typedef {import("../both/engine.js").Engine} Engine */
@@ -52,8 +53,17 @@ export function refuse(line) {
     }
     const files = [...line.pages].filter(([word]) => isOfFile(word));
     const [[first]] = line.pages;
+    if (PAGE_WORDS.has(line.command)) end(2, `${line.command} comes twice. Leave out one of the two`);
     if (!files.length) end(2, `${first} needs --html FILE`);
-    if (files.some(([, name]) => !name) || !PAGES.has(line.command)) end(2, USE);
+    const taken = COMMANDS.has(line.command) ? undefined : files.find(([, name]) => COMMANDS.has(name));
+    if (taken) end(2, asName(line, taken));
+    if (files.some(([, name]) => !name) || COMMANDS.has(line.command) && !PAGES.has(line.command) || !line.command) end(2, USE);
+}
+
+/** @param {Line} line @param {[string, string]} taken @returns {string} that a command is the name behind a page word */
+function asName(line, [word, name]) {
+    const given = `${called()} ${word} ${PAGE_WORDS.get(word)?.value} ${quotedLine([name, ...line.words])}`;
+    return `\`${name}\` was taken for the name of the file that ${word} writes. Name that file first: ${given}`;
 }
 
 /** @type {(facts: {name: string, sha256?: string, size?: number, date?: number | null, why?: string}) => FileFacts} */

@@ -85,6 +85,8 @@ test("no drawing: rows and columns that are needed", () => {
     assert.match(said(stack(13)), /--height 12/);
     assert.doesNotMatch(said(row(40)), /one behind another/);
     assert.match(said(row(65), "--least", "2"), /a grid has at most 64. Draw a part of the station$/);
+    const signals = advice.noDrawing(answer(["signals", "f.xml"], []), row(65)).text;
+    assert.match(signals, /Draw a part of the station, or its tracks without any signals: railplan draw f.xml$/);
     assert.match(said(row(41)), /rows 0 to 8. 41 pieces of track lie .*, which takes 41 columns. A larger grid may do: .* 12$/);
 });
 

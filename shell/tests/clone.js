@@ -10,8 +10,10 @@ import { read } from "../both/words.js";
 /** @typedef {import("../both/messages/telling.js").Run} Run */
 
 export const TOP = fileURLToPath(new URL("../../", import.meta.url));
-export const PROGRAM = `${TOP}crates/railplan_main/out/railplan_main`;
-export const hasProgram = existsSync(PROGRAM);
+/** the proved program, or else the one without proofs; neither may be there */
+export const PROGRAM = [`${TOP}crates/railplan_main/out/railplan_main`, `${TOP}crates/railplan_main/out/quick/railplan_main`]
+    .find(existsSync) ?? "";
+export const hasProgram = PROGRAM !== "";
 
 /**
  * A file of the clone, a sign for each byte.

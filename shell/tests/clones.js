@@ -12,8 +12,6 @@ import { Clone } from "../terminal/built.js";
 
 /** the top of railplan's own clone */
 export const TOP = fileURLToPath(new URL("../..", import.meta.url)).replace(/\/$/, "");
-/** the program of this clone, which may not be there */
-export const PROGRAM = join(TOP, "crates/railplan_main/out/railplan_main");
 /** where a clone has its program */
 export const PLACE = "crates/railplan_main/out/railplan_main";
 /** after how many milliseconds a run is given up */

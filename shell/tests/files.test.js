@@ -1,13 +1,15 @@
 /** What is in the way of a run, the rights that it lacks, and files that are written whole. */
 import assert from "node:assert/strict";
-import { chmodSync, mkdirSync, mkdtempSync, readFileSync, readdirSync, rmSync, symlinkSync, writeFileSync } from "node:fs";
+import {
+    chmodSync, mkdirSync, mkdtempSync, readFileSync, readdirSync, rmSync, symlinkSync, utimesSync, writeFileSync,
+} from "node:fs";
 import { tmpdir } from "node:os";
 import { join } from "node:path";
 import { test } from "node:test";
 import { InClone } from "./clones.js";
 import { BEGINS, Output, isOneFile, realPath, writeWhole } from "../terminal/files.js";
 import { bytesOf, textOf } from "../terminal/bytes.js";
-import { hold, release } from "../terminal/locks.js";
+import { hold, release, sweep } from "../terminal/locks.js";
 import { OPTIONS, PAGE_WORDS } from "../both/words.js";
 
 /**
@@ -61,6 +63,7 @@ test("rights that lack are said before a run, and a page is made beside what is 
         assert.deepEqual([mine[0], all[0], newOpen[0]], [6, 0, 0], word);
         assert.equal(allClosed[0], PAGE_WORDS.has(word) ? 6 : 0, word);
     }
+    assert.match(looked(clone, ["draw x.xml --svg new"])[0][1], /you haven't the right to make files in this folder\. Name/);
 });
 
 test("words with a fault have a page too", (it) => {
@@ -123,4 +126,18 @@ test("a lock is one run's, and that of a run which is gone counts for nothing", 
         release([path]);
     }
     assert.equal(hold("/nosuch/lock"), "none");
+});
+
+test("locks of runs that are gone don't pile up, and a young one may be just begun", (it) => {
+    const folder = folderOf(it), old = new Date(Date.now() - 3600_000), mine = join(folder, "mine");
+    assert.equal(hold(mine), "held");
+    for (const [name, isOld] of /** @type {[string, boolean][]} */ ([["gone", true], ["empty", true], ["young", false]])) {
+        writeFileSync(join(folder, name), name === "gone" ? "999999999 1" : "");
+        if (isOld) {
+            utimesSync(join(folder, name), old, old);
+        }
+    }
+    utimesSync(mine, old, old);
+    sweep(folder);
+    assert.deepEqual(readdirSync(folder).sort(), ["mine", "young"]);
 });

@@ -308,9 +308,10 @@ test("an interrupt leaves what is done", async (it) => {
 test("words with a fault", (it) => {
     const clone = new Folders(it, "a");
     for (const [more, piece] of [["--shard 3/2", "`3/2` is no part"], ["-j 0", "no number of stations"],
-        ["--width 65", "`65` can't be behind --width"], ["x", "folder has no word `x`"], ["-j",
-            "railplan: behind -j its value is missing: "],
-        ["--shard 2", "railplan: --shard: `2` is no part"], ["--svg s", "folder has no word `--svg s`"]]) {
+        ["--width 65", "`65` is no value of --width"], ["x", "folder has no word `x`"], ["-j",
+            "railplan: behind -j its value is missing: "], ["--jobs 4", "folder has no option --jobs. Did you mean -j N: "],
+        ["--certfy", "Did you mean --certify: "], ["--svg s", "folder has no option --svg: "],
+        ["--shard 2", "railplan: --shard: `2` is no part"]]) {
         const [status, out, err] = clone.folder(...more.split(" "));
         assert.deepEqual([status, out], [2, ""]);
         assert.ok(err.includes(piece), err);

@@ -5,7 +5,8 @@ import { existsSync, mkdtempSync, readFileSync, rmSync, writeFileSync } from "no
 import { tmpdir } from "node:os";
 import { join } from "node:path";
 import { test } from "node:test";
-import { InClone, PLACE, PROGRAM, TOP } from "./clones.js";
+import { PROGRAM, hasProgram } from "./clone.js";
+import { InClone, PLACE, TOP } from "./clones.js";
 import { Searched, bar, duration, progressLine } from "../both/searched.js";
 import { COMMANDS, CRITERIA, read } from "../both/words.js";
 import { LONG, Log, ROOM, ownLog, runWatched } from "../terminal/progress.js";
@@ -14,7 +15,7 @@ const BEGUN = "railplan-log 1\nf 1 -2 0\nf 2 0\n";
 const ASKED = `${BEGUN}q 0\nl 1 0\nl 2 0\nm\nb height 1 5\nb height 2 6\nb height 3 7\nq -6 0\n`;
 const BENDS = `${ASKED}r 6 0\nb bends 14 9\nb bends 13 8\nq -7 -9 0\n`;
 const encoder = new TextEncoder();
-const NO_PROGRAM = { skip: !existsSync(PROGRAM) && "there is no program" };
+const NO_PROGRAM = { skip: !hasProgram };
 
 /** @param {string} text @returns {Searched} */
 function searched(text) {

@@ -1,9 +1,10 @@
 /** The words: the table and the faults are those of the program; page words count before and behind the command. */
 import assert from "node:assert/strict";
 import { spawnSync } from "node:child_process";
-import { existsSync, readFileSync } from "node:fs";
+import { readFileSync } from "node:fs";
 import { test } from "node:test";
-import { PROGRAM, TOP } from "./clones.js";
+import { PROGRAM, hasProgram } from "./clone.js";
+import { TOP } from "./clones.js";
 import * as words from "../both/words.js";
 
 /**
@@ -39,7 +40,7 @@ test("rows of the cases with values", () => {
     }
 });
 
-test("made words as the program judges them", { skip: !existsSync(PROGRAM) && "there is no program" }, () => {
+test("made words as the program judges them", { skip: !hasProgram }, () => {
     const pool = ["a", "b", "", "--log", "--svg", "--width", "4", "0", "65", "height,width", "--order", "height", "--", "--x"];
     let seed = 50;
     const made = (/** @type {number} */ most) => (seed = seed * 1103515245 + 12345 & 0x7fffffff) % most;

@@ -104,7 +104,7 @@ export function noDrawing(answer, graph) {
         text += chain === 1 ? `. A piece of track takes ${need} columns or more`
             : `. ${chain} pieces of track lie one behind another${each}, which takes ${need} columns`;
         if (need > WIDEST) {
-            return { text: `${text}, and a grid has at most ${WIDEST}. ${shorter(line, chain, least)}` };
+            return { text: `${text}, and a grid has at most ${WIDEST}. ${shorter(answer, chain, least)}` };
         }
     }
     if (stack > height + 1) {
@@ -128,13 +128,13 @@ export function noDrawing(answer, graph) {
  * @param {Answer} answer @param {string[]} graph
  * @returns {Note}
  */
-export function larger({ line, called, said }, graph) {
-    const { width, height, least } = gridOf(line, said), chain = longestChain(graph), need = chain * least;
+export function larger(answer, graph) {
+    const { line, called, said } = answer, { width, height, least } = gridOf(line, said), chain = longestChain(graph), need = chain * least;
     const drawn = `${called} draw ${quoted(line.names[0])} ${gridWords({ width: WIDEST, height: HIGHEST, least })}`;
     if (need > WIDEST) {
         return { text: `the pieces of track that lie one behind another take ${need} columns, and a grid has at most `
             + `${WIDEST}. `
-            + shorter(line, chain, least) };
+            + shorter(answer, chain, least) };
     }
     if (width === WIDEST && height === HIGHEST) {
         return { text: "no grid is larger. Look at the places that these laws name" };
@@ -148,10 +148,10 @@ export function larger({ line, called, said }, graph) {
         + "here" };
 }
 
-/** @param {Line} line @param {number} chain @param {number} least @returns {string} what to do where no grid is wide enough */
-function shorter(line, chain, least) {
+/** @param {Answer} answer @param {number} chain @param {number} least @returns {string} what to do where no grid is wide enough */
+function shorter({ line, called }, chain, least) {
     if (line.command === "signals") {
-        return "Leave out signals of the piece that has most, or draw a part of the station";
+        return `Draw a part of the station, or its tracks without any signals: ${called} draw ${quoted(line.names[0])}`;
     }
     return least > 1 && chain <= WIDEST ? "A smaller --least takes fewer" : "Draw a part of the station";
 }

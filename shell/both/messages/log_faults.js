@@ -1,4 +1,5 @@
 /** What a fault of a log or of hinted lines means, and why check, trim and recheck refuse one. */
+import { savedOtherwise } from "./saved_otherwise.js";
 import { lineOf, wrongFile } from "./sheet_faults.js";
 
 /** @typedef {import("../notes.js").Note} Note */
@@ -43,7 +44,8 @@ export function notes(seen, name, table, fault, number, usage) {
     const place = lineOf(seen, name, number), isFirst = number === 1;
     const other = isFirst ? wrongFile(seen, name, table === "log" ? "a log" : "hinted lines", usage) : "";
     const said = (table === "log" ? LOG : HINTS).get(fault) ?? "";
-    return [{ text: isFirst && !place.text ? "the file is empty" : other || said, place }];
+    const otherwise = ["Header", "Form"].includes(fault) ? savedOtherwise(seen, place) : "";
+    return [{ text: isFirst && !place.text ? "the file is empty" : other || otherwise || said, place }];
 }
 
 /**

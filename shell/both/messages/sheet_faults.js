@@ -1,7 +1,9 @@
 /** What a fault of a sheet means, which law a sheet's drawing breaks, and what a file is by its first line. */
 import { CALLED } from "../file_kinds.js";
 import { Place } from "../places.js";
+import { valuesLine } from "../sheet_values.js";
 import { COMMANDS } from "../words.js";
+import { savedOtherwise } from "./saved_otherwise.js";
 
 /** @typedef {import("../notes.js").Note} Note */
 /** @typedef {import("./seen.js").Seen} Seen */
@@ -76,7 +78,7 @@ function form(seen, at, usage) {
         return at.line === 1 ? "the sheet is empty. draw prints one"
             : "the sheet ends too early, or this line is empty. Was it copied to its end?";
     }
-    return "this line hasn't the form that a sheet has here. docs/formats.md shows each line; draw writes them";
+    return savedOtherwise(seen, at) || "this line hasn't the form that a sheet has here. docs/formats.md shows each line; draw writes them";
 }
 
 /** @param {Seen} seen @param {Place} at @returns {string} */
@@ -90,6 +92,23 @@ function range(seen, at) {
     return "this ending can't be: fewer criteria are settled than the order has, and none without a drawing";
 }
 
+/**
+ * That a sheet's values aren't those of its points, and the line that is. What its ending claims was of other points.
+ * @param {Seen} seen @param {Place} at
+ * @returns {string}
+ */
+function values(seen, at) {
+    const text = new TextDecoder().decode(seen.bytes(at.name) ?? new Uint8Array()), line = valuesLine(text);
+    const said = "these aren't the values of the drawing above: its height, bends, diagonal and width";
+    if (!line) {
+        return `${said}. Was a point changed?`;
+    }
+    const ending = text.split("\n")[at.line] ?? "", claims = /^end (best|(conflicts|room) [1-4])$/.test(ending);
+    return `${said}. If its points are as they are meant, this line is: ${line}`
+        + (claims ? `. And \`${ending}\` claims that no drawing is better, which nobody showed of these points: \`end conflicts 0\` `
+            + "claims nothing" : "");
+}
+
 /** @type {Map<string, (seen: Seen, at: Place, usage: string) => string>} what is said of each fault */
 export const SHEET = new Map([
     ["Form", form],
@@ -98,8 +117,7 @@ export const SHEET = new Map([
         + "the sheet of another file, or was the file changed since? draw makes a new one"],
     ["Shape", () => "these points are no line: a line goes from west to east, level or rising or falling by one row a column, "
         + "in at most three parts. docs/laws.md shows the eleven shapes"],
-    ["Values", () => "these aren't the values of the drawing above: its height, bends, diagonal and width. Was a point "
-        + "changed?"],
+    ["Values", values],
 ]);
 
 /**

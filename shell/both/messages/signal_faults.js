@@ -24,7 +24,8 @@ function missing(station, it, [attribute]) {
 
 /** @type {Sentence} */
 function crowded(station, it, [id]) {
-    return `the signal ${id} is the 16th on one piece of track, and 15 have room there. Leave some out`;
+    return `the signal ${id} is the 16th on one piece of track, and 15 have room there, so a station with all of them isn't `
+        + "drawn. draw draws it without any signals";
 }
 
 /** @param {Element | null} it @returns {string} which of a signal's numbers is none */

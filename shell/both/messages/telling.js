@@ -1,6 +1,7 @@
 /** What the end of a run means: its answer, its fault lines and refusals in sentences, with the places that they are about. */
 import { CALLED, tooLong } from "../file_kinds.js";
 import { near } from "../near.js";
+import { quoted } from "../quoted.js";
 
 /** @typedef {import("../notes.js").Note} Note */
 /** @typedef {import("../words.js").Line} Line */
@@ -37,6 +38,9 @@ export function unread(name, seen, called) {
     if (name === "-") {
         return "`-` isn't there; standard input is /dev/stdin";
     }
+    if (name === "-h" && !seen.kind(name)) {
+        return `\`-h\` was taken for the name of a file, and isn't there: ${called} --help says all`;
+    }
     const kind = seen.kind(name);
     if (kind === "folder") {
         return `${name} is a folder. Name one file in it; ${called} folder ${name} OUT draws each station in it`;
@@ -66,6 +70,17 @@ export function nearby(name, seen) {
     const endings = new Map(others.filter((it) => it.parts[0] === stem).map((it) => [it.parts[1], it.other]));
     const found = stems.get(near(stem, stems.keys(), 0.8)) ?? endings.get(near(ending, endings.keys()));
     return found ? folder + found : "";
+}
+
+/**
+ * Where a file lacks more than one thing, the line that lists them: the program says the first fault alone.
+ * @param {string} name @param {Uint8Array} data @param {string} called
+ * @returns {Promise<Note[]>}
+ */
+async function moreListed(name, data, called) {
+    const { mended } = await import("../prepare.js"), { guesses } = mended(name, data, called);
+    return guesses.length < 2 ? []
+        : [{ text: `this isn't all: ${called} prepare ${quoted(name)} NEW.xml lists ${guesses.length} things that this file lacks` }];
 }
 
 /** The end of a run that gave no answer. */
@@ -126,8 +141,8 @@ export class Ending {
     /** @param {string[]} fields @returns {Promise<Note[]>} */
     async ofWords([, , fault, position]) {
         const { sentence } = await import("./word_faults.js");
-        const { line: { words: given }, called, seen } = this.run;
-        return [{ text: sentence(fault, { given, at: Number(position) - 1, called, seen }) }];
+        const { line, called, seen } = this.run, { words: given, before } = line;
+        return [{ text: sentence(fault, { given, at: Number(position) - 1, called, seen, before }) }];
     }
 
     /** @param {string} name @param {string[]} fields @returns {Promise<Note[]>} */
@@ -144,7 +159,7 @@ export class Ending {
         }
         const { Station, notes } = await import("./topology_faults.js"), station = new Station(name, data, called);
         if (table === "topology") {
-            return notes(station, fault, Number(place), named);
+            return [...notes(station, fault, Number(place), named), ...await moreListed(name, data, called)];
         }
         if (table === "signal") {
             return (await import("./signal_faults.js")).notes(station, fault, Number(place), named);

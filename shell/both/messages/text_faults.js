@@ -87,6 +87,15 @@ function markup({ data, place }) {
 }
 
 /** @param {Fault} it @returns {string} */
+function doctype(it) {
+    if (named(it, /^<!DOCTYPE\s+(html)\b/i)) {
+        return `this is a page for browsers, and a railML file is read here. If railplan wrote it, ${it.called} check-page `
+            + `${quoted(it.name)} judges it`;
+    }
+    return "a DOCTYPE isn't read, and railML needs none. Delete it";
+}
+
+/** @param {Fault} it @returns {string} */
 function endTag(it) {
     const opened = read(it.data.subarray(0, it.place)).open.at(-1), ending = named(it, /^<\/([^\s>]*)/) ?? "";
     return opened ? `</${ending}> comes before <${opened.name}> is closed. Close that one first, or delete the tag that is too `
@@ -174,7 +183,7 @@ function noInfrastructure(it) {
 export const TEXT = new Map([
     ["NotUtf8", notUtf8],
     ["Encoding", encoding],
-    ["Doctype", () => "a DOCTYPE isn't read, and railML needs none. Delete it"],
+    ["Doctype", doctype],
     ["Markup", markup],
     ["Entity", () => "this & begins no reference. Write &amp; for the sign &. Besides it &lt; &gt; &apos; &quot; and numbers "
         + "as &#233; are read"],

@@ -6,14 +6,18 @@ import { allows, COMMANDS, CRITERIA, fault, mayBe, OPTIONS, OWN, PAGE_WORDS, par
 
 /** @typedef {import("../words.js").Option} Option */
 /** @typedef {import("./seen.js").Seen} Seen */
-/** @typedef {{given: string[], at: number, called: string, seen: Pick<Seen, "kind">}} Fault the program's words, the place of
- * the one that is wrong, how the launcher is called, and what is there by a name */
+/** @typedef {{given: string[], at: number, called: string, seen: Pick<Seen, "kind">, before?: string[]}} Fault the program's
+ * words, the place of the one that is wrong, how the launcher is called, what is there by a name, and the page words and
+ * `--unproved`, which come before the words in a line to type */
 
 /** what the number behind an option counts */
 const COUNTED = new Map([["--width", "columns"], ["--height", "rows"], ["--least", "columns"], ["--conflicts", "clauses"]]);
 /** commands that take one station */
 const OF_ONE_STATION = ["draw", "signals", "graph", "explain"];
 const DASHES = ["-", "—", "–"];
+/** words that other programs have, and what says the same here */
+const ELSEWHERE = new Map([["-V", "--version says the version"], ["-v", "--version says the version"],
+    ["-?", "--help says all"], ["/?", "--help says all"]]);
 
 /** @param {Option} option @returns {string} what its value is, in words */
 function takes({ word, takes: kind, low, high = 0 }) {
@@ -52,6 +56,11 @@ export function typed(called, line) {
     return `${called} ${quotedLine(line)}`;
 }
 
+/** @param {Fault} it @param {string[]} line @returns {string} the line to type, with the page words of this run */
+function typedAgain({ called, before = [] }, line) {
+    return typed(called, [...before, ...line]);
+}
+
 /** @param {string} command @returns {string[]} */
 function optionsOf(command) {
     return COMMANDS.get(command)?.options ?? [];
@@ -65,6 +74,10 @@ function noCommand({ called }) {
 /** @param {Fault} it @returns {string} */
 function unknownCommand(it) {
     const { given, called, seen } = it, [word] = given;
+    const other = ELSEWHERE.get(word);
+    if (other) {
+        return `${shown(word)} is no command: ${called} ${other}`;
+    }
     if (word.startsWith("-")) {
         return optionFirst(it);
     }
@@ -75,20 +88,20 @@ function unknownCommand(it) {
     }
     if (there) {
         const line = ["draw", ...fault(["draw", ...given]) ? [word] : given];
-        return `${shown(word)} is a file, and a command is missing before it: ${typed(called, line)}`;
+        return `${shown(word)} is a file, and a command is missing before it: ${typedAgain(it, line)}`;
     }
     const meant = nearCommand(word);
     return `${shown(word)} is no command`
-        + (meant ? `. Did you mean ${typed(called, [meant, ...given.slice(1)])}` : `: ${called} help says all commands`);
+        + (meant ? `. Did you mean ${typedAgain(it, [meant, ...given.slice(1)])}` : `: ${called} help says all commands`);
 }
 
 /** @param {Fault} it @returns {string} */
-function optionFirst({ given, called }) {
-    const [word] = given, isKnown = OPTIONS.has(word), at = given.findIndex((it) => COMMANDS.has(it));
+function optionFirst(it) {
+    const { given, called } = it, [word] = given, isKnown = OPTIONS.has(word), at = given.findIndex((other) => COMMANDS.has(other));
     if (at >= 0 && isKnown) {
-        return `the command comes first: ${typed(called, [...given.slice(at), ...given.slice(0, at)])}`;
+        return `the command comes first: ${typedAgain(it, [...given.slice(at), ...given.slice(0, at)])}`;
     }
-    const meant = near(word.toLowerCase(), [...PAGE_WORDS.keys(), "--unproved", "--help", "--version"]);
+    const meant = near(word.toLowerCase(), [...PAGE_WORDS.keys(), "--unproved", "--help", "--version"], 0.7);
     return `${shown(word)} is no command, and no word that is known before one`
         + (meant ? `. Did you mean \`${meant}\`?` : isKnown ? `: ${called} draw FILE ${word} ..` : `: ${called} help says all`);
 }
@@ -105,6 +118,9 @@ function missingName({ given, called }) {
 /** @param {Fault} it @returns {string} */
 function extraWord(it) {
     const { given, at, called } = it, [command] = given, word = given[at];
+    if (word === "-h") {
+        return `${shown(word)} was taken for a name: ${called} ${command} --help says what ${command} takes`;
+    }
     if (DASHES.includes(word[0]) && word.length > 1) {
         const known = optionsOf(command), meant = near(`--${word.replace(/^[-—–]+|[-—–]+$/g, "")}`.toLowerCase(), known);
         return `${shown(word)} was taken for a name: an option begins with two hyphens`
@@ -120,11 +136,14 @@ function extraWord(it) {
 }
 
 /** @param {Fault} it @returns {string} */
-function unknownOption({ given, at, called }) {
-    const word = given[at], [command] = given, known = optionsOf(command), equals = word.indexOf("=");
+function unknownOption(it) {
+    const { given, at } = it, word = given[at], [command] = given, known = optionsOf(command), equals = word.indexOf("=");
     if (equals >= 0 && known.includes(word.slice(0, equals))) {
         const line = [...given.slice(0, at), word.slice(0, equals), word.slice(equals + 1), ...given.slice(at + 1)];
-        return `an option and its value are two words: ${typed(called, line)}`;
+        return `an option and its value are two words: ${typedAgain(it, line)}`;
+    }
+    if (PAGE_WORDS.has(word)) {
+        return `${word} comes twice. Leave out one of the two`;
     }
     if (word === "--") {
         return `${command} has no option --: names need none before them`;
@@ -133,7 +152,7 @@ function unknownOption({ given, at, called }) {
     const meant = having.length ? "" : near(word.toLowerCase(), [...known, ...PAGE_WORDS.keys(), "--help"]);
     if (meant) {
         return `${command} has no option ${word}. Did you mean `
-            + `${typed(called, [...given.slice(0, at), meant, ...given.slice(at + 1)])}`;
+            + `${typedAgain(it, [...given.slice(0, at), meant, ...given.slice(at + 1)])}`;
     }
     const listed = `${command} has ${known.length ? `the options ${known.join(", ")}` : "no options"}`;
     return having.length ? `${word} is an option of ${having.join(" and ")}; ${listed}` : `${command} has no option ${word}: `
@@ -161,23 +180,38 @@ function withCriteria(given, at) {
 }
 
 /** @param {Fault} it @returns {string} */
-function didYouMean({ given, at, called }) {
-    const { text, behind } = withCriteria(given, at), meant = meantCriteria(text);
+function didYouMean(it) {
+    const { given, at } = it, { text, behind } = withCriteria(given, at), meant = meantCriteria(text);
     return meant && meant !== given[at]
-        ? `. Did you mean ${typed(called, [...given.slice(0, at), meant, ...given.slice(behind)])}` : "";
+        ? `. Did you mean ${typedAgain(it, [...given.slice(0, at), meant, ...given.slice(behind)])}` : "";
 }
 
 /** @param {Fault} it @returns {string} */
 function badPair(it) {
-    const { given, at, called } = it, word = given[at], next = given[at + 1];
+    const { given, at } = it, word = given[at], next = given[at + 1];
     if (CRITERIA.includes(word) && CRITERIA.includes(next)) {
         return "the two criteria are one word with a comma between them: "
-            + typed(called, [...given.slice(0, at), `${word},${next}`, ...given.slice(at + 2)]);
+            + typedAgain(it, [...given.slice(0, at), `${word},${next}`, ...given.slice(at + 2)]);
     }
     const isTwo = withCriteria(given, at).text.split(",").length === 2;
     return `${shown(word)} is no pair: write two of height, bends, diagonal and width with a comma between them, as `
         + "height,width"
         + (isTwo ? didYouMean(it) : "");
+}
+
+/**
+ * A value that an option doesn't take; that of a number which is written otherwise than the program reads it is named.
+ * @param {Fault} it @param {Option} option
+ * @returns {string}
+ */
+function wrongValue(it, option) {
+    const { given, at } = it, word = given[at], asRead = /^\+?0*(\d+)$/.exec(word)?.[1] ?? "";
+    if (option.takes === "number" && asRead !== word && allows(option, asRead)) {
+        return `${shown(word)} isn't how a number is written here, without a sign and without a 0 before it: `
+            + typedAgain(it, [...given.slice(0, at), asRead, ...given.slice(at + 1)]);
+    }
+    return `${shown(word)} is no value of ${option.word}, which takes ${takes(option)}`
+        + (option.word === "--order" ? didYouMean(it) : "");
 }
 
 /** @param {Fault} it @returns {string} */
@@ -189,8 +223,7 @@ function badValue(it) {
         return `behind ${word} its value is missing, ${takes(own)}`;
     }
     if (before && !allows(before, word)) {
-        return `${shown(word)} can't be behind ${before.word}, which takes ${takes(before)}`
-            + (before.word === "--order" ? didYouMean(it) : "");
+        return wrongValue(it, before);
     }
     const name = names.includes(at) ? COMMANDS.get(given[0])?.names[names.indexOf(at)] : undefined;
     if (name && !mayBe(name, word)) {
