@@ -2,7 +2,7 @@
  * The table of commands: every command, its names and options, and the words that belong to pages, once, for the launcher, for
  * pages and for the documents' check. Behind `export default` it is one JSON text. A long text is a list of its parts, between
  * which a blank is left. Of `takes`: a number has `low`, `high` and `usual`; a file that the run writes has its `kind`; a word
- * has its `choices`.
+ * has its `choices`; `commands` are those that a word of pages is for, where it isn't for all that have pages.
  */
 export default {
     "commands": [
@@ -27,7 +27,7 @@ export default {
             "what": "draws the station so that each signal has a column of its own, and says where each is",
             "more": [
                 "Each edge takes one column more than the most signals that lie on one edge. The lines from `signals`",
-                "on are no part of the sheet: sed '/^end /q' takes the sheet out."
+                "on are no part of the sheet: --sheet NAME writes the sheet alone."
             ],
             "names": [
                 { "word": "FILE", "what": "a railML 2 file", "kind": "railml" }
@@ -71,14 +71,17 @@ export default {
                 "draws a changed station with as few nodes as can be at other points than in the sheet, a drawing of",
                 "the former file OLD"
             ],
-            "more": "A grid little larger than the former drawing gives a narrower one. Its answer is no sheet for verify.",
+            "more": [
+                "A grid little larger than the former drawing gives a narrower one. Its answer is no sheet: --sheet NAME",
+                "writes one beside it, which claims nothing but its values."
+            ],
             "names": [
                 { "word": "FILE", "what": "a railML 2 file", "kind": "railml" },
                 { "word": "OLD", "what": "the former railML 2 file", "kind": "railml" },
                 { "word": "SHEET", "what": "a drawing as a text, as draw prints it", "kind": "sheet" }
             ],
             "options": ["--width", "--height", "--least", "--conflicts", "--log"],
-            "examples": ["redraw new.xml old.xml old.sheet --width 12 --height 4"],
+            "examples": ["redraw new.xml old.xml old.sheet --sheet new.sheet"],
             "takesLong": true
         },
         {
@@ -237,6 +240,14 @@ export default {
         },
         { "word": "--dxf", "value": "FILE", "what": "the drawing for a CAD program", "takes": "file", "kind": "dxf" },
         { "word": "--csv", "value": "FILE", "what": "the drawing's objects as a table", "takes": "file", "kind": "csv" },
+        {
+            "word": "--sheet",
+            "value": "FILE",
+            "what": "of signals and redraw: the drawing as a sheet, which verify and the next redraw take",
+            "takes": "file",
+            "kind": "sheet",
+            "commands": ["signals", "redraw"]
+        },
         {
             "word": "--paper",
             "value": "SIZE",

@@ -1,6 +1,6 @@
 /** Completions for bash and zsh, made from the table of words. */
 import { allCommands, optionsOf } from "./manual.js";
-import { CRITERIA, OPTIONS, OWN_OPTIONS, PAGED, PAGE_WORDS } from "./words.js";
+import { CRITERIA, OPTIONS, OWN_OPTIONS, PAGE_WORDS, pageWordsOf } from "./words.js";
 
 /** @typedef {import("./words.js").Command} Command */
 /** @typedef {import("./words.js").Option} Option */
@@ -16,7 +16,7 @@ const HELP = { word: "--help" };
  * @returns {Option[]}
  */
 function allOf(command) {
-    return [...optionsOf(command), ...PAGED.includes(command.word) ? PAGE_WORDS.values() : []];
+    return [...optionsOf(command), ...pageWordsOf(command.word)];
 }
 
 /** @returns {Option[]} */

@@ -1,7 +1,7 @@
 /**
  * What railplan says of itself: the help, the help of a command, the manual page. All of it is made from the table of words.
  */
-import { COMMANDS, OPTIONS, OWN, OWN_OPTIONS, PAGED, PAGE_WORDS } from "./words.js";
+import { COMMANDS, OPTIONS, OWN, OWN_OPTIONS, PAGED, PAGE_WORDS, pageWordsOf } from "./words.js";
 import { table, wrapped } from "./wrapped.js";
 
 /** @typedef {import("./words.js").Command} Command */
@@ -150,7 +150,7 @@ export function ofCommand(command, called) {
         lines.push("", `Options, ${BRACKETS}`, ...rowsOf(optionRows(optionsOf(command))));
     }
     if (PAGED.includes(command.word)) {
-        lines.push("", "Pages", ...rowsOf(optionRows(PAGE_WORDS.values())));
+        lines.push("", "Pages", ...rowsOf(optionRows(pageWordsOf(command.word))));
     }
     lines.push("", command.examples.length === 1 ? "Example" : "Examples");
     lines.push(...command.examples.map((it) => `  ${called} ${it}`));

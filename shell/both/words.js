@@ -17,7 +17,8 @@ import table from "./commands.js";
  * @property {number} [high]
  * @property {string} [usual]
  * @property {string} [kind]
- * @property {string[]} [choices] */
+ * @property {string[]} [choices]
+ * @property {string[]} [commands] the commands that a page word is for, where it isn't for all that have pages */
 /** @typedef {object} Command a command: what it does in a line and in more, lines to type, and whether it may run for long
  * @property {string} word
  * @property {string} what
@@ -57,6 +58,15 @@ export const PAGED = table.paged;
 export const CRITERIA = table.criteria;
 
 const FILE_KINDS = new Set(["railml", "sheet", "log", "hints", "folder"]);
+
+/**
+ * The page words that a command has.
+ * @param {string} command
+ * @returns {Option[]}
+ */
+export function pageWordsOf(command) {
+    return PAGED.includes(command) ? [...PAGE_WORDS.values()].filter((it) => it.commands?.includes(command) ?? true) : [];
+}
 
 /**
  * A page word as it is typed: with its value, where it has one.

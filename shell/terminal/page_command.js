@@ -10,7 +10,7 @@ import { PAGES, dxfOf, outline, smallOf } from "../both/page/kinds.js";
 import { textOf } from "../both/page/record.js";
 import { recorded, settingsOf } from "../both/page/recording.js";
 import { INPUTS } from "../both/page/run.js";
-import { NoPage } from "../both/page/texts.js";
+import { NoPage, sheetIn } from "../both/page/texts.js";
 import { pageText, stylesOf } from "../both/page/written.js";
 import { ofLine } from "../both/places.js";
 import { quotedLine } from "../both/quoted.js";
@@ -57,7 +57,14 @@ export function refuse(line) {
     if (!files.length) end(2, `${first} needs --html FILE`);
     const taken = COMMANDS.has(line.command) ? undefined : files.find(([, name]) => COMMANDS.has(name));
     if (taken) end(2, asName(line, taken));
+    const other = [...line.pages.keys()].find((word) => PAGE_WORDS.get(word)?.commands?.includes(line.command) === false);
+    if (other && PAGES.has(line.command)) end(2, `${other} is a word of ${PAGE_WORDS.get(other)?.commands?.join(" and ")}; ${elsewhere(line)}`);
     if (files.some(([, name]) => !name) || COMMANDS.has(line.command) && !PAGES.has(line.command) || !line.command) end(2, USE);
+}
+
+/** @param {Line} line @returns {string} where the sheet is of a command that has no word for it */
+function elsewhere({ command }) {
+    return command === "draw" ? "what draw prints is its sheet" : `${command} makes no sheet`;
 }
 
 /** @param {Line} line @param {[string, string]} taken @returns {string} that a command is the name behind a page word */
@@ -225,7 +232,7 @@ class PageRun {
         const page = outline(run);
         const [, drawing] = stylesOf(this.styles, run.record.settings.paper);
         const made = new Map([["--html", () => this.#html(run, page)], ["--dxf", () => dxfOf(page.drawn())],
-            ["--csv", () => page.drawn().objects?.csv() ?? ""], [SMALL, () => smallOf(page.drawn(), drawing)]]);
+            ["--csv", () => page.drawn().objects?.csv() ?? ""], ["--sheet", () => sheetIn(textOfOutput(ran.output))], [SMALL, () => smallOf(page.drawn(), drawing)]]);
         for (const [word, output] of this.outputs.all) {
             const text = made.get(word)?.();
             if (text) output.write(text);

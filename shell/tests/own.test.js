@@ -56,7 +56,7 @@ test("each command has an example that can be typed", () => {
 
 test("what users asked for is said", () => {
     for (const [word, said] of [["redraw", "A grid little larger than the former drawing gives a narrower one."],
-        ["redraw", "Its answer is no sheet for verify."], ["signals", "The lines from `signals` on are no part of the sheet"],
+        ["redraw", "Its answer is no sheet: --sheet NAME writes one"], ["signals", "The lines from `signals` on are no part of the sheet"],
         ["check", "trim once and recheck often"], ["check", "hand over the three"], ["draw", "A4, A3, A2 or A1 (A3)"],
         ["draw", "name or id (name)"], ["draw", "right or left (right)"]]) {
         assert.ok(joined(helpOf(word)).includes(said), said);

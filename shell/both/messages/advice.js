@@ -22,7 +22,7 @@ function valueOf(line, option) {
 }
 
 /**
- * The line to type: the words of this run, with some options otherwise.
+ * The line to type: the words of this run, those of pages too, with some options otherwise.
  * @param {Line} line @param {string} called @param {Record<string, string | number>} changed the values of options, by their
  * names without hyphens; they come last
  * @returns {string}
@@ -37,7 +37,7 @@ export function again(line, called, changed) {
         }
         at += count - 1;
     }
-    return `${called} ${quotedLine([...kept, ...values.flat()])}`;
+    return `${called} ${quotedLine([...line.before, ...kept, ...values.flat()])}`;
 }
 
 // ---- no drawing

@@ -191,6 +191,29 @@ export function sheetPart(text) {
 }
 
 /**
+ * The drawing that redraw found, as a sheet that claims nothing but its values: nobody showed that none is better. "" where none
+ * was found.
+ * @param {string} text
+ * @returns {string}
+ */
+export function movedSheet(text) {
+    const lines = text.split("\n"), at = lines.findIndex((it) => it.startsWith("moved "));
+    if (at < 0) return "";
+    const ended = lines.findIndex((it) => it.startsWith("end "));
+    return ["railplan 2", lines[at - 1], `order ${VALUES.join(" ")}`, ...lines.slice(at + 1, ended), "end conflicts 0", ""].join("\n");
+}
+
+/**
+ * The sheet of an answer of signals or redraw; "" where it has no drawing.
+ * @param {string} text
+ * @returns {string}
+ */
+export function sheetIn(text) {
+    return text.startsWith("railplan-moved ") ? movedSheet(text)
+        : text.startsWith("railplan ") && readSignals(text).sheet.drawing ? sheetPart(text) : "";
+}
+
+/**
  * A law with its parties, each a kind and a number.
  * @param {string[]} fields
  * @returns {Law}
