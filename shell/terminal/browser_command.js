@@ -60,23 +60,16 @@ async function made(clone, program, kit, called, signal) {
 }
 
 /**
- * What a desk says of its program.
- * @param {Built} built
- */
-export function buildInWords({ program, kit }) {
-    const by = kit ? ` with ${kit}` : "";
-    return program.isProved ? `made from the program whose proofs passed${by}` : "built without proofs: what it says is a first look";
-}
-
-/**
  * The desk with a program.
  * @param {string} top the folder that has shell/ in it
- * @param {Built} built the program as WebAssembly
+ * @param {{path: string, isProved: boolean, kit: string}} program the file of the program as WebAssembly, whether it is made from the
+ *     proved one, and by which kit
  * @returns {string}
  */
-export function deskOf(top, built) {
-    const example = readFileSync(join(top, "examples/station.xml"), "utf8"), wasm = readFileSync(built.program.path);
-    return deskPage(top, { wasm, version: VERSION, build: buildInWords(built), isProved: built.program.isProved, example });
+export function deskOf(top, { path, isProved, kit }) {
+    const example = readFileSync(join(top, "examples/station.xml"), "utf8"), by = kit ? ` with ${kit}` : "";
+    const build = isProved ? `made from the program whose proofs passed${by}` : "built without proofs: what it says is a first look";
+    return deskPage(top, { wasm: readFileSync(path), version: VERSION, build, isProved, example });
 }
 
 /**
@@ -94,7 +87,8 @@ export async function run(asking, line) {
     let output;
     try {
         output = new Output(out);
-        output.write(deskOf(clone.top, await wasmFor(asking)));
+        const { program, kit } = await wasmFor(asking);
+        output.write(deskOf(clone.top, { ...program, kit }));
     } catch (error) {
         if (signal.aborted) {
             end(130, `stopped; ${out} isn't written`);

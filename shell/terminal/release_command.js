@@ -178,7 +178,7 @@ async function made(asking, room) {
         return end(10, "the XML reader sax isn't there. Install it: apt install node-sax");
     }
     /** @type {Map<string, string | Buffer>} */
-    const files = new Map([["PROVED", proved], ["railplan.html", deskOf(top, wasm)]]);
+    const files = new Map([["PROVED", proved], ["railplan.html", deskOf(top, { ...wasm.program, kit: wasm.kit })]]);
     files.set(`${NAME}.tar.gz`, archive(room, time));
     files.set(PACKAGE, debianPackage(room, time, git(top, "log", "-1", "--format=%an <%ae>")));
     return files;
