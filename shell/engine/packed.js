@@ -10,6 +10,14 @@ const SHELL = dirname(dirname(fileURLToPath(import.meta.url)));
 const PACKAGES = "/usr/share/nodejs";
 /** the XML reader that is packed in; what of node it may use is left out */
 const READER = ["--alias:#sax=sax", "--external:stream", "--external:string_decoder"];
+/** what goes along with the XML reader wherever it is packed in, as its licence asks */
+const READER_NOTICE = `/*! Packed in: the XML reader sax. Copyright (c) Isaac Z. Schlueter and contributors. The ISC licence:
+Permission to use, copy, modify, and/or distribute this software for any purpose with or without fee is hereby granted, provided that the
+above copyright notice and this permission notice appear in all copies. THE SOFTWARE IS PROVIDED "AS IS" AND THE AUTHOR DISCLAIMS ALL
+WARRANTIES WITH REGARD TO THIS SOFTWARE INCLUDING ALL IMPLIED WARRANTIES OF MERCHANTABILITY AND FITNESS. IN NO EVENT SHALL THE AUTHOR BE
+LIABLE FOR ANY SPECIAL, DIRECT, INDIRECT, OR CONSEQUENTIAL DAMAGES OR ANY DAMAGES WHATSOEVER RESULTING FROM LOSS OF USE, DATA OR PROFITS,
+WHETHER IN AN ACTION OF CONTRACT, NEGLIGENCE OR OTHER TORTIOUS ACTION, ARISING OUT OF OR IN CONNECTION WITH THE USE OR PERFORMANCE OF THIS
+SOFTWARE. */`;
 export const NO_BUNDLER = "esbuild isn't there, which packs the script of a page. Install it: apt install esbuild";
 
 /** A script couldn't be made. */
@@ -18,11 +26,12 @@ export class NotBundled extends Error {}
 /**
  * A module of the shell with all that it imports, as one script.
  * @param {string} entry its path from shell/
+ * @param {boolean} readsXml whether the XML reader is among what it imports
  * @throws {NotBundled}
  */
-export function bundled(entry) {
+export function bundled(entry, readsXml) {
     const words = [join(SHELL, entry), "--bundle", "--minify", "--format=iife", "--target=es2022", "--charset=utf8", "--log-level=error",
-        ...READER];
+        ...READER, ...readsXml ? [`--banner:js=${READER_NOTICE}`] : []];
     const ran = spawnSync("esbuild", words, { encoding: "utf8", env: { ...process.env, NODE_PATH: PACKAGES }, maxBuffer: 1 << 26 });
     if (ran.error) {
         throw new NotBundled(NO_BUNDLER);

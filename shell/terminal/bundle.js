@@ -9,10 +9,11 @@ import { NotBundled, bundled } from "../engine/packed.js";
 import { writeWhole } from "./files.js";
 import { end } from "./say.js";
 
-/** where scripts are kept, and the module with which each begins */
-const KEPT = "out/shell", ENTRIES = {
-    page: "page/opened.js", worker: "page/desk_worker.js", desk: "page/desk_opened.js", begin: "page/desk_begin.js",
-};
+/** where scripts are kept, the module with which each begins, and which of them read XML */
+const KEPT = "out/shell", READING = ["page", "desk"];
+const ENTRIES = { page: "page/opened.js", worker: "page/desk_worker.js", desk: "page/desk_opened.js", begin: "page/desk_begin.js" };
+/** how many scripts there are */
+export const SCRIPTS = Object.keys(ENTRIES).length;
 const FOLDERS = ["both", "both/line", "both/messages", "both/page", "page"];
 
 /**
@@ -89,7 +90,7 @@ export function packedScript(top, kind) {
     const [folder, name] = [join(top, KEPT), `${kind}-${sumOf(join(top, "shell"))}.js`];
     const known = read(join(folder, name));
     if (known) return known;
-    const script = bundled(ENTRIES[kind]);
+    const script = bundled(ENTRIES[kind], READING.includes(kind));
     keep(folder, name, script);
     return script;
 }

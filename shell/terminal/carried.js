@@ -21,6 +21,9 @@ export const MAN_MARK = '.\\" manual page of railplan, made by railplan install'
 const NEEDED = ["railplan", "railplan.cmd", "PROVED", "README.md", "CHANGES.md", "THEOREM.md", "shell", "docs", "examples"];
 /** where Debian has the XML reader, what of it is needed, and where railplan carries it */
 const READER = "/usr/share/nodejs/sax", READER_FILES = ["package.json", "lib/sax.js"], CARRIED = "shell/node_modules/sax";
+/** where Debian says whose the XML reader is, which goes along with it; and where railplan carries that */
+const READER_NOTICE = "/usr/share/doc/libjs-sax/copyright";
+export const NOTICE = `${CARRIED}/copyright`;
 const UNNEEDED = new Set(["tests", "types", "__pycache__", "check", "checking", "printed"]);
 
 /**
@@ -60,6 +63,9 @@ export function copyShell(top, to) {
     }
     if (!existsSync(join(to, CARRIED)) && existsSync(READER)) {
         READER_FILES.forEach((name) => copy(join(READER, name), join(to, CARRIED, name)));
+        if (existsSync(READER_NOTICE)) {
+            copy(READER_NOTICE, join(to, NOTICE));
+        }
     }
 }
 

@@ -15,8 +15,8 @@ import { NO_BUNDLER } from "../engine/packed.js";
 import { VERSION } from "../both/version.js";
 import { find, listAlone } from "./built.js";
 import { deskOf, wasmFor } from "./browser_command.js";
-import { packedScripts } from "./bundle.js";
-import { copyPrograms, copyShell, texts } from "./carried.js";
+import { SCRIPTS, packedScripts } from "./bundle.js";
+import { NOTICE, copyPrograms, copyShell, texts } from "./carried.js";
 import { git, needPassed } from "./gate_passed.js";
 import { sha256Of } from "./hash.js";
 import { provedText, sumOfSources } from "./proved_text.js";
@@ -25,7 +25,7 @@ import { end, say } from "./say.js";
 /** @typedef {import("./built.js").Built} Built */
 /** @typedef {import("./programs.js").Asking} Asking */
 
-const NAME = `railplan-${VERSION}`, PACKAGE = `railplan_${VERSION}_amd64.deb`, SCRIPTS = 3;
+const NAME = `railplan-${VERSION}`, PACKAGE = `railplan_${VERSION}_amd64.deb`;
 // where Debian's zsh looks for completions of packages
 const ZSH = "share/zsh/site-functions", DEBIAN_ZSH = "share/zsh/vendor-completions";
 const WINDOWS = "@echo off\r\nnode \"%~dp0railplan\" %*\r\n";
@@ -127,6 +127,15 @@ Description: track graphs and line schematics of railway stations, with proofs
 `;
 
 /**
+ * Whose work is in the package, as far as that is stated.
+ * @param {string} reader Debian's own text on the XML reader
+ */
+const copyright = (reader) => `railplan carries the XML reader sax, in /usr/lib/railplan/shell/node_modules/sax and packed into the scripts of its pages.
+Of railplan itself no licence is stated here. What Debian says of the reader:
+
+${reader}`;
+
+/**
  * The folder of the archive as a Debian package.
  * @param {string} room @param {number} time @param {string} maintainer
  * @returns {Buffer}
@@ -142,6 +151,7 @@ function debianPackage(room, time, maintainer) {
         put(join(root, "usr", name.replace(ZSH, DEBIAN_ZSH)), text);
     }
     ran(["gzip", "-9n", join(root, "usr/share/man/man1/railplan.1")]);
+    put(join(root, "usr/share/doc/railplan/copyright"), copyright(readFileSync(join(lib, NOTICE), "utf8")));
     mkdirSync(join(root, "usr/bin"));
     symlinkSync("../lib/railplan/railplan", join(root, "usr/bin/railplan"));
     put(join(root, "DEBIAN/control"), control(maintainer, sizeOf(join(root, "usr"))));
@@ -170,12 +180,16 @@ async function made(asking, room) {
     if (packedScripts(top).size < SCRIPTS) {
         return end(10, NO_BUNDLER);
     }
-    const wasm = await wasmFor(asking), time = Number(git(top, "log", "-1", "--format=%ct"));
+    const wasm = await wasmFor(asking);
+    if (!wasm.program.isProved) {
+        return end(10, "the program as WebAssembly couldn't be made of the proved one, so nothing is released");
+    }
+    const time = Number(git(top, "log", "-1", "--format=%ct"));
     const proved = provedText({ commit: passed.commit, time, kit, logic, sources: sumOfSources(top), native: built.sha256,
         wasm: wasm.sha256, proofs: passed.proofs, tools: tools() });
     await fill(asking, join(room, NAME), built, proved);
-    if (!existsSync(join(room, NAME, "shell/node_modules/sax"))) {
-        return end(10, "the XML reader sax isn't there. Install it: apt install node-sax");
+    if (!existsSync(join(room, NAME, NOTICE))) {
+        return end(10, "the XML reader sax isn't there, or Debian's text on its licence. Install them: apt install node-sax libjs-sax");
     }
     /** @type {Map<string, string | Buffer>} */
     const files = new Map([["PROVED", proved], ["railplan.html", deskOf(top, { ...wasm.program, kit: wasm.kit })]]);
