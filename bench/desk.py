@@ -1,8 +1,8 @@
 #!/usr/bin/env python3
 """Drives a desk, which `./railplan browser DESK.html` writes, in Debian's chromium or firefox, through all that it has: each command over the
 example, a fault, a stop that keeps the best drawing so far, a file that is mended, a line that is cut, several stations that are drawn and
-certified with their archive, pages that are judged, a narrow window and the keyboard. Nothing may be asked for, fail, or lack a name for a
-screen reader. It says what is seen, and ends with 1 where something isn't so. With --short it leaves out the long search, with --firefox it is firefox that is driven."""
+certified with their archive, pages that are judged, a narrow window, the keyboard and limits. Nothing may be asked for, fail, or lack a name for a
+screen reader. It says what is seen, and ends with 1 where something isn't so. With --short it leaves out the long searches, with --firefox it is firefox that is driven."""
 from __future__ import annotations
 
 import argparse
@@ -21,6 +21,7 @@ sys.dont_write_bytecode = True
 import page_stations  # noqa: E402
 from browser import Browser, Gone, Tab  # noqa: E402
 from firefox import Firefox  # noqa: E402
+from made_stations import parallel  # noqa: E402
 
 TOP = Path(__file__).resolve().parent.parent
 SECONDS = 240
@@ -257,13 +258,38 @@ def stop(desk: Desk) -> Iterator[Check]:
     yield desk.named("a stop")
 
 
+# a worker that is ended by the browser a moment after it begins
+CRASHING = """(() => { const Whole = Worker; window.Worker = class extends Whole { constructor(url) { super(url);
+  setTimeout(() => this.onerror?.(new ErrorEvent('error', { message: 'it crashed' })), 300); } }; })()"""
+
+
+def limits(desk: Desk) -> Iterator[Check]:
+    """a file that is too long, as many nodes as there may be, and a worker that crashes: each ends in a sentence"""
+    desk.take(("huge.xml", EXAMPLE.read_text(encoding="utf-8").replace("</railml>", " " * 4194304 + "</railml>")))
+    desk.wait("document.querySelector('.read')?.textContent.startsWith('huge.xml')")
+    yield "a file of more than 4 MiB", "huge.xml has more than 4 MiB, and no more is read" in desk.text("#files")
+    desk.take(("tracks.xml", parallel(64).text()))
+    desk.wait("document.querySelector('.read')?.textContent.startsWith('tracks.xml')")
+    yield "128 nodes are read", "128 nodes" in desk.text(".read")
+    desk.begin("draw", {"--width": "64", "--height": "12", "--conflicts": "300"})
+    yield "128 nodes, 64 by 12", desk.answer() == "The search stopped before its end: end conflicts 0"
+    desk.take(("long.xml", page_stations.file_of(dict(page_stations.STATIONS)["scissors 12"], "plain")))
+    desk.begin("draw", {"--width": "64", "--height": "12"})
+    desk.press("Stop")
+    desk.answer()
+    desk.tab.run(CRASHING)
+    desk.begin("draw", {"--width": "64", "--height": "12"})
+    answer = desk.answer()
+    yield f"a worker that crashes: {answer}", answer.startswith("The run was ended, by the browser or by a check of the program: it crashed")
+
+
 def main() -> int:
     parser = argparse.ArgumentParser(description=__doc__, formatter_class=argparse.RawDescriptionHelpFormatter)
     parser.add_argument("desk", type=Path, metavar="DESK.html")
-    parser.add_argument("--short", action="store_true", help="leave out the long search")
+    parser.add_argument("--short", action="store_true", help="leave out the long searches")
     parser.add_argument("--firefox", action="store_true", help="drive firefox")
     words = parser.parse_args()
-    parts = (commands, page, fault, several, line, narrow, *(() if words.short else (stop,)))
+    parts = (commands, page, fault, several, line, narrow, *(() if words.short else (stop, limits)))
     failed = False
     with ExitStack() as opened:
         tab: Tab | Firefox = opened.enter_context(Firefox()) if words.firefox else Tab(opened.enter_context(Browser()))
