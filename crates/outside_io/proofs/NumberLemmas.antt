@@ -1,20 +1,16 @@
 -- Numbers and their canonical decimals.
-use Rattle.std.proofs.Common.{◌≡◌, ◌≢◌, ◌⊎◌, inl, inr, ℕ, zero, suc, ◌<◌, ◌≤◌, ◌^◌, List, [], ◌∷◌, length, get_or, Result, Ok, Err, Option, MatchOption, refl}
+use Rattle.std.proofs.Common.{◌≡◌, inl, inr, ℕ, zero, suc, ◌+◌, ◌-◌, ◌*◌, ◌<◌, ◌≤◌, ◌^◌, List, [], ◌∷◌, length, drop, get_or, refl}
 use Rattle.std.proofs.Common.{sym, ◌∙◌, ap, subst, arith, lit<}
+use Rattle.std.specs.Char.{digit_value}
 use Rattle.std.specs.Fmt.{decimal}
-use Rattle.std.specs.Result.{result_ok}
-use Rattle.std.specs.Str.{IsUtf8}
-use Rattle.std.specs.Str.Parse.{AllDigits, ParsesUnsigned, digits_value}
-use Rattle.std.proofs.lemmas.Str.{IsUtf8-from_ascii}
-use Rattle.std.proofs.lemmas.Str.Parse.{IsNumeralModel, numerals_by_value, tells_digits, digit_from_value, parse_plain}
-use Rattle.std.proofs.lemmas.Fmt.{decimal_is_IsNumeral, decimal-digits_value, decimal_digit, parse-decimal, first_decimal, decimal_injective, IsAscii-decimal}
-use Rattle.plan_core.proofs.OptionFacts.{none_at, some_at}
+use Rattle.std.specs.Int.{IsInRange}
+use Rattle.std.specs.Str.Parse.{AllDigits, digits_value, digits_value_after}
+use Rattle.std.proofs.lemmas.Str.{digit_value_digit}
+use Rattle.std.proofs.lemmas.List.{drop_more, drop_all}
+use Rattle.std.proofs.lemmas.Str.Parse.{IsNumeralModel, numerals_by_value, tells_digits, digit_from_value}
+use Rattle.std.proofs.lemmas.Fmt.{decimal_is_IsNumeral, decimal-digits_value, decimal_digit, first_decimal, decimal_injective}
 use Rattle.outside_io.specs.Fields.{EndsField, IsOneField}
 use Rattle.outside_io.specs.Numbers.{BeginsCanonical}
-
-result_cases : {A E : Type 0} (r : Result A E) → ((x : A) × (r ≡ Ok x)) ⊎ ((x : E) × (r ≡ Err x))
-result_cases (Ok x) = inl (x, refl)
-result_cases (Err x) = inr (x, refl)
 
 -- ---- how a decimal begins
 
@@ -37,10 +33,7 @@ decimal_begins (suc n) small =
 pub field_begins : (field : List ℕ) (n : ℕ) → n < 2 ^ 64 → field ≡ decimal n → BeginsCanonical field
 field_begins field n small e = subst BeginsCanonical (sym e) (decimal_begins n small)
 
--- ---- what `parse` reads
-
-pub decimal_utf8 : (field : List ℕ) (n : ℕ) → n < 2 ^ 64 → field ≡ decimal n → IsUtf8 field
-decimal_utf8 field n small e = subst IsUtf8 (sym e) (IsUtf8-from_ascii (decimal n) (IsAscii-decimal n small))
+-- ---- what digits write
 
 own : IsNumeralModel (AllDigits 10) (digits_value 10)
 own = numerals_by_value (AllDigits 10) tells_digits
@@ -48,26 +41,50 @@ own = numerals_by_value (AllDigits 10) tells_digits
 abbrev pub IsDecimal : List ℕ → ℕ → Type 0
 IsDecimal field n = (n < 2 ^ 64) × (field ≡ decimal n)
 
-value_is : {E : Type 0} (field : List ℕ) (r : Result ℕ E) (n : ℕ) → BeginsCanonical field → ParsesUnsigned 64 10 field r → r ≡ Ok n → IsDecimal field n
-value_is {E} field r n h p e =
-    let first : get_or field 0 0 ≢ 43 = omega arith in
-    let m = rw e at (parse_plain own {E = E} 64 field r p first) in
-    let small : digits_value 10 field < 2 ^ 64 = m.0.2 in
-    (omega (arith, m.1), sym (ap decimal m.1 ∙ decimal-digits_value own field m.0.0 m.0.1 h.alone small))
+-- the digits of the field up to the rest write the number
+pub record IsValueTo (field rest : List ℕ) (number : ℕ) : Type 0 where
+  pub small : number < 2 ^ 64
+  pub value : digits_value_after 10 number rest ≡ digits_value 10 field
+  pub to_all : AllDigits 10 rest → AllDigits 10 field
+  pub from_all : AllDigits 10 field → AllDigits 10 rest
 
-value_not : {E : Type 0} (field : List ℕ) (r : Result ℕ E) (x : E) → ParsesUnsigned 64 10 field r → r ≡ Err x → (n : ℕ) → n < 2 ^ 64 → field ≡ decimal n → ⊥
-value_not {E} field r x p e n small is =
-    let read : r ≡ Ok n = parse-decimal {E = E} 64 n field r small small is p in cc
+after_grows : (n : ℕ) (ds : List ℕ) → n ≤ digits_value_after 10 n ds
+after_grows n [] = omega arith
+after_grows n (d ∷ ds) = let more = after_grows (n * 10 + digit_value d) ds in omega (arith, more)
 
-pub read_as_value : {E : Type 0} (field text : List ℕ) (r : Result ℕ E) (o : Option ℕ) → BeginsCanonical field → text ≡ field → ParsesUnsigned 64 10 text r →
-    o ≡ result_ok r → MatchOption o ((n : ℕ) → n < 2 ^ 64 → field ≡ decimal n → ⊥) (IsDecimal field)
-read_as_value {E} field text r o h same p e =
-    let P : List ℕ → Type 0 = λ f. ParsesUnsigned 64 10 f r in
-    let k = subst P same p in
-    elim (result_cases r) [
-      | inl ok ↦ some_at o _ (IsDecimal field) ok.0 (e ∙ ap result_ok ok.1) (value_is field r ok.0 h k ok.1)
-      | inr err ↦ none_at o _ (IsDecimal field) (e ∙ ap result_ok err.1) (value_not field r err.0 k err.1)
-    ]
+-- a digit that is none, or with which the number doesn't fit
+pub stops : (field : List ℕ) (i number digit : ℕ) → i < length field → digit ≡ get_or field i 0 → IsValueTo field (drop i field) number →
+    (IsInRange 48 57 digit → 2 ^ 64 ≤ number * 10 + (digit - 48)) → (n : ℕ) → n < 2 ^ 64 → field ≡ decimal n → ⊥
+stops field i number digit within at h passes n small e =
+    let numeral = decimal_is_IsNumeral n small in
+    let all : AllDigits 10 field = subst (AllDigits 10) (sym e) numeral.0.1 in
+    let value : digits_value 10 field ≡ n = ap (digits_value 10) e ∙ numeral.1 in
+    stops_at (drop_more field i 0 within) (h.from_all all) (h.value ∙ value)
+  where
+    stops_at : drop i field ≡ get_or field i 0 ∷ drop (i + 1) field → AllDigits 10 (drop i field) → digits_value_after 10 number (drop i field) ≡ n → ⊥
+    stops_at split all value =
+        let d = subst (AllDigits 10) split all in
+        let range = digit_from_value (get_or field i 0) d.0 in
+        let worth = digit_value_digit (get_or field i 0) range in
+        let grown = after_grows (number * 10 + digit_value (get_or field i 0)) (drop (i + 1) field) in
+        let known : digits_value_after 10 (number * 10 + digit_value (get_or field i 0)) (drop (i + 1) field) ≡ n =
+        ap (digits_value_after 10 number) (sym split) ∙ value in
+        let big = passes (subst (IsInRange 48 57) (sym at) range) in
+        omega (arith, grown, known, worth, big, at)
+
+-- all digits are read
+pub is_whole : (field : List ℕ) (i number : ℕ) → length field ≤ i → BeginsCanonical field → IsValueTo field (drop i field) number →
+    IsDecimal field number
+is_whole field i number end begins h =
+    let none : drop i field ≡ [] = drop_all i field end in
+    let value : number ≡ digits_value 10 field = ap (digits_value_after 10 number) (sym none) ∙ h.value in
+    let all : AllDigits 10 field = h.to_all (subst (AllDigits 10) (sym none) tt) in
+    let some : 0 < length field = some_in field begins.above in
+    (h.small, sym (ap decimal value ∙ decimal-digits_value own field all some begins.alone (omega (arith, value, h.small))))
+  where
+    some_in : (ds : List ℕ) → 48 ≤ get_or ds 0 0 → 0 < length ds
+    some_in [] h = omega arith
+    some_in (d ∷ ds) h = omega arith
 
 -- ---- one number a field
 

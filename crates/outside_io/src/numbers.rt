@@ -1,5 +1,6 @@
 // Numbers in fields, by their canonical decimals.
-ghost use Rattle.std.specs.Prelude.{◌≡◌, ◌<◌, ◌^◌, ◌++◌, ◌∷◌, ◌↔◌, ℕ, IsTrue, OnOk, MatchOption};
+ghost use Rattle.std.specs.Prelude.{◌≡◌, ◌≤◌, ◌<◌, ◌+◌, ◌-◌, ◌*◌, ◌^◌, ◌++◌, ◌∷◌, ◌↔◌, ℕ, IsTrue, OnOk, MatchOption};
+ghost use Rattle.std.specs.Int.{IsInRange};
 ghost use Rattle.std.specs.Fmt.{decimal};
 ghost use Rattle.outside_io.specs.Contents.{Begins};
 ghost use Rattle.outside_io.specs.Numbers.{IsNumberIn, BeginsCanonical};
@@ -22,14 +23,29 @@ fn begins_canonical(field: &[u8]) -> bool
     }
 }
 
+/// The number of the digits of `number` and of one more behind them, if it is a digit, and the number fits.
+fn with_digit(number: u64, digit: u8) -> Option<u64>
+    ensures { MatchOption result (IsInRange 48 57 digit → 2 ^ 64 ≤ number * 10 + (digit - 48))
+        (λ n. IsInRange 48 57 digit × (n ≡ number * 10 + (digit - 48))) }
+{
+    if !digit.is_ascii_digit() {
+        return None;
+    }
+    let tens = number.checked_mul(10)?;
+    tens.checked_add(u64::from(digit - b'0'))
+}
+
 /// The number that the field is the decimal of, if it is one that fits.
 fn value_of(field: &[u8]) -> Option<u64>
     requires { BeginsCanonical field.now }
     ensures { MatchOption result ((n : ℕ) → n < 2 ^ 64 → field.now ≡ decimal n → ⊥)
         (λ n. (n < 2 ^ 64) × (field.now ≡ decimal n)) }
 {
-    let text = std::str::from_utf8(field).ok()?;
-    text.parse::<u64>().ok()
+    let mut number = 0;
+    for digit in field {
+        number = with_digit(number, *digit)?;
+    }
+    Some(number)
 }
 
 /// The number that the field is the decimal of, without a sign and without a zero in front, if it is one

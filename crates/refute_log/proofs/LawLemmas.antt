@@ -74,7 +74,7 @@ decimal_is_number n h =
     let numeral = is_decimal n h in
     record { positive = true; digits = decimal n; some = numeral.0; only = digits_in (decimal n) numeral.1; spelled = refl }
 
-literal_is_number : (l : Literal) → l.var ≤ LAST_VAR → IsNumber (literal_text l)
+pub literal_is_number : (l : Literal) → l.var ≤ LAST_VAR → IsNumber (literal_text l)
 literal_is_number l h =
     let numeral = is_decimal l.var h in
     record { positive = l.positive; digits = decimal l.var; some = numeral.0; only = digits_in (decimal l.var) numeral.1; spelled = refl }

@@ -1,15 +1,18 @@
 // The literals of a line's text.
 ghost use Rattle.std.specs.Prelude.{◌≡◌, ◌≢◌, ◌↔◌, codes, map, AllPairs, IsTrue, IfOk, IfErr, MatchBool};
-ghost use Rattle.cnf_core.specs.Clause.{AreDistinct};
+ghost use Rattle.cnf_core.specs.Clause.{Avoids, AreDistinct};
 ghost use Rattle.refute_log.specs.LineForm.{IsLiteral};
 ghost use Rattle.refute_log.specs.LineText.{IsFaultWhere};
 ghost use Rattle.refute_log.specs.FieldText.{HasLiterals, AddsLiteral, HasFieldsFault};
 
 use crate::fields::{is_number, read_literal};
 use crate::{LineTextFault, LogWhat};
-use cnf_core::{Clause, Lit};
+use cnf_core::{Clause, Lit, Var};
 use outside_io::cut_field;
 use std::alloc::{AllocError, Global};
+
+/// Up to so many literals are compared in pairs, and more are ordered.
+const FEW: usize = 16;
 
 /// Appends the literal that the field is the text of, and says whether it is one.
 fn add_literal(literals: &mut Vec<Lit>, field: &[u8]) -> Result<bool, AllocError>
@@ -41,13 +44,13 @@ fn read_literals(alloc: Global, text: &[u8], line: u32) -> Result<Vec<Lit>, Line
     let mut right = true;
     let mut rest = text;
     while let Some((field, after)) = cut_field(rest) {
-        if !is_number(field) {
-            return Err(LineTextFault::Log {
-                what: LogWhat::Form,
-                line,
-            });
-        }
         if !add_literal(&mut literals, field)? {
+            if !is_number(field) {
+                return Err(LineTextFault::Log {
+                    what: LogWhat::Form,
+                    line,
+                });
+            }
             right = false;
         }
         rest = after;
@@ -86,10 +89,39 @@ fn none_twice(numbers: &mut Vec<u32>) -> bool
     numbers.is_sorted_by(|x, y| x < y)
 }
 
+/// Whether none of the literals has this variable.
+fn lack(literals: &[Lit], variable: Var) -> bool
+    ensures { IsTrue result ↔ Avoids variable.0 literals.now }
+{
+    for literal in literals {
+        if literal.var() == variable {
+            return false;
+        }
+    }
+    true
+}
+
+/// Whether no variable is there twice among the literals, of which each is compared with all behind it.
+fn are_apart(literals: &[Lit]) -> bool
+    ensures { IsTrue result ↔ AreDistinct literals.now }
+{
+    let mut rest = literals;
+    while let [first, behind @ ..] = rest {
+        if !lack(behind, first.var()) {
+            return false;
+        }
+        rest = behind;
+    }
+    true
+}
+
 /// Whether no variable is there twice among the literals.
 pub fn are_distinct(alloc: Global, literals: &[Lit]) -> Result<bool, AllocError>
     ensures { IfOk result (λ distinct. IsTrue distinct ↔ AreDistinct literals.now) }
 {
+    if literals.len() <= FEW {
+        return Ok(are_apart(literals));
+    }
     let mut variables = variables_of(alloc, literals)?;
     Ok(none_twice(&mut variables))
 }
