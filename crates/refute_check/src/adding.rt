@@ -184,6 +184,7 @@ impl Tables {
             &mut self.truth,
             &mut self.trail,
             level,
+            &mut self.ahead,
         )?;
         Ok(reached)
     }

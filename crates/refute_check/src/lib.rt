@@ -14,6 +14,7 @@
 #![tactic(auto)]
 
 mod adding;
+mod ahead;
 mod assume;
 mod checker;
 mod counts;

@@ -5,6 +5,7 @@ ghost use Rattle.cnf_core.specs.Propagation.{Falsified};
 ghost use Rattle.cnf_core.specs.Trail.{IsTrail, Grows};
 ghost use Rattle.refute_check.specs.Tables.{IsCountedTo, AreOccurrences, AreQuiet};
 
+use crate::ahead::read_behind;
 use crate::looks::{count_each, look_beside_each};
 use crate::places::Places;
 use cnf_core::{Formula, Lit};
@@ -45,7 +46,7 @@ fn advance(
 
 /// Counts the trail's literals from `front` on, and marks what follows, until no more does or all
 /// literals of some clause are false. The answer is whether they are, and how far the trail is
-/// counted.
+/// counted. What is read ahead goes into `ahead`.
 pub(crate) fn propagate(
     formula: &Formula,
     occurrences: &[Places],
@@ -53,6 +54,7 @@ pub(crate) fn propagate(
     truth: &mut [bool],
     trail: &mut Vec<Lit>,
     from: usize,
+    ahead: &mut usize,
 ) -> Result<(bool, usize), OutOfMemory>
     requires occurrences { AreOccurrences formula.now.vars formula.now.clauses occurrences.now }
     requires counted { IsCountedTo formula.now.vars formula.now.clauses truth.old trail.old.items counts.old from }
@@ -68,6 +70,7 @@ pub(crate) fn propagate(
 {
     let mut front = from;
     while front < trail.len() {
+        *ahead ^= read_behind(occurrences, trail, front);
         let (found, next) = advance(formula, occurrences, counts, truth, trail, front)?;
         if found {
             return Ok((true, next));

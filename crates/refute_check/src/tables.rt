@@ -25,6 +25,8 @@ pub(crate) struct Tables {
     pub(crate) truth: Vec<bool>,
     /// The literals that are true, in the order in which they became so.
     pub(crate) trail: Vec<Lit>,
+    /// What was read ahead, which says nothing.
+    pub(crate) ahead: usize,
 }
 
 impl Tables {
@@ -43,6 +45,7 @@ impl Tables {
             counts: Vec::new(alloc),
             truth,
             trail: Vec::new(alloc),
+            ahead: 0,
         })
     }
 
@@ -82,6 +85,7 @@ impl Tables {
             &mut self.truth,
             &mut self.trail,
             level,
+            &mut self.ahead,
         )?;
         Ok(reached)
     }
@@ -105,6 +109,7 @@ impl Tables {
             &mut self.trail,
             level,
             front,
+            &mut self.ahead,
         );
     }
 

@@ -3,6 +3,7 @@ ghost use Rattle.std.specs.Prelude.{◌≡◌, ◌≤◌, ◌<◌, ◌+◌, ◌*
 ghost use Rattle.cnf_core.specs.Trail.{IsTrail};
 ghost use Rattle.refute_check.specs.Tables.{IsCountedTo, AreOccurrences};
 
+use crate::ahead::read_before;
 use crate::counts::count_up;
 use crate::places::Places;
 use crate::trail::unmark_last;
@@ -44,7 +45,7 @@ fn step_back(
 }
 
 /// Takes off the trail all that came after its first `level` literals, of which `front` were
-/// counted.
+/// counted. What is read ahead goes into `ahead`.
 pub(crate) fn undo(
     formula: &Formula,
     occurrences: &[Places],
@@ -53,6 +54,7 @@ pub(crate) fn undo(
     trail: &mut Vec<Lit>,
     level: usize,
     front: usize,
+    ahead: &mut usize,
 )
     requires occurrences { AreOccurrences formula.now.vars formula.now.clauses occurrences.now }
     requires counted { IsCountedTo formula.now.vars formula.now.clauses truth.old trail.old.items counts.old front }
@@ -62,6 +64,7 @@ pub(crate) fn undo(
 {
     drop_uncounted(truth, trail, formula.vars(), front);
     while trail.len() > level {
+        *ahead ^= read_before(occurrences, trail);
         step_back(formula, occurrences, counts, truth, trail);
     }
 }

@@ -10,6 +10,7 @@ returns c =
       counts = c.args.self.now.counts;
       truth = c.push-4.new.self;
       trail = c.args.self.now.trail;
+      ahead = c.args.self.now.ahead;
     })
     c.vars-vars.ensures.formula.there c.requires.settled
     (pushed_twice c.args.self.now.occurrences.items c.push.new.self.items c.push-2.new.self.items c.new.result c.new-2.result no_entries

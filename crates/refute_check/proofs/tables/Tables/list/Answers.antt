@@ -16,5 +16,6 @@ returns c =
       counts = c.push.new.self;
       truth = c.args.self.now.truth;
       trail = c.args.self.now.trail;
+      ahead = c.args.self.now.ahead;
     })
     c.requires.settled lists count c.in_ok-push.ensures.items refl refl
