@@ -2,14 +2,14 @@
 import re
 
 from checking.crates import DOCUMENTS, read, show
-from checking.shell import OPTIONS, OWN_OPTIONS, PAGE_WORDS
+from checking.shell import FRONT_WORDS, OPTIONS, OWN_OPTIONS, PAGE_WORDS
 
 # those of other commands: rt, the launcher's own, scripts of bench/ and docs/, Slurm
 OTHERS = {"--anew", "--array", "--count", "--cpus-per-task", "--dependency", "--help", "--job-name", "--like", "--new", "--only",
-          "--proving", "--read", "--seed", "--seconds", "--unproved", "--version", "--wrap", "--write"}
+          "--proving", "--read", "--seed", "--seconds", "--version", "--wrap", "--write"}
 
 
 def all_failures():
-    known = {*OPTIONS, *OWN_OPTIONS, *PAGE_WORDS, *OTHERS}
+    known = {*OPTIONS, *OWN_OPTIONS, *PAGE_WORDS, *FRONT_WORDS, *OTHERS}
     return [f"{show(path)}: no command has the option {word}" for path in DOCUMENTS
             for word in sorted(set(re.findall(r"(?<![\w-])--[a-z][a-z-]+", read(path))) - known)]

@@ -164,7 +164,7 @@ SAYINGS = [
      'const SLIPS = new Map([["doubleSwitchCrossing", "a double slip"], ["simpleSwitchCrossing", "a single slip"]]);',
      [(README, "A slip with two connections is drawn as a crossing without its slips, a Y switch with one straight leg; standard "
                "error says each. Three-way switches are faults.")]),
-    ("shell/terminal/launch.js", "say(`this is a fault of the launcher itself, so nothing more is known: ${name}: ${message}`); } return 10;",
+    ("shell/terminal/launch.js", "say(unforeseen(error)); return refused(given, 10, unforeseen(error));",
      [(FORMATS, "The launcher ends with 10 too"), ("THEOREM.md", "The launcher also ends with 10 and 130")]),
     ("shell/terminal/built.js", 'FIRST_BUILD = "most of an hour on four processors"; export const UNPROVED_BUILD = "two to three minutes";',
      [(README, "`railplan prove` takes most of an hour on four processors"), (README, "builds the program without proofs, in two to three minutes")]),

@@ -32,7 +32,14 @@ def commands_of(listed):
 
 
 OPTIONS, PAGE_WORDS, OWN_OPTIONS = options_of("options"), options_of("pageWords"), options_of("ownOptions")
+FRONT_WORDS = options_of("frontWords")
 COMMANDS, OWN = commands_of("commands"), commands_of("own")
+
+
+def fields_table():
+    """The fields of an answer as JSON, each with its type and what it is."""
+    listed = json.loads(read(TOP / "shell/both/answer_fields.js").split("\nexport default", 1)[1].strip().rstrip(";"))
+    return ["| field | type | what it is |", "|---|---|---|", *(f"| `{path}` | {kind} | {whole(what)} |" for path, kind, what in listed)]
 
 
 @cache

@@ -230,6 +230,18 @@ export default {
         { "word": "--svg", "value": "FILE", "what": "a picture", "takes": "file", "kind": "picture" },
         { "word": "--log", "value": "FILE", "what": "a log of the search", "takes": "file", "kind": "log" }
     ],
+    "frontWords": [
+        {
+            "word": "--unproved",
+            "what": "takes the program without its proofs, which is built once, also where a proved one is there",
+            "takes": "nothing"
+        },
+        {
+            "word": "--json",
+            "what": "prints the answer as one JSON object: its fields, or the fault with its place and what to do (docs/json.md)",
+            "takes": "nothing"
+        }
+    ],
     "pageWords": [
         {
             "word": "--html",

@@ -1,6 +1,6 @@
 /** Completions for bash and zsh, made from the table of words. */
 import { allCommands, optionsOf } from "./manual.js";
-import { CRITERIA, OPTIONS, OWN_OPTIONS, PAGE_WORDS, pageWordsOf } from "./words.js";
+import { CRITERIA, FRONT_WORDS, OPTIONS, OWN_OPTIONS, PAGE_WORDS, pageWordsOf } from "./words.js";
 
 /** @typedef {import("./words.js").Command} Command */
 /** @typedef {import("./words.js").Option} Option */
@@ -43,7 +43,7 @@ export function bash() {
     const choices = allOptions().filter((it) => it.choices)
         .map((it) => `        ${it.word}) COMPREPLY=($(compgen -W "${it.choices?.join(" ")}" -- "$word")); return ;;`);
     const options = commands.map((it) => `        ${it.word}) listed="${wordsOf([...allOf(it), HELP], " ")}" ;;`);
-    const first = [...words, ...PAGE_WORDS.keys(), "--unproved", "--help", "--version"].join(" ");
+    const first = [...words, ...PAGE_WORDS.keys(), ...FRONT_WORDS.keys(), "--help", "--version"].join(" ");
     return `${MARK}
 _railplan() {
     local word=\${COMP_WORDS[COMP_CWORD]} before=\${COMP_WORDS[COMP_CWORD - 1]} command= listed= it
@@ -99,6 +99,7 @@ function zshLine(command) {
  */
 export function zsh() {
     const commands = [...allCommands().values()];
+    const first = [...PAGE_WORDS.values(), ...FRONT_WORDS.values()].map(zshOption).join(" ");
     return `#compdef railplan
 ${MARK}
 _railplan() {
@@ -111,7 +112,7 @@ ${commands.map((it) => `        '${it.word}:${quoted(it.what)}'`).join("\n")}
         case $it in (${commands.map((it) => it.word).join("|")}) command=$it; break ;; esac
     done
     case $command in
-        ('') _arguments ${[...PAGE_WORDS.values()].map(zshOption).join(" ")} '*: :->command'; _describe command commands ;;
+        ('') _arguments ${first} '*: :->command'; _describe command commands ;;
 ${commands.map(zshLine).join("\n")}
     esac
 }

@@ -1,7 +1,7 @@
 /**
  * What railplan says of itself: the help, the help of a command, the manual page. All of it is made from the table of words.
  */
-import { COMMANDS, OPTIONS, OWN, OWN_OPTIONS, PAGED, PAGE_WORDS, pageWordsOf } from "./words.js";
+import { COMMANDS, FRONT_WORDS, OPTIONS, OWN, OWN_OPTIONS, PAGED, PAGE_WORDS, pageWordsOf } from "./words.js";
 import { table, wrapped } from "./wrapped.js";
 
 /** @typedef {import("./words.js").Command} Command */
@@ -40,12 +40,6 @@ export const ENDINGS = [
     ["10", "the program couldn't be built or started"],
     ["130", "the run was stopped"],
 ];
-
-/** @param {Times} times @returns {[string, string]} */
-function unproved({ quick }) {
-    return ["--unproved", `takes the program without its proofs, which is built once, in ${quick}, also where a proved one is `
-        + "there"];
-}
 
 /**
  * All commands, those of the launcher itself behind the program's.
@@ -128,7 +122,7 @@ export function overview(called, times) {
     lines.push("", `Options of draw, ${BRACKETS}; the others have some`, ...rowsOf(optionRows(optionsOf(draw))));
     lines.push("", `Pages of ${PAGED.slice(0, -1).join(", ")} and ${PAGED.at(-1)}; no part of what is proved`);
     lines.push(...rowsOf(optionRows(PAGE_WORDS.values())));
-    lines.push("", "Before the command", ...rowsOf([unproved(times)]), "", "A run ends with", ...rowsOf(ENDINGS, 7));
+    lines.push("", "Before the command", ...rowsOf(optionRows(FRONT_WORDS.values())), "", "A run ends with", ...rowsOf(ENDINGS, 7));
     lines.push("", "README.md says more, and docs/formats.md has every text and every fault.");
     return `${lines.join("\n")}\n`;
 }
@@ -171,17 +165,18 @@ function manRows(rows) {
 
 /**
  * The manual page, as troff.
- * @param {string} version @param {Times} times
+ * @param {string} version
  * @returns {string}
  */
-export function manPage(version, times) {
+export function manPage(version) {
     const commands = [...allCommands().values()];
     const lines = [`.TH RAILPLAN 1 "" "railplan ${version}"`, ".SH NAME", escaped(`railplan - ${TITLE.split(": ")[1]}`),
         ".SH SYNOPSIS", "\\fBrailplan\\fR \\fICOMMAND\\fR \\fIWORDS\\fR..", ".SH COMMANDS"];
     lines.push(...manRows(commands.map((it) => [usage(it), sentence(it.what) + (it.more ? ` ${it.more}` : "")])));
     lines.push(".SH OPTIONS", ...manRows(optionRows(OPTIONS.values())));
     lines.push(".SH OPTIONS OF FOLDER", ...manRows(optionRows(OWN_OPTIONS.values())));
-    lines.push(".SH PAGES", ...manRows(optionRows(PAGE_WORDS.values())), ...manRows([unproved(times)]));
+    lines.push(".SH PAGES", ...manRows(optionRows(PAGE_WORDS.values())));
+    lines.push(".SH BEFORE THE COMMAND", ...manRows(optionRows(FRONT_WORDS.values())));
     lines.push(".SH EXAMPLES", ".nf", ...commands.flatMap((it) => it.examples.map((line) => escaped(`railplan ${line}`))));
     lines.push(".fi", ".SH EXIT STATUS", ...manRows(ENDINGS), ".SH SEE ALSO", "README.md and docs/formats.md of the clone.");
     return `${lines.join("\n")}\n`;

@@ -48,6 +48,8 @@ function optionsOf(listed) {
 
 export const COMMANDS = commandsOf(table.commands);
 export const OPTIONS = optionsOf(table.options);
+/** words that say which program is run and how it answers; they count before and behind the command */
+export const FRONT_WORDS = optionsOf(table.frontWords);
 /** words that belong to pages */
 export const PAGE_WORDS = optionsOf(table.pageWords);
 /** commands of the launcher itself: the program doesn't know them */
@@ -135,7 +137,7 @@ export function parts(words) {
 }
 
 /** A command line, taken apart: the program's words, the values of page words, a page word that lacks its value, and whether
- * `--unproved` and `--help` are among the words. */
+ * `--unproved`, `--json` and `--help` are among the words. */
 export class Line {
     /** @param {string[]} [words] */
     constructor(words = []) {
@@ -144,6 +146,7 @@ export class Line {
         this.pages = new Map();
         this.lacking = "";
         this.isUnproved = false;
+        this.isJson = false;
         this.asksHelp = false;
     }
 
@@ -206,10 +209,15 @@ export class Line {
         return found;
     }
 
-    /** the page words and `--unproved`, `--html` before all: what comes before the program's words */
+    /** the page words, `--html` before all, and the front words: what comes before the program's words */
     get before() {
         const pages = [...this.pages].sort(([one], [other]) => Number(one !== "--html") - Number(other !== "--html"));
-        return [...pages.flatMap(pageWords), ...this.isUnproved ? ["--unproved"] : []];
+        return [...pages.flatMap(pageWords), ...this.frontWords];
+    }
+
+    /** which front words were given */
+    get frontWords() {
+        return [...this.isUnproved ? ["--unproved"] : [], ...this.isJson ? ["--json"] : []];
     }
 
     /** what comes before the program's words, then these */
@@ -238,6 +246,8 @@ export function read(given) {
             }
         } else if (word === "--unproved") {
             line.isUnproved = true;
+        } else if (word === "--json") {
+            line.isJson = true;
         } else if (word === "--help" || word === "-h" && !hasCommand) {
             line.asksHelp = true;
         } else if (hasCommand && word.startsWith("--")) {

@@ -11,7 +11,6 @@ import { VERSION } from "../both/version.js";
 import { Clone, find } from "./built.js";
 import { packedScripts } from "./bundle.js";
 import { makeFolders } from "./files.js";
-import { TIMES } from "./own.js";
 
 /** @typedef {import("./built.js").Built} Built */
 
@@ -31,7 +30,7 @@ const UNNEEDED = new Set(["tests", "types", "__pycache__", "check", "checking", 
  * @returns {Map<string, string>}
  */
 export function texts() {
-    return new Map([["share/man/man1/railplan.1", `${MAN_MARK}\n${manPage(VERSION, TIMES)}`],
+    return new Map([["share/man/man1/railplan.1", `${MAN_MARK}\n${manPage(VERSION)}`],
         ["share/bash-completion/completions/railplan", bash()], ["share/zsh/site-functions/_railplan", zsh()]]);
 }
 

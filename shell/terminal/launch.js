@@ -31,6 +31,23 @@ export async function tell(line, ran, context, seen) {
 }
 
 /**
+ * Gives the answer of a run: as the program printed it, with what is said of it, or all of it as JSON.
+ * @param {Line} line @param {{status: number, output: Uint8Array}} ran @param {Context} [context]
+ * @param {import("../both/messages/seen.js").Seen} [seen] what is seen of the run's files
+ * @param {() => void} [close] what is done behind the output, before more is said
+ */
+export async function giveAnswer(line, ran, context, seen, close = () => undefined) {
+    if (line.isJson) {
+        const { printAnswer } = await import("./json_answer.js");
+        await printAnswer(line, ran, context, seen);
+        return close();
+    }
+    writeOutput(ran.output);
+    close();
+    return tell(line, ran, context, seen);
+}
+
+/**
  * Before anything is built a fault of the words, or an input that can't be read, is answered as the program does.
  * @param {Line} line
  */
@@ -38,9 +55,7 @@ async function answerUnrun(line) {
     const wrong = fault(line.words);
     const answer = wrong ? { status: 2, text: wrong.line() } : files.unread(line);
     if (answer) {
-        const output = Buffer.from(`${answer.text}\n`);
-        writeOutput(output);
-        await tell(line, { status: answer.status, output });
+        await giveAnswer(line, { status: answer.status, output: Buffer.from(`${answer.text}\n`) });
         end(answer.status);
     }
 }
@@ -67,20 +82,22 @@ export async function runProgram(context, line) {
     return ran;
 }
 
-/** The program's own answer to no words, which nobody should wait for. */
-function noWords() {
-    writeOutput(Buffer.from("words 1 NoCommand 1\n"));
-    closeOutput();
-    end(2, `a command is missing: ${called()} draw FILE draws a station, and ${called()} help says all commands`);
+/**
+ * The program's own answer to no words, which nobody should wait for.
+ * @param {Line} line
+ */
+async function noWords(line) {
+    await giveAnswer(line, { status: 2, output: Buffer.from("words 1 NoCommand 1\n") }, undefined, undefined, closeOutput);
+    end(2);
 }
 
 /**
  * Ends a run whose words lack something before the program's words are looked at.
  * @param {Line} line
  */
-function refuseLacking(line) {
+async function refuseLacking(line) {
     if (!line.words.length && !line.pages.size && !line.lacking) {
-        noWords();
+        await noWords(line);
     }
     try {
         process.cwd();
@@ -110,10 +127,8 @@ async function runWords(asking, line) {
         return runPage(context, line);
     }
     const ran = await runProgram(context, line);
-    if (!ran.wasStopped) {
-        writeOutput(ran.output);
-        closeOutput();
-        await tell(line, ran, context);
+    if (!ran.wasStopped || line.isJson) {
+        await giveAnswer(line, ran, context, undefined, closeOutput);
     }
     return ran.status;
 }
@@ -130,7 +145,7 @@ async function run(clone, given, ignored) {
         // the words aren't the program's, so nothing is answered in its place before it is built
         return own.run({ ...asking, before: async () => undefined, behind: () => undefined }, line, given);
     }
-    refuseLacking(line);
+    await refuseLacking(line);
     files.look(line);
     const programs = { ...asking, before: () => answerUnrun(line), behind: () => files.look(line) };
     if (fault(line.words) || !line.filesWritten.length) {
@@ -146,6 +161,33 @@ async function run(clone, given, ignored) {
 }
 
 /**
+ * Prints why the launcher ended a run, where JSON is asked for; on standard error it is said by then.
+ * @param {string[]} given @param {number} status @param {string} sentence
+ */
+async function refused(given, status, sentence) {
+    const line = read(given);
+    if (line.isJson && sentence) {
+        const { printRefusal } = await import("./json_answer.js");
+        printRefusal(line, status, sentence);
+    }
+    return status;
+}
+
+/**
+ * What an error says that isn't an end.
+ * @param {unknown} error
+ * @returns {string}
+ */
+function unforeseen(error) {
+    const { code, syscall, path } = /** @type {{code?: string, syscall?: string, path?: string}} */ (error);
+    if (code && syscall) {
+        return `${path ?? "the system"}: ${why(error)}`;
+    }
+    const { name, message } = /** @type {Error} */ (error);
+    return `this is a fault of the launcher itself, so nothing more is known: ${name}: ${message}`;
+}
+
+/**
  * The whole: the status with which the launcher ends.
  * @returns {Promise<number>}
  */
@@ -157,15 +199,9 @@ export async function main() {
         return await run(new Clone(top), given, ignoredOf(mask));
     } catch (error) {
         if (error instanceof Ended) {
-            return error.status;
+            return refused(given, error.status, error.sentence);
         }
-        const { code, syscall, path } = /** @type {{code?: string, syscall?: string, path?: string}} */ (error);
-        if (code && syscall) {
-            say(`${path ?? "the system"}: ${why(error)}`);
-        } else {
-            const { name, message } = /** @type {Error} */ (error);
-            say(`this is a fault of the launcher itself, so nothing more is known: ${name}: ${message}`);
-        }
-        return 10;
+        say(unforeseen(error));
+        return refused(given, 10, unforeseen(error));
     }
 }

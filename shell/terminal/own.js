@@ -7,7 +7,7 @@ import { closeOutput, end, say, writeOutput } from "./say.js";
 import { allCommands, ofCommand, overview, usage } from "../both/manual.js";
 import { contextFor } from "./programs.js";
 import { VERSION } from "../both/version.js";
-import { OWN } from "../both/words.js";
+import { COMMANDS, OWN } from "../both/words.js";
 
 /** @typedef {import("./built.js").Clone} Clone */
 /** @typedef {import("./programs.js").Asking} Asking */
@@ -29,7 +29,7 @@ function show(text) {
  * @param {Line} line @param {Command} command @param {string} called
  */
 function refuseMore(line, command, called) {
-    const before = [...line.pages.keys(), line.lacking, line.isUnproved ? "--unproved" : ""].find(Boolean);
+    const before = [...line.pages.keys(), line.lacking, ...line.frontWords].find(Boolean);
     const form = `${called} ${usage(command)}`;
     if (before) {
         end(2, `${before} doesn't go with ${command.word}: ${form}`);
@@ -140,6 +140,9 @@ export async function run(asking, line, given) {
     const { clone, called } = asking;
     if (line.asksHelp || line.command === "help") {
         return help(line, called);
+    }
+    if (line.isJson) {
+        end(2, `--json doesn't go with ${line.command}: it is for ${[...COMMANDS.keys()].join(", ")}`);
     }
     if (line.command !== "folder" && line.command !== "stations") {
         refuseMore(line, /** @type {Command} */ (OWN.get(line.command.replace(/^-+/, ""))), called);

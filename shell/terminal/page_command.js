@@ -18,8 +18,8 @@ import { VERSION } from "../both/version.js";
 import { COMMANDS, PAGE_WORDS, fault, pageWords } from "../both/words.js";
 import { scriptOf, stylesIn, workerOf } from "./bundle.js";
 import { Output, Refused, hashed, isOneFile, readOnce, reread } from "./files.js";
-import { runProgram, tell } from "./launch.js";
-import { Ended, called, end, isTerminal, say, writeOutput } from "./say.js";
+import { giveAnswer, runProgram } from "./launch.js";
+import { Ended, called, end, isTerminal, say } from "./say.js";
 import { SEEN } from "./seen_files.js";
 
 /** @typedef {import("../both/engine.js").Engine} Engine */
@@ -58,7 +58,9 @@ export function refuse(line) {
     const taken = COMMANDS.has(line.command) ? undefined : files.find(([, name]) => COMMANDS.has(name));
     if (taken) end(2, asName(line, taken));
     const other = [...line.pages.keys()].find((word) => PAGE_WORDS.get(word)?.commands?.includes(line.command) === false);
-    if (other && PAGES.has(line.command)) end(2, `${other} is a word of ${PAGE_WORDS.get(other)?.commands?.join(" and ")}; ${elsewhere(line)}`);
+    if (other && PAGES.has(line.command)) {
+        end(2, `${other} is a word of ${PAGE_WORDS.get(other)?.commands?.join(" and ")}; ${elsewhere(line)}`);
+    }
     if (files.some(([, name]) => !name) || COMMANDS.has(line.command) && !PAGES.has(line.command) || !line.command) end(2, USE);
 }
 
@@ -232,7 +234,8 @@ class PageRun {
         const page = outline(run);
         const [, drawing] = stylesOf(this.styles, run.record.settings.paper);
         const made = new Map([["--html", () => this.#html(run, page)], ["--dxf", () => dxfOf(page.drawn())],
-            ["--csv", () => page.drawn().objects?.csv() ?? ""], ["--sheet", () => sheetIn(textOfOutput(ran.output))], [SMALL, () => smallOf(page.drawn(), drawing)]]);
+            ["--csv", () => page.drawn().objects?.csv() ?? ""], ["--sheet", () => sheetIn(textOfOutput(ran.output))],
+            [SMALL, () => smallOf(page.drawn(), drawing)]]);
         for (const [word, output] of this.outputs.all) {
             const text = made.get(word)?.();
             if (text) output.write(text);
@@ -284,13 +287,13 @@ export async function drawPage(context, line, how = {}) {
 }
 
 /**
- * Gives the output; 6 where it can't be written, of which the sentence is said by then.
- * @param {Uint8Array} output
- * @returns {number}
+ * Gives the answer; 6 where it can't be written, of which the sentence is said by then.
+ * @param {Line} line @param {Ran} ran @param {Context} context @param {import("../both/messages/seen.js").Seen} seen
+ * @returns {Promise<number>}
  */
-function giveOutput(output) {
+async function give(line, ran, context, seen) {
     try {
-        writeOutput(output);
+        await giveAnswer(line, ran, context, seen);
         return 0;
     } catch (error) {
         if (error instanceof Ended) return error.status;
@@ -330,10 +333,10 @@ export async function runPage(context, line, how = {}) {
         const ran = await runProgram({ ...context, engine: run.engine }, line);
         if (ran.wasStopped || ran.status > 128) {
             say(run.outputs.said());
+            if (line.isJson) await give(line, ran, context, run.seen);
             return ran.status;
         }
-        const ended = giveOutput(ran.output);
-        await tell(line, ran, { ...context, engine: run.asking }, run.seen);
+        const ended = await give(line, ran, { ...context, engine: run.asking }, run.seen);
         const failed = await written(run, ran);
         if (failed) return failed;
         if (ended) say(run.outputs.said());
@@ -341,8 +344,7 @@ export async function runPage(context, line, how = {}) {
         return ended || ran.status;
     } catch (error) {
         if (!(error instanceof Refused)) throw error;
-        say(error.message);
-        return error.status;
+        return end(error.status, error.message);
     } finally {
         run?.end();
     }

@@ -20,17 +20,30 @@ import { quotedLine } from "../both/quoted.js";
  * @property {() => void} behind what is done behind a build */
 
 /**
- * The program without its proofs: that which is there, or one that is built; nothing where the kit goes other ways.
- * @param {Asking} asking
+ * The program of these sources that is there: the proved one, or else, or where it is asked for, the one without proofs.
+ * @param {Clone} clone @param {boolean} isUnproved whether that without proofs is asked for
  * @returns {Promise<Built | null>}
  */
-async function quick({ clone, called, signal, before, behind }) {
+export async function programThere(clone, isUnproved) {
+    const proved = isUnproved ? null : await findProved(clone);
+    if (proved?.isFresh) {
+        return proved;
+    }
     for (const program of [clone.quick, clone.quickWasm]) {
         const found = await find(clone, program);
         if (found.isFresh) {
             return found;
         }
     }
+    return null;
+}
+
+/**
+ * The program without its proofs, which is built; nothing where the kit goes other ways.
+ * @param {Asking} asking
+ * @returns {Promise<Built | null>}
+ */
+async function quick({ clone, called, signal, before, behind }) {
     await before();
     const { buildQuick } = await import("./building.js");
     const built = await buildQuick(clone, signal, `${called} prove`);
@@ -45,13 +58,9 @@ async function quick({ clone, called, signal, before, behind }) {
  */
 export async function programFor(asking, line) {
     const { clone, called, signal, before, behind } = asking;
-    const found = await findProved(clone);
-    if (found.isFresh) {
+    const found = await programThere(clone, false) ?? await quick(asking);
+    if (found) {
         return found;
-    }
-    const other = await quick(asking);
-    if (other) {
-        return other;
     }
     await before();
     const { build } = await import("./building.js");
@@ -77,21 +86,22 @@ function sayUnproved(built, { clone, called }) {
  */
 export async function contextFor(asking, line) {
     const { clone, called, signal, isApart } = asking;
-    const built = line.isUnproved ? await quick(asking) : await programFor(asking, line);
+    const built = line.isUnproved ? await programThere(clone, true) ?? await quick(asking) : await programFor(asking, line);
     if (!built) {
         return tried(asking);
     }
     sayUnproved(built, asking);
     const engine = await engineOf(built.program, isApart);
     const wasm = line.pages.size || ["folder", "check-page"].includes(line.command) ? await wasmThere(clone, built) : "";
-    return { top: clone.top, called, engine, build: await buildOf(built, line.pages.size > 0), wasm, signal };
+    return { top: clone.top, called, engine, build: await buildOf(built, line.pages.size > 0 || line.isJson), wasm, signal };
 }
 
 /**
+ * What runs a program.
  * @param {import("./built.js").Program} program @param {boolean} isApart
  * @returns {Promise<import("../both/engine.js").Engine>}
  */
-async function engineOf({ path, isWasm }, isApart) {
+export async function engineOf({ path, isWasm }, isApart) {
     if (isWasm) {
         const { NodeWasmEngine } = await import("../engine/node_wasm.js");
         return new NodeWasmEngine(path);

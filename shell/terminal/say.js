@@ -12,10 +12,11 @@ const OTHERWISE = new Map([["EISDIR", "is a directory"], ["EEXIST", "file exists
 
 /** The run is over, with this status. */
 export class Ended extends Error {
-    /** @param {number} status */
-    constructor(status) {
+    /** @param {number} status @param {string} [sentence] what was said */
+    constructor(status, sentence = "") {
         super(`ended with ${status}`);
         this.status = status;
+        this.sentence = sentence;
     }
 }
 
@@ -71,7 +72,7 @@ export function end(status, sentence = "") {
     if (sentence) {
         say(sentence);
     }
-    throw new Ended(status);
+    throw new Ended(status, sentence);
 }
 
 /**

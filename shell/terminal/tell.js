@@ -14,7 +14,7 @@ const decoder = new TextDecoder();
  * @param {Engine | null} engine @param {string} name @param {AbortSignal} [signal]
  * @returns {Promise<string[]>}
  */
-async function graphOf(engine, name, signal) {
+export async function graphOf(engine, name, signal) {
     const ran = await engine?.run({ words: ["graph", name], signal });
     return ran && !ran.status ? decoder.decode(ran.output).split("\n").slice(0, -1) : [];
 }

@@ -46,7 +46,7 @@ test("each command has an example that can be typed", () => {
         for (const example of examples) {
             const line = read(example.split(" > ")[0].split(" "));
             assert.ok(helpOf(word).includes(`  railplan ${example}\n`), example);
-            assert.ok(manPage(VERSION, TIMES).includes(`\nrailplan ${example.replaceAll("-", "\\-")}\n`), example);
+            assert.ok(manPage(VERSION).includes(`\nrailplan ${example.replaceAll("-", "\\-")}\n`), example);
             assert.equal(COMMANDS.has(line.command) ? fault(line.words) : null, null, example);
             assert.ok(line.names.every((name) => !name.includes("/") || name.startsWith("~") || existsSync(join(TOP, name))),
                 example);
@@ -190,14 +190,14 @@ test("words that go before others", (it) => {
 });
 
 test("the manual page has every word", () => {
-    const page = manPage(VERSION, TIMES);
+    const page = manPage(VERSION);
     for (const word of [...allCommands().keys(), ...OPTIONS_ALL]) {
         assert.ok(page.includes(`\\fB${word.replaceAll("-", "\\-")}`), word);
     }
 });
 
 test("the manual page is troff", has("groff"), () => {
-    const ran = spawnSync("groff", ["-man", "-Tascii", "-ww"], { input: manPage(VERSION, TIMES), encoding: "utf-8" });
+    const ran = spawnSync("groff", ["-man", "-Tascii", "-ww"], { input: manPage(VERSION), encoding: "utf-8" });
     assert.deepEqual([ran.status, ran.stderr], [0, ""]);
     assert.match(ran.stdout.replace(/.\x08/g, ""), /EXIT STATUS/);
 });

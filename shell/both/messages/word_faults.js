@@ -2,7 +2,7 @@
 import { oneTwice, OWN_NAME } from "../file_kinds.js";
 import { near } from "../near.js";
 import { quotedLine } from "../quoted.js";
-import { allows, COMMANDS, CRITERIA, fault, mayBe, OPTIONS, OWN, PAGE_WORDS, parts } from "../words.js";
+import { allows, COMMANDS, CRITERIA, fault, FRONT_WORDS, mayBe, OPTIONS, OWN, PAGE_WORDS, parts } from "../words.js";
 
 /** @typedef {import("../words.js").Option} Option */
 /** @typedef {import("./seen.js").Seen} Seen */
@@ -101,7 +101,7 @@ function optionFirst(it) {
     if (at >= 0 && isKnown) {
         return `the command comes first: ${typedAgain(it, [...given.slice(at), ...given.slice(0, at)])}`;
     }
-    const meant = near(word.toLowerCase(), [...PAGE_WORDS.keys(), "--unproved", "--help", "--version"], 0.7);
+    const meant = near(word.toLowerCase(), [...PAGE_WORDS.keys(), ...FRONT_WORDS.keys(), "--help", "--version"], 0.7);
     return `${shown(word)} is no command, and no word that is known before one`
         + (meant ? `. Did you mean \`${meant}\`?` : isKnown ? `: ${called} draw FILE ${word} ..` : `: ${called} help says all`);
 }
