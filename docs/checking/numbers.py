@@ -214,7 +214,13 @@ def laws_list():
     return lines
 
 
-TABLES_MADE = {"limits": limits_table, "options": options_table, "statuses": statuses_table,
+def kinds_table():
+    """The kinds of changes that prepare makes."""
+    return ["| word | what is in the file | what is written |", "|---|---|---|",
+            *(f"| `{it['word']}` | {it['found']} | {it['written']} |" for it in shell.table()["kinds"])]
+
+
+TABLES_MADE = {"kinds": kinds_table, "limits": limits_table, "options": options_table, "statuses": statuses_table,
                "laws": laws_list, "rooms": rooms.table, "so_clause": theorem.clause_lines, "so_counts": theorem.count_lines,
                "so_rows": theorem.row_lines, "so_statuses": theorem.status_lines, "so_types": theorem.type_lines,
                "best_words": theorem.best_lines, "so_rest": theorem.rest_lines, "json_fields": shell.fields_table, **results.tables()}

@@ -343,16 +343,16 @@ export default {
             "word": "prepare",
             "what": "writes a file anew as railplan reads it, where the file itself says what is missing",
             "more": [
-                "It mends the encoding, a prefix of elements, how numbers of metres are written, and the absPos of a",
-                "begin that is joined to a point whose mileage the file says. It says each change. Where it would",
-                "have to guess it writes nothing, and lists all that the file lacks. It is no part of what is proved."
+                "It says each change. Where it would have to guess it writes nothing, and lists all that the file lacks.",
+                "What is mended is judged before it is written: by the program's own track graph each switch and",
+                "crossing has the same legs, hands and neighbours as in IN. It is no part of what is proved."
             ],
             "names": [
                 { "word": "IN", "what": "a railML 2 file", "kind": "railml" },
                 { "word": "OUT", "what": "the file for what is mended", "kind": "railml" }
             ],
-            "options": [],
-            "examples": ["prepare export.xml mended.xml"]
+            "options": ["--without", "--one-km", "--hands"],
+            "examples": ["prepare export.xml mended.xml", "prepare export.xml mended.xml --without joins,ids"]
         },
         {
             "word": "stations",
@@ -448,6 +448,23 @@ export default {
         }
     ],
     "ownOptions": [
+        {
+            "word": "--without", "value": "KIND,..", "takes": "word",
+            "what": "leaves out kinds of changes",
+            "choices": ["encoding", "doctype", "prefix", "numbers", "offsets", "ids", "refs", "ends", "legs", "outside", "mileages", "joins"]
+        },
+        {
+            "word": "--one-km", "takes": "nothing",
+            "what": "counts all tracks that are joined as one, by lengths and orientations, so that the fewest mileages change"
+        },
+        {
+            "word": "--hands", "value": "HOW", "takes": "word",
+            "what": [
+                "exchanges hands that the producer sees otherwise: of incoming switches, where it sees them along the",
+                "track, or where track and branch turn to one hand and their radii say that the branch lies on the other side"
+            ],
+            "choices": ["along", "radii"]
+        },
         { "word": "--list", "what": "says which stations there are, and writes nothing", "takes": "nothing" },
         { "word": "--from", "value": "KM", "what": "the least kilometre of the part that is wanted", "takes": "kilometres" },
         { "word": "--to", "value": "KM", "what": "the greatest kilometre of the part that is wanted", "takes": "kilometres" },
@@ -471,6 +488,52 @@ export default {
         },
         { "word": "--shard", "value": "I/N", "what": "the I-th of N parts of the stations", "takes": "shard" },
         { "word": "--join", "what": "draws nothing, and makes the one page of what all parts left", "takes": "nothing" }
+    ],
+    "kinds": [
+        { "word": "encoding", "found": "UTF-16, ISO-8859-1 or windows-1252", "written": "UTF-8" },
+        { "word": "doctype", "found": "a DOCTYPE without entities", "written": "nothing" },
+        {
+            "word": "prefix",
+            "found": "a prefix at the elements that are read, as rail:",
+            "written": "no prefix; elements of another namespace without one get own:"
+        },
+        {
+            "word": "numbers",
+            "found": "metres with a comma, an exponent, or more than six decimals",
+            "written": "a point, and up to six digits"
+        },
+        { "word": "offsets", "found": "absPosOffset", "written": "absPos with it added" },
+        { "word": "ids", "found": "ids of more than 64 bytes, or with blanks", "written": "others; old and new ones are listed" },
+        {
+            "word": "refs",
+            "found": "a ref that names a switch, an end or a track",
+            "written": "the id of the connection there that refers back"
+        },
+        {
+            "word": "ends",
+            "found": "an end that says nothing, or refers to what isn't in the file",
+            "written": "openEnd, unless another connection may be meant"
+        },
+        {
+            "word": "legs",
+            "found": "a three-way switch; a switch at its track's end that has both legs as connections",
+            "written": "two switches half a metre apart; the straight leg as the track's end"
+        },
+        {
+            "word": "outside",
+            "found": "a switch up to a decimetre outside its track, as by rounding",
+            "written": "one inside, its mileage moved as far"
+        },
+        {
+            "word": "mileages",
+            "found": "a begin without absPos that is joined to a point with one; a signal without one where mileages fall",
+            "written": "absPos"
+        },
+        {
+            "word": "joins",
+            "found": "tracks that are cut at each switch",
+            "written": "one track; a part that is counted the other way is turned, with all that is at it"
+        }
     ],
     "criteria": ["height", "bends", "diagonal", "width"],
     "faults": ["NoCommand", "UnknownCommand", "MissingName", "ExtraWord", "UnknownOption", "RepeatedOption", "BadValue"],

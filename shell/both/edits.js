@@ -1,12 +1,44 @@
 /** A file's bytes while they are edited, and where the file that was read had what is at a byte now. */
 import { Place } from "./places.js";
 
+/** @typedef {import("./railml.js").Element} Element */
 /** @typedef {{begun: number, ended: number, text: string}} Edit a text in place of the bytes from one to the other */
 
 // one sign for each byte; blanks are named by their codes, as some bytes are no blank that would be one as a sign
 const single = new TextDecoder("latin1");
 const TAG = /<[^ \t-\r/>]+(?:[ \t-\r]+[^ \t-\r=<>]+[ \t-\r]*=[ \t-\r]*(?:"[^"]*"|'[^']*'))*[ \t-\r]*\/?>/y;
-const LINE_FEED = 10;
+const LINE_FEED = 10, SLASH = 47;
+const REFERENCES = new Map([["&", "&amp;"], ["<", "&lt;"], [">", "&gt;"], ['"', "&quot;"], ["'", "&apos;"]]);
+
+/** @param {string} text @returns {string} a value of an attribute as it is written */
+function valueText(text) {
+    return text.replace(/[&<>"']/g, (it) => REFERENCES.get(it) ?? it);
+}
+
+/**
+ * Bytes with edits made, of which no two meet.
+ * @param {Uint8Array} data @param {(Edit & {data: Uint8Array})[]} sorted in their order
+ * @returns {Uint8Array}
+ */
+function replaced(data, sorted) {
+    const written = new Uint8Array(sorted.reduce((sum, it) => sum + it.data.length - (it.ended - it.begun), data.length));
+    let at = 0, to = 0;
+    for (const { begun, ended, data: text } of sorted) {
+        written.set(data.subarray(at, begun), to);
+        written.set(text, to + begun - at);
+        to += begun - at + text.length;
+        at = ended;
+    }
+    written.set(data.subarray(at), to);
+    return written;
+}
+
+/** @param {Edit[]} edits @returns {(Edit & {data: Uint8Array})[]} in their order, with the bytes of each */
+function sorted(edits) {
+    const encoder = new TextEncoder();
+    return edits.map((it) => ({ ...it, data: encoder.encode(it.text) }))
+        .sort((one, other) => one.begun - other.begun || one.ended - other.ended);
+}
 
 /** Edits in their order, for each where it ends behind them, and by how much all before it made the text grow. */
 export class Moved {
@@ -57,22 +89,73 @@ export class Edits {
         if (!edits.length) {
             return;
         }
-        const encoder = new TextEncoder();
-        const sorted = edits.map((it) => ({ ...it, data: encoder.encode(it.text) }))
-            .sort((one, other) => one.begun - other.begun || one.ended - other.ended);
-        const size = sorted.reduce((sum, it) => sum + it.data.length - (it.ended - it.begun), this.data.length);
-        const written = new Uint8Array(size);
-        let at = 0, to = 0;
-        for (const { begun, ended, data } of sorted) {
-            written.set(this.data.subarray(at, begun), to);
-            written.set(data, to + begun - at);
-            to += begun - at + data.length;
-            at = ended;
+        const made = sorted(edits);
+        this.data = replaced(this.data, made);
+        this.signs = single.decode(this.data);
+        this.moved.push(new Moved(made));
+    }
+
+    /**
+     * That an attribute of an element has a value: in place of the one it has, or as its first one.
+     * @param {Element} it @param {string} name @param {string} value @returns {Edit}
+     */
+    setting(it, name, value) {
+        const there = this.valueIn(it.place, name), place = it.place + 1 + new TextEncoder().encode(it.name).length;
+        return there ? { ...there, text: valueText(value) } : { begun: place, ended: place, text: ` ${name}="${valueText(value)}"` };
+    }
+
+    /** @param {Element} it @param {string} name @returns {Edit[]} that it hasn't this attribute any more */
+    leavingOut(it, name) {
+        const there = this.valueIn(it.place, name);
+        if (!there) {
+            return [];
         }
-        written.set(this.data.subarray(at), to);
-        this.data = written;
-        this.signs = single.decode(written);
-        this.moved.push(new Moved(sorted));
+        const front = /[ \t-\r]+[^ \t-\r=]+[ \t-\r]*=[ \t-\r]*["']$/.exec(this.signs.slice(it.place, there.begun));
+        return [{ begun: there.begun - (front?.[0].length ?? 0), ended: there.ended + 1, text: "" }];
+    }
+
+    /** @param {Element} it @param {string} name @returns {Edit[]} that it has another name */
+    naming(it, name) {
+        const size = new TextEncoder().encode(it.name).length, begun = it.place + 1;
+        const edits = [{ begun, ended: begun + size, text: name }];
+        if (this.data[it.ended - 2] !== SLASH) {
+            const end = this.signs.lastIndexOf("</", it.ended) + 2;
+            edits.push({ begun: end, ended: end + size, text: name });
+        }
+        return edits;
+    }
+
+    /** @param {Element} it @param {Edit[]} [edits] @returns {string} its text, with those of some edits that are in it */
+    textOf(it, edits = []) {
+        return this.between(it.place, it.ended, edits);
+    }
+
+    /** @param {Element} it @param {Edit[]} [edits] @returns {string} the tag with which it begins, with edits of it */
+    tagOf(it, edits = []) {
+        TAG.lastIndex = it.place;
+        return this.between(it.place, it.place + (TAG.exec(this.signs)?.[0].length ?? 0), edits);
+    }
+
+    /** @param {number} from @param {number} to @param {Edit[]} edits @returns {string} */
+    between(from, to, edits) {
+        const within = edits.filter(({ begun, ended }) => begun >= from && ended <= to)
+            .map((edit) => ({ ...edit, begun: edit.begun - from, ended: edit.ended - from }));
+        return new TextDecoder().decode(replaced(this.data.subarray(from, to), sorted(within)));
+    }
+
+    /** @param {Element} it @returns {Edit} that it isn't there, and its line neither where nothing else is on it */
+    removing(it) {
+        const before = /(^|\n)[ \t]*$/.exec(this.signs.slice(Math.max(0, it.place - 200), it.place));
+        const behind = /^[ \t]*\r?\n/.exec(this.signs.slice(it.ended, it.ended + 200));
+        const isAlone = before && behind;
+        return { begun: it.place - (isAlone ? before[0].replace(/^\n/, "").length : 0), ended: it.ended + (isAlone ? behind[0].length : 0),
+            text: "" };
+    }
+
+    /** @param {Element} it @param {string} text @returns {Edit} that a text comes at the end of an element that has children */
+    appending(it, text) {
+        const isEmpty = this.data[it.ended - 2] === SLASH, end = this.signs.lastIndexOf("</", it.ended);
+        return isEmpty ? { begun: it.ended - 2, ended: it.ended, text: `>${text}</${it.name}>` } : { begun: end, ended: end, text };
     }
 
     /** @param {string} text @returns {number[]} each place of a text */

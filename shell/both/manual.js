@@ -1,7 +1,7 @@
 /**
  * What railplan says of itself: the help, the help of a command, the manual page. All of it is made from the table of words.
  */
-import { COMMANDS, FRONT_WORDS, OPTIONS, OWN, OWN_OPTIONS, PAGED, PAGE_WORDS, pageWordsOf } from "./words.js";
+import { COMMANDS, FRONT_WORDS, KINDS, OPTIONS, OWN, OWN_OPTIONS, PAGED, PAGE_WORDS, pageWordsOf } from "./words.js";
 import { table, wrapped } from "./wrapped.js";
 
 /** @typedef {import("./words.js").Command} Command */
@@ -142,6 +142,9 @@ export function ofCommand(command, called) {
     }
     if (command.options.length) {
         lines.push("", `Options, ${BRACKETS}`, ...rowsOf(optionRows(optionsOf(command))));
+    }
+    if (command.word === "prepare") {
+        lines.push("", "Kinds of changes", ...rowsOf(KINDS.map(({ word, found, written }) => [word, `${found}; written as ${written}`])));
     }
     if (PAGED.includes(command.word)) {
         lines.push("", "Pages", ...rowsOf(optionRows(pageWordsOf(command.word))));

@@ -12,11 +12,13 @@ export const ENDINGS = ["connection", "openEnd", "bufferStop", "macroscopicNode"
 /** elements whose text is kept */
 const TITLES = ["title", "dc:title"];
 
-/** An element: the byte where its tag begins, its name, attributes, parent and children; of a title also its text. */
+/** An element: the byte where its tag begins and the one behind its end, its name, attributes, parent and children; of a title
+ * also its text. */
 export class Element {
     /** @param {number} place @param {string} name @param {Map<string, string>} attributes @param {Element | null} parent */
     constructor(place, name, attributes, parent) {
         this.place = place;
+        this.ended = place;
         this.name = name;
         this.attributes = attributes;
         this.parent = parent;
@@ -92,8 +94,11 @@ export function read(data) {
             open.at(-1)?.children.push(it);
             open.push(it);
         },
-        close() {
-            open.pop();
+        close(ended) {
+            const it = open.pop();
+            if (it) {
+                it.ended = ended;
+            }
         },
         text(text) {
             const it = open.at(-1);

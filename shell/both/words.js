@@ -58,6 +58,8 @@ export const OWN_OPTIONS = optionsOf(table.ownOptions);
 /** the commands that have pages */
 export const PAGED = table.paged;
 export const CRITERIA = table.criteria;
+/** @type {{word: string, found: string, written: string}[]} the kinds of changes that prepare makes */
+export const KINDS = table.kinds;
 
 const FILE_KINDS = new Set(["railml", "sheet", "log", "hints", "folder"]);
 

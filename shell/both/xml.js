@@ -6,7 +6,7 @@ import sax from "#sax";
 
 /** @typedef {object} Handler what is called for each part of a file
  * @property {(place: number, name: string, attributes: Map<string, string>) => void} open
- * @property {() => void} close
+ * @property {(ended: number) => void} close with the byte behind the element
  * @property {(text: string) => void} text */
 /** @typedef {{place: number, line: number, what: string}} Trouble where reading stopped before the end: the byte and the line,
  * and what is wrong there */
@@ -196,7 +196,7 @@ class Listener {
         this.between(true);
         refuse(this.begun + 2, !/^<\/\s/.test(this.text.slice(this.begun, this.begun + 3)));
         this.depth--;
-        this.handler.close();
+        this.handler.close(this.bytes.of(this.parser.position));
     }
 
     /** @param {string} name @param {string} body of a processing instruction */

@@ -2,24 +2,27 @@
  * What takes long to read is read in a worker, of the desk's own script: a station's file, what prepare mends of it, and the
  * stations of a line.
  */
-import { forksOfFile } from "../both/line/judged.js";
+import { wholeOf } from "../both/line/judged.js";
 import { cutLine } from "../both/line/stations.js";
 import { notShown } from "../both/messages/not_shown.js";
-import { mended, withMark } from "../both/prepare.js";
+import { mended, STRUCTURAL, withMark } from "../both/prepare.js";
 import { read as readFile } from "../both/railml.js";
 import { read } from "../both/words.js";
 
 /** @typedef {{tracks: number, points: number, open: string[]}} Read what a file has: tracks, switches and crossings, and what a drawing of
  * it doesn't show */
-/** @typedef {{data: Uint8Array, unfit: string, changes: string[], guesses: string[], doubts: string[]}} Mended what prepare makes of a file */
+/** @typedef {{data: Uint8Array, unfit: string, changes: string[], guesses: string[], doubts: string[]}} Mended what prepare makes
+ * of a file */
 /**
  * @typedef {{said: string[], files: import("../both/line/stations.js").StationFile[],
- *     whole: Map<string, import("../both/line/judged.js").Fork[]>}} Cut the stations of a line, what is to be said, and what the whole
- *     file says of each switch
+ *     whole: import("../both/line/judged.js").Whole}} Cut the stations of a line, what is to be said, and what the whole file says of
+ *     each switch and signal
  */
 /** @typedef {{what: "read" | "mend" | "cut", name: string, bytes: Uint8Array}} Wanted */
 
 const CALLED = "railplan";
+// what is mended here isn't judged, so tracks and switches stay as they are
+const ASKED = { without: STRUCTURAL };
 
 /**
  * @param {string} name
@@ -38,7 +41,7 @@ function readNow(name, bytes) {
  * @returns {Mended}
  */
 function mendNow(name, bytes) {
-    const { data, unfit, changes, guesses, doubts } = mended(name, bytes, CALLED);
+    const { data, unfit, changes, guesses, doubts } = mended(name, bytes, CALLED, ASKED);
     return { data: changes.length ? withMark(data) : data, unfit, changes, guesses, doubts };
 }
 
@@ -48,12 +51,12 @@ function mendNow(name, bytes) {
  * @returns {Cut}
  */
 function cutNow(name, bytes) {
-    const it = mended(name, bytes, CALLED), document = readFile(it.data);
+    const it = mended(name, bytes, CALLED, ASKED), document = readFile(it.data);
     if (it.unfit || document.trouble) {
-        return { said: [it.unfit || `line ${document.trouble?.line}: ${document.trouble?.what}`], files: [], whole: new Map() };
+        return { said: [it.unfit || `line ${document.trouble?.line}: ${document.trouble?.what}`], files: [], whole: wholeOf(document) };
     }
     const { said, files } = cutLine(document, { range: null });
-    return { said: [...it.guesses, ...said], files, whole: forksOfFile(document) };
+    return { said: [...it.guesses, ...said], files, whole: wholeOf(document) };
 }
 
 /** answers each message, in a worker */

@@ -8,11 +8,15 @@ import { allCommands, ofCommand, overview, usage } from "../both/manual.js";
 import { contextFor } from "./programs.js";
 import { VERSION } from "../both/version.js";
 import { COMMANDS, OWN } from "../both/words.js";
+import { ownOptions } from "./own_options.js";
 
 /** @typedef {import("./built.js").Clone} Clone */
 /** @typedef {import("./programs.js").Asking} Asking */
 /** @typedef {import("../both/words.js").Command} Command */
 /** @typedef {import("../both/words.js").Line} Line */
+
+/** the commands that take their words apart themselves */
+const TAKING = ["folder", "stations", "prepare"];
 
 /** how long builds take, in words */
 export const TIMES = { first: FIRST_BUILD, quick: UNPROVED_BUILD };
@@ -25,23 +29,29 @@ function show(text) {
 }
 
 /**
- * Refuses words that this command doesn't take: those of pages, options, and names that are too many.
- * @param {Line} line @param {Command} command @param {string} called
+ * Refuses words before the command that don't go with it.
+ * @param {Line} line @param {Command} command @param {string} called @param {boolean} runs whether the command runs the program
  */
-function refuseMore(line, command, called) {
-    const before = [...line.pages.keys(), line.lacking, ...line.frontWords].find(Boolean);
-    const form = `${called} ${usage(command)}`;
+function refuseBefore(line, command, called, runs) {
+    const fronts = line.frontWords.filter((it) => !runs || it !== "--unproved"), before = [...line.pages.keys(), line.lacking, ...fronts].find(Boolean);
     if (before) {
-        end(2, `${before} doesn't go with ${command.word}: ${form}`);
+        end(2, `${before} doesn't go with ${command.word}: ${called} ${usage(command)}`);
     }
-    line.words.slice(1).forEach((word, number) => {
-        if (word.startsWith("-") && word.length > 1) {
-            end(2, `${command.word} has no option ${word}: ${form}`);
-        }
-        if (number >= command.names.length) {
-            end(2, `\`${word}\` is one name too many: ${form}`);
-        }
-    });
+}
+
+/**
+ * Runs a command that takes its words apart by itself.
+ * @param {Asking} asking @param {Line} line @param {string[]} given
+ * @returns {Promise<number>}
+ */
+async function runTaking(asking, line, given) {
+    if (line.command === "folder") {
+        return (await import("./folder.js")).run(asking, given);
+    }
+    refuseBefore(line, /** @type {Command} */ (OWN.get(line.command)), asking.called, true);
+    const contextOf = () => contextFor(asking, line);
+    return line.command === "prepare" ? (await import("./prepare_command.js")).run(line, contextOf)
+        : (await import("./stations_command.js")).run(await contextOf(), line);
 }
 
 /**
@@ -144,9 +154,12 @@ export async function run(asking, line, given) {
     if (line.isJson) {
         end(2, `--json doesn't go with ${line.command}: it is for ${[...COMMANDS.keys()].join(", ")}`);
     }
-    if (line.command !== "folder" && line.command !== "stations") {
-        refuseMore(line, /** @type {Command} */ (OWN.get(line.command.replace(/^-+/, ""))), called);
+    if (TAKING.includes(line.command)) {
+        return runTaking(asking, line, given);
     }
+    const command = /** @type {Command} */ (OWN.get(line.command.replace(/^-+/, "")));
+    refuseBefore(line, command, called, false);
+    ownOptions(command, line.words.slice(1));
     switch (line.command) {
         case "prove":
             return prove(asking);
@@ -157,16 +170,10 @@ export async function run(asking, line, given) {
             return (await import("./release_command.js")).run(asking, line);
         case "setup":
             return (await import("./setup_command.js")).run(clone);
-        case "stations":
-            return (await import("./stations_command.js")).run(await contextFor(asking, line), line);
         case "browser":
             return (await import("./browser_command.js")).run(asking, line);
         case "check-page":
             return (await import("./check_page_command.js")).run(await contextFor(asking, line), line);
-        case "prepare":
-            return (await import("./prepare_command.js")).run(line);
-        case "folder":
-            return (await import("./folder.js")).run(asking, given);
         default:
             return version(clone, called);
     }

@@ -1,17 +1,21 @@
 /** `prepare IN OUT`: writes a railML 2 file anew as railplan reads it, and says each change, or what would have to be
  * guessed. */
 import { MOST_BYTES, oneTwice, tooLong } from "../both/file_kinds.js";
-import { unread } from "../both/messages/telling.js";
+import { usage } from "../both/manual.js";
+import { notesOf, unread } from "../both/messages/telling.js";
+import { judge } from "../both/mending/judge.js";
 import { isMarked, mended, withMark } from "../both/prepare.js";
 import { quoted } from "../both/quoted.js";
-import { File } from "../both/words.js";
+import { File, OWN, read } from "../both/words.js";
 import { front, isOneFile, refuseHyphen, refuseReplaced, refuseUnwritable, stateOf, writeWhole } from "./files.js";
+import { ownOptions } from "./own_options.js";
 import { called, end, say, why } from "./say.js";
 import { SEEN } from "./seen_files.js";
 
 // the bytes that are read: in UTF-16 a file has twice as many, and other encodings of one sign have up to four
 const MOST = (MOST_BYTES.get("railml") ?? 0) * 4;
 const FRONT = 400;
+const PREPARE = /** @type {import("../both/words.js").Command} */ (OWN.get("prepare"));
 
 /**
  * Refuses to write over any file but one that prepare wrote, and over links, pipes, devices and folders.
@@ -60,36 +64,79 @@ function counted(count, what) {
 }
 
 /**
- * Writes what is mended, or a copy of what needn't be, and says which of the two it is.
- * @param {import("../both/prepare.js").Prepared} it @param {string} out
+ * What the program says of a fault of what is mended, in words.
+ * @param {import("../both/prepare.js").Prepared} it @param {string} fault its line
+ * @returns {Promise<string>}
  */
-function write(it, out) {
+async function faultInWords(it, fault) {
+    const seen = { ...SEEN, bytes: () => it.data }, line = read(["graph", it.name]);
+    const notes = await notesOf({ line, status: 1, output: Buffer.from(`${fault}\n`), called: called(), seen, graph: async () => [] });
+    return notes.map((note) => note.text).join("; ") || fault;
+}
+
+/**
+ * Judges what is mended by the program's own track graph; ends the run where it can't be shown that all is as it was.
+ * @param {() => Promise<import("./context.js").Context>} contextOf @param {import("../both/prepare.js").Prepared} it
+ * @returns {Promise<string>} the fault that the program finds in a file of which only the text was changed, in words
+ */
+async function judged(contextOf, it) {
+    const { engine, signal } = await contextOf(), judgement = await judge(engine, it, signal);
+    if (!judgement) {
+        return end(130, "stopped");
+    }
+    const { reason, fault } = judgement, said = fault ? await faultInWords(it, fault) : "";
+    if (reason) {
+        end(1, `nothing is written: it can't be shown that each switch and crossing has the same legs and sides: ${reason}`);
+    }
+    if (fault && it.isRebuilt) {
+        end(1, `nothing is written, as the program finds a fault in what is mended: ${said}`);
+    }
+    return said;
+}
+
+/**
+ * Writes what is mended, or a copy of what needn't be, and says which of the two it is.
+ * @param {import("../both/prepare.js").Prepared} it @param {string} out @param {string} fault what the program finds in it
+ */
+function write(it, out, fault) {
     try {
         writeWhole(out, it.changes.length ? withMark(it.data) : it.data);
     } catch (error) {
         end(6, `${out} couldn't be written: ${why(error)}`);
     }
-    if (it.changes.length) {
-        say(`${out} is written: ${counted(it.changes.length, "change")}. This is no part of what is proved. ${it.called} draw `
-            + `${quoted(out)} says whether more is wrong`);
-    } else {
+    if (!it.changes.length) {
         say(`${out} is a copy of ${it.name}, as nothing in it is of a kind that prepare mends. ${it.called} draw `
             + `${quoted(it.name)} says whether something is wrong`);
+        return;
     }
+    const rest = fault ? `The program still finds a fault in it: ${fault}`
+        : `By the program's track graph each switch and crossing has the legs and sides that ${it.name} says. ${it.called} draw ${quoted(
+            out)} draws it`;
+    say(`${out} is written: ${counted(it.changes.length, "change")}. This is no part of what is proved. ${rest}`);
+}
+
+/**
+ * @param {Map<string, string[]>} options
+ * @returns {import("../both/prepare.js").Asked}
+ */
+function askedBy(options) {
+    return { without: options.get("--without"), isOneKm: options.has("--one-km"), hands: options.get("--hands")?.at(-1) };
 }
 
 /**
  * Runs the command.
- * @param {import("../both/words.js").Line} line
- * @returns {number} the status
+ * @param {import("../both/words.js").Line} line @param {() => Promise<import("./context.js").Context>} contextOf finds what runs
+ * the program
+ * @returns {Promise<number>} the status
  */
-export function run(line) {
-    if (line.words.length !== 3) {
-        end(2, `prepare takes a file and a name for what is mended: ${called()} prepare IN OUT`);
+export async function run(line, contextOf) {
+    const { names, options } = ownOptions(PREPARE, line.words.slice(1)), [source, out] = names;
+    if (names.length !== 2) {
+        end(2, `prepare takes a file and a name for what is mended: ${called()} ${usage(PREPARE)}`);
     }
-    const [, source, out] = line.words, data = readWhole(source);
+    const data = readWhole(source);
     refuseOther(out, source);
-    const it = mended(source, data, called());
+    const it = mended(source, data, called(), askedBy(options));
     [...it.unfit ? [it.unfit] : [], ...it.changes, ...it.guesses, ...it.doubts].forEach((text) => say(text));
     if (it.unfit) {
         end(1, "nothing is written");
@@ -97,6 +144,6 @@ export function run(line) {
     if (it.guesses.length) {
         end(1, `nothing is written: ${counted(it.guesses.length, "thing")} would have to be guessed`);
     }
-    write(it, out);
+    write(it, out, it.changes.length ? await judged(contextOf, it) : "");
     return 0;
 }

@@ -3,14 +3,16 @@
  */
 import { mkdirSync, readdirSync } from "node:fs";
 import { join } from "node:path";
-import { forksOfFile, judgedFile } from "../both/line/judged.js";
+import { judgedFile, wholeOf } from "../both/line/judged.js";
 import { micrometres } from "../both/line/network.js";
 import { cutLine } from "../both/line/stations.js";
 import { unread } from "../both/messages/telling.js";
-import { mended } from "../both/prepare.js";
+import { mended, STRUCTURAL } from "../both/prepare.js";
 import { quoted } from "../both/quoted.js";
 import { read } from "../both/railml.js";
+import { OWN } from "../both/words.js";
 import { front, writeWhole } from "./files.js";
+import { ownOptions } from "./own_options.js";
 import { called, end, say, why } from "./say.js";
 import { SEEN } from "./seen_files.js";
 
@@ -19,40 +21,16 @@ import { SEEN } from "./seen_files.js";
 
 /** the file of a network may be large; more isn't read */
 const MOST = 1 << 30;
-const VALUES = new Set(["--from", "--to", "--tracks"]);
+const STATIONS = /** @type {import("../both/words.js").Command} */ (OWN.get("stations"));
 const USE = "stations takes the file of a line and a folder for its stations";
 
 /**
- * What is asked for: names, and options with their values.
- * @param {string[]} words
- */
-function askedOf(words) {
-    /** @type {string[]} */
-    const names = [];
-    /** @type {Map<string, string>} */
-    const options = new Map();
-    for (let at = 0; at < words.length; at++) {
-        const word = words[at];
-        if (!word.startsWith("--")) {
-            names.push(word);
-        } else if (word !== "--list" && !VALUES.has(word)) {
-            end(2, `stations has no option ${word}: ${called()} stations IN OUT [--list] [--from KM --to KM] [--tracks NAME,..]`);
-        } else if (VALUES.has(word) && at + 1 === words.length) {
-            end(2, `behind ${word} its value is missing`);
-        } else {
-            options.set(word, VALUES.has(word) ? words[++at] : "");
-        }
-    }
-    return { names, options };
-}
-
-/**
  * A number of kilometres of an option, in micrometres.
- * @param {Map<string, string>} options
+ * @param {Map<string, string[]>} options
  * @param {string} name
  */
 function kilometres(options, name) {
-    const given = options.get(name), value = given === undefined ? undefined : micrometres(given);
+    const given = options.get(name)?.at(-1), value = given === undefined ? undefined : micrometres(given);
     if (given !== undefined && value === undefined) {
         end(2, `${name} ${given}: it is a number of kilometres, as 12.5`);
     }
@@ -60,17 +38,17 @@ function kilometres(options, name) {
 }
 
 /**
- * @param {Map<string, string>} options
+ * @param {Map<string, string[]>} options
  * @returns {import("../both/line/grouping.js").Asked}
  */
 function partOf(options) {
-    const low = kilometres(options, "--from"), high = kilometres(options, "--to"), tracks = options.get("--tracks");
+    const low = kilometres(options, "--from"), high = kilometres(options, "--to");
     if ((low === undefined) !== (high === undefined)) {
         end(2, "--from KM and --to KM go together");
     }
     return {
         range: low === undefined || high === undefined ? null : { low: Math.min(low, high), high: Math.max(low, high) },
-        tracks: tracks === undefined ? undefined : tracks.split(",").filter(Boolean),
+        tracks: options.get("--tracks")?.filter(Boolean),
     };
 }
 
@@ -85,7 +63,7 @@ function readLine(name) {
     } catch {
         end(5, unread(name, SEEN, called()));
     }
-    const it = mended(name, data, called());
+    const it = mended(name, data, called(), { without: STRUCTURAL });
     if (it.unfit) {
         say(it.unfit);
         end(1, "nothing is written");
@@ -125,7 +103,7 @@ function refuseThere(out, files) {
  * @returns {Promise<number>}
  */
 export async function run({ engine, signal }, line) {
-    const { names, options } = askedOf(line.words.slice(1)), isList = options.has("--list"), part = partOf(options);
+    const { names, options } = ownOptions(STATIONS, line.words.slice(1)), isList = options.has("--list"), part = partOf(options);
     if (names.length !== 2 && !(isList && names.length === 1)) {
         end(2, `${USE}: ${called()} stations IN OUT`);
     }
@@ -140,7 +118,7 @@ export async function run({ engine, signal }, line) {
         return 0;
     }
     refuseThere(out, files);
-    const whole = forksOfFile(document);
+    const whole = wholeOf(document);
     let refused = 0;
     for (const file of files) {
         const { bytes, reason, wasStopped } = await judgedFile(engine, whole, file, signal), name = join(out, `${file.name}.xml`);

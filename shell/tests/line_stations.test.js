@@ -1,9 +1,11 @@
 /** Lines cut into stations: nothing is lost, no side changes, and a changed side is seen. */
 import assert from "node:assert/strict";
 import { test } from "node:test";
-import { differing, forksOfFile } from "../both/line/judged.js";
+import { kinds } from "../../cases/real/kinds.js";
+import { differing, elsewhere, forksOfFile } from "../both/line/judged.js";
 import { cutLine } from "../both/line/stations.js";
-import { read } from "../both/railml.js";
+import { mileage, points, read } from "../both/railml.js";
+import { Walked } from "../both/surroundings.js";
 import { TrackGraph } from "../both/track_graph.js";
 import { randomLine } from "./random_line.js";
 
@@ -20,7 +22,7 @@ function graphOf(text) {
     const graph = new TrackGraph(documentOf(text)), places = [...new Set(graph.edges.flatMap((it) => [it.west, it.east]))];
     const above = new Set(graph.forks.map((it) => `${it.upper} ${it.lower}`));
     return /** @type {import("../both/page/texts.js").Graph} */ ({
-        nodes: places.map((it, number) => ({ number, name: it.id, kind: it.name, mileage: "", legs: "", side: "" })),
+        nodes: places.map((it, number) => ({ number, name: it.id, kind: it.name, mileage: String(mileage(it)), legs: "", side: "" })),
         edges: graph.edges.map((it, number) => ({ number, track: it.name, west: places.indexOf(it.west), east: places.indexOf(it.east) })),
         above,
     });
@@ -38,7 +40,8 @@ test("the reading of a whole line has each branch on its side", () => {
 
 test("each switch of a line is in one file, with its legs and sides, and no reference leads out", () => {
     for (const seed of SEEDS) {
-        const { text, truth } = randomLine(seed), document = documentOf(text), { files } = cutLine(document, {}), whole = forksOfFile(document);
+        const { text, truth } = randomLine(seed), document = documentOf(text), { files } = cutLine(document, {}),
+            whole = forksOfFile(document);
         assert.deepEqual(files.flatMap((it) => it.points).sort(), [...truth.keys()].sort(), `line ${seed}`);
         for (const file of files) {
             assert.equal(differing(whole, file, graphOf(file.text)), undefined, `line ${seed}, ${file.name}`);
@@ -56,19 +59,34 @@ test("a side that was changed is seen, and a leg that leads elsewhere", () => {
     assert.notEqual(changed, file.text);
     assert.equal(differing(whole, file, graphOf(changed)), id);
     assert.notEqual(differing(whole, { ...file, origins: new Map() }, { ...graphOf(file.text), above: new Set() }), undefined);
+    const graph = graphOf(file.text), number = graph.nodes.findIndex((it) => it.name === id), [fork] = whole.get(id) ?? [];
+    const moved = graph.nodes.map((it) => (it.name === id ? { ...it, mileage: String(Number(it.mileage) + 1) } : it));
+    assert.equal(differing(whole, file, { ...graph, nodes: moved }), id);
+    const toe = graph.edges.find((it) => (fork.way === "east" ? it.east : it.west) === number);
+    assert.equal(differing(whole, file, { ...graph, edges: graph.edges.map((it) => (it === toe ? { ...it, track: "other" } : it)) }), id);
+});
+
+test("a signal on another piece of track is seen", () => {
+    const text = new TextDecoder().decode(kinds().find((it) => it.name === "numbered-ids-six-decimals")?.data), document = documentOf(text);
+    const file = { name: "", title: "", text, points: document.tracks().flatMap(points).map((it) => it.id), origins: new Map(), notes: [] };
+    const whole = new Walked(document).signals(), [id] = whole.keys(), pos = new RegExp(`(<signal id="${id}" pos=")[^"]*`);
+    assert.equal(elsewhere(whole, file), undefined);
+    assert.equal(elsewhere(whole, { ...file, text: text.replace(pos, "$11") }), id);
 });
 
 test("a stretch of kilometres, tracks by name, and what is in no file is said", () => {
     const { text, truth } = randomLine(5), document = documentOf(text);
     const part = cutLine(document, { range: { low: 0, high: 12e9 } });
     assert.ok(part.files[0].points.length > 0 && part.files[0].points.length < truth.size);
-    assert.match(part.said.join("\n"), new RegExp(`1 file with ${part.files[0].points.length} of ${truth.size} switches and crossings; in no file: `));
+    assert.match(part.said.join("\n"), new RegExp(
+        `1 file with ${part.files[0].points.length} of ${truth.size} switches and crossings; in no file: `));
     assert.deepEqual(cutLine(document, { tracks: ["nowhere"] }).said[0], "no track has the id or name nowhere");
     assert.deepEqual(cutLine(document, { range: { low: 0, high: 1 } }).files, []);
 });
 
 test("a station's title is its operational point's, its file's name has no sign of a path, and ends say where they lead", () => {
-    const seed = SEEDS.find((it) => randomLine(it).text.includes("ocpStationRef")) ?? 0, { files } = cutLine(documentOf(randomLine(seed).text), {});
+    const seed = SEEDS.find((it) => randomLine(it).text.includes("ocpStationRef")) ?? 0,
+        { files } = cutLine(documentOf(randomLine(seed).text), {});
     assert.deepEqual(files.map((it) => it.title).slice(0, 2), ["Station <0>", "Station <1>"]);
     assert.deepEqual(files.map((it) => it.name).slice(0, 2), ["S_0", "S_1"]);
     assert.ok(files[0].text.includes('name="to Station &lt;1&gt;"'), files[0].text);

@@ -164,8 +164,8 @@ test("a folder that cannot be written", (it) => {
 
 test("words that are too many", (it) => {
     const clone = new InClone(it), before = readdirSync(clone.top).sort();
-    for (const [line, said] of [["prepare a b c", "`c` is one name too many: ./railplan prepare IN OUT"],
-        ["prepare a --b c", "prepare has no option --b: ./railplan prepare IN OUT"],
+    for (const [line, said] of [["prepare a b c", "`c` is one name too many: ./railplan prepare IN OUT [OPTIONS]"],
+        ["prepare a --b c", "prepare has no option --b: ./railplan prepare IN OUT [OPTIONS]"],
         ["install a b", "`b` is one name too many: ./railplan install [PREFIX]"],
         ["install --prefix=here", "install has no option --prefix=here: ./railplan install [PREFIX]"],
         ["uninstall a b", "`b` is one name too many: ./railplan uninstall [PREFIX]"],

@@ -242,12 +242,17 @@ test("what is whole stays to the byte", () => {
 
 // ---- the command
 
+/** what the program prints of the tracks */
+const GRAPH = "railgraph 1\nnodes 4\nnode 0 ab end 100.000000\nnode 1 ae end 150.000000\nnode 2 w switch east upper 120.000000\n"
+    + "node 3 be end 129.000000\nedges 3\nedge 0 a 0 2\nedge 1 a 2 1\nedge 2 b 2 3\nabove 2 1\n";
+
 /** @param {(run: (source: string, out: string) => {status: number | null, said: string}, folder: string) => void} body */
 function inFolder(body) {
     const folder = mkdtempSync(`${tmpdir()}/railplan-`), script = `import { run } from `
         + `"${TOP}shell/terminal/prepare_command.js";
         import { read } from "${TOP}shell/both/words.js"; import { Ended } from "${TOP}shell/terminal/say.js";
-        try { process.exitCode = run(read(["prepare", ...process.argv.slice(1)])); }
+        const engine = { run: async () => ({ status: 0, output: Buffer.from(${JSON.stringify(GRAPH)}), wasStopped: false }) };
+        try { process.exitCode = await run(read(["prepare", ...process.argv.slice(1)]), async () => ({ engine })); }
         catch (error) { if (!(error instanceof Ended)) throw error; process.exitCode = error.status; }`;
     try {
         writeFileSync(`${folder}/s.xml`, TRACK);

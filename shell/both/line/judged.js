@@ -1,18 +1,27 @@
 /**
- * Whether a station's file says of each switch and crossing what the whole file says: the side of its legs, and which track and
- * which node lies above and below there. The whole file is read here; what the station's file says is the program's own track
- * graph of it.
+ * Whether a station's file says of each switch and crossing what the whole file says: the side of its legs, which track and
+ * which node lies above and below there and at the points, its mileage, and between which two each signal lies. The whole file
+ * is read here; what the station's file says is the program's own track graph of it.
  */
 import { MOST_BYTES } from "../file_kinds.js";
 import { readGraph } from "../page/texts.js";
+import { mileage, read } from "../railml.js";
+import { Walked } from "../surroundings.js";
 import { TrackGraph } from "../track_graph.js";
 
 /** @typedef {import("../page/texts.js").Graph} Graph */
 /** @typedef {import("./stations.js").StationFile} StationFile */
 /** @typedef {{track: string, node: string}} Leg a track, or a join's connection, and the node to which it leads */
 /**
- * @typedef {{way: "east" | "west", upper: Leg, lower: Leg}} Fork two tracks on one side of a node, the upper and the lower one
+ * @typedef {{way: "east" | "west", upper: Leg, lower: Leg, toe: Leg | null, mileage: number}} Fork two tracks on one side of a
+ *     node, the upper and the lower one; of a switch also what lies at its points; and the node's mileage
  */
+
+/** @typedef {{forks: Map<string, Fork[]>, signals: Map<string, string>}} Whole of the whole file the forks, and between which two each
+ * signal lies */
+
+/** two mileages of one node are no further apart, in metres */
+const SAME = 0.001;
 
 /**
  * The forks of each switch and crossing of a file, by its id.
@@ -23,14 +32,25 @@ export function forksOfFile(document) {
     const graph = new TrackGraph(document);
     /** @type {Map<string, Fork[]>} */
     const found = new Map();
+    const leg = (/** @type {number} */ number, /** @type {"east" | "west"} */ way) => {
+        const { name, east, west } = graph.edges[number];
+        return { track: name, node: (way === "east" ? east : west).id };
+    };
     for (const { node, way, upper, lower } of graph.forks) {
-        const [above, below] = [upper, lower].map((number) => {
-            const { name, east, west } = graph.edges[number];
-            return { track: name, node: (way === "east" ? east : west).id };
-        });
-        found.set(node.id, [...(found.get(node.id) ?? []), { way, upper: above, lower: below }]);
+        const back = way === "east" ? "west" : "east", points = graph.leaving[back].get(node.place) ?? [];
+        const toe = points.length === 1 ? leg(points[0], back) : null, at = mileage(node)?.toNumber() ?? NaN;
+        found.set(node.id, [...(found.get(node.id) ?? []), { way, upper: leg(upper, way), lower: leg(lower, way), toe, mileage: at }]);
     }
     return found;
+}
+
+/**
+ * What of a whole file each of its parts is held against.
+ * @param {import("../railml.js").Document} document
+ * @returns {Whole}
+ */
+export function wholeOf(document) {
+    return { forks: forksOfFile(document), signals: new Walked(document).signals() };
 }
 
 /**
@@ -41,13 +61,17 @@ export function forksOfFile(document) {
 export function forksOfGraph(graph) {
     /** @type {Map<string, Fork[]>} */
     const found = new Map();
-    for (const { number, name, kind } of graph.nodes) {
+    const leg = (/** @type {import("../page/texts.js").GraphEdge} */ it, /** @type {"east" | "west"} */ way) =>
+        ({ track: it.track, node: graph.nodes[way === "east" ? it.east : it.west].name });
+    for (const { number, name, kind, mileage: at } of graph.nodes) {
         for (const way of kind === "switch" || kind === "crossing" ? /** @type {const} */ (["west", "east"]) : []) {
             const legs = graph.edges.filter((it) => (way === "east" ? it.west : it.east) === number);
+            const back = graph.edges.filter((it) => (way === "east" ? it.east : it.west) === number);
             if (legs.length === 2) {
                 const [upper, lower] = graph.above.has(`${legs[0].number} ${legs[1].number}`) ? legs : [legs[1], legs[0]];
-                const [above, below] = [upper, lower].map((it) => ({ track: it.track, node: graph.nodes[way === "east" ? it.east : it.west].name }));
-                found.set(name, [...(found.get(name) ?? []), { way, upper: above, lower: below }]);
+                const toe = back.length === 1 ? leg(back[0], way === "east" ? "west" : "east") : null;
+                found.set(name, [...(found.get(name) ?? []),
+                    { way, upper: leg(upper, way), lower: leg(lower, way), toe, mileage: Number(at) }]);
             }
         }
     }
@@ -56,12 +80,15 @@ export function forksOfGraph(graph) {
 
 /**
  * Whether a leg is the same: of the same track, to the same node, if that one is in the file.
- * @param {Leg} whole
- * @param {Leg} here
+ * @param {Leg | null} whole
+ * @param {Leg | null} here
  * @param {StationFile} file
  * @param {Set<string>} inside
  */
 function isSame(whole, here, file, inside) {
+    if (!whole || !here) {
+        return whole === here;
+    }
     const origins = file.origins.get(here.track) ?? [here.track];
     return origins.includes(whole.track) && (!inside.has(whole.node) || whole.node === here.node);
 }
@@ -78,18 +105,33 @@ export function differing(whole, file, graph) {
         const wanted = whole.get(id) ?? [], found = here.get(id) ?? [];
         return wanted.length === 0 || wanted.length !== found.length || wanted.some((fork) => {
             const other = found.find((it) => it.way === fork.way);
-            return !other || !isSame(fork.upper, other.upper, file, inside) || !isSame(fork.lower, other.lower, file, inside);
+            return !other || Math.abs(fork.mileage - other.mileage) > SAME
+                || [fork.upper, fork.lower, fork.toe]
+                    .some((leg, at) => !isSame(leg, [other.upper, other.lower, other.toe][at], file, inside));
         });
     });
 }
 
 /**
+ * The first signal of a station's file that lies between other switches or crossings than in the whole file; nothing where all
+ * lie as there.
+ * @param {Map<string, string>} whole between which two each signal of the whole file lies
+ * @param {StationFile} file
+ */
+export function elsewhere(whole, file) {
+    const here = new Walked(read(new TextEncoder().encode(file.text))).signals(), inside = new Set(file.points);
+    return [...here].find(([id, ends]) => (whole.get(id) ?? "").split(" and ")
+        .some((name) => inside.has(name) && !ends.split(" and ").includes(name)))?.[0];
+}
+
+/**
  * A station's file judged by the program's own track graph of it.
  * @param {import("../engine.js").Engine} engine
- * @param {Map<string, Fork[]>} whole the forks of the whole file
+ * @param {Whole} whole
  * @param {StationFile} file
  * @param {AbortSignal} [signal]
- * @returns {Promise<{bytes: Uint8Array, reason: string, wasStopped: boolean}>} the file's bytes, and why it isn't known that each switch and
+ * @returns {Promise<{bytes: Uint8Array, reason: string, wasStopped: boolean}>} the file's bytes, and why it isn't known that each
+ * switch and
  *     crossing is there as in the whole file; "" where it is known
  */
 export async function judgedFile(engine, whole, file, signal) {
@@ -102,6 +144,8 @@ export async function judgedFile(engine, whole, file, signal) {
     if (status !== 0) {
         return { bytes, reason: `the program says of it: ${text.trim()}`, wasStopped };
     }
-    const other = differing(whole, file, readGraph(text));
-    return { bytes, reason: other === undefined ? "" : `it can't be shown that ${other} has the same legs and sides there`, wasStopped };
+    const other = differing(whole.forks, file, readGraph(text)), lost = elsewhere(whole.signals, file);
+    const reason = other !== undefined ? `it can't be shown that ${other} has the same legs, sides and mileage there`
+        : lost !== undefined ? `signal ${lost} would be on another piece of track` : "";
+    return { bytes, reason, wasStopped };
 }

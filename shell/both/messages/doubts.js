@@ -16,8 +16,8 @@ function listed(names, what) {
     return names.slice(0, SHOWN).join(", ") + (more > 0 ? ` and ${more} more ${what}` : "");
 }
 
-/** @param {Element} track @param {Element} it @returns {number | null} the mileage of what is between two places of a track */
-function between(track, it) {
+/** @param {Element} track @param {Element} it @returns {number | null} the mileage of what is between two places of a track, in metres */
+export function between(track, it) {
     const spots = spotsOf(track), at = railml.position(it);
     const behind = spots.findIndex((spot) => railml.position(spot).compare(at) >= 0);
     if (behind < 1) {

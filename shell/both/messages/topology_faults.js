@@ -429,7 +429,7 @@ export function outsideTrack(station, it, [id]) {
  * @param {Element} track @param {Element} it @param {Element} end
  * @returns {Decimal} 0 where another place is at the end or outside too
  */
-function roomAt(track, it, end) {
+export function roomAt(track, it, end) {
     const from = railml.position(end), isBegin = end.name === "trackBegin";
     const others = railml.placesOf(track).filter((other) => other !== it && other !== end)
         .map((other) => (isBegin ? railml.position(other).minus(from) : from.minus(railml.position(other))));
