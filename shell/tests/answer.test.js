@@ -7,11 +7,15 @@ import { test } from "node:test";
 import table from "../both/answer_fields.js";
 import { COMMANDS } from "../both/words.js";
 import { open } from "../index.js";
+import { Clone } from "../terminal/built.js";
+import { programThere } from "../terminal/programs.js";
 import { InClone, PLACE } from "./clones.js";
-import { TOP, edited, hasProgram, signs } from "./clone.js";
+import { TOP, edited, signs } from "./clone.js";
 
 /** @typedef {import("../both/answer.js").Answer} Answer */
 
+/** whether a program of these sources is there, with proofs or without */
+const hasProgram = await programThere(new Clone(TOP.replace(/\/$/, "")), false) !== null;
 const FIELDS = new Map(table.map(([path, type]) => [String(path), String(type)]));
 const TYPES = new Map([["text", "string"], ["number", "number"], ["yes or no", "boolean"], ["object", "object"]]);
 const examples = (/** @type {string} */ name) => readFileSync(`${TOP}examples/${name}`);
@@ -54,7 +58,7 @@ function gather(value, path, found) {
 }
 
 test("answers have the fields of the table, each of its type, and the table has no others", { skip: !hasProgram }, async () => {
-    const railplan = await open({ unproved: false }), files = new Map(FILES);
+    const railplan = await open(), files = new Map(FILES);
     /** @type {Map<string, Set<string>>} */
     const found = new Map();
     const seen = new Set();
@@ -111,7 +115,7 @@ test("the launcher prints the object that the module gives", { skip: !hasProgram
 });
 
 test("words of the launcher are refused, and a run is stopped", { skip: !hasProgram }, async () => {
-    const railplan = await open({ unproved: true }), stopped = AbortSignal.abort();
+    const railplan = await open(), stopped = AbortSignal.abort();
     for (const words of [["--html", "p", "draw", "one.xml"], ["folder", "a", "b"], ["--json", "draw", "one.xml"], ["draw", "--help"]]) {
         await assert.rejects(railplan.run(words, new Map(FILES)), TypeError);
     }
