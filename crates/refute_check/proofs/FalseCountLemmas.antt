@@ -1,27 +1,27 @@
 -- Counts of false literals: as the trail grows and shrinks, and as clauses are added.
-use Rattle.std.proofs.Common.{◌≡◌, ◌≢◌, ℕ, ◌+◌, ◌-◌, ◌<◌, ◌≤◌, ◌^◌, Bool, true, false, cond, nat_eq, zero, suc, List, [], ◌∷◌, ◌++◌, length, get_or, set, refl}
+use Rattle.std.proofs.Common.{◌≡◌, ◌≢◌, ℕ, ◌+◌, ◌-◌, ◌<◌, ◌≤◌, Bool, true, false, cond, nat_eq, zero, suc, List, [], ◌∷◌, ◌++◌, length, get_or, set, refl}
 use Rattle.std.proofs.Common.{sym, ◌∙◌, ap, subst, inl, inr, arith}
 use Rattle.std.specs.Prelude.{All, Contains}
 use Rattle.std.proofs.lemmas.Bool.Decides.{eqb_tells}
 use Rattle.std.proofs.lemmas.List.Elements.{All-weaker, All-nil, All-cons, All-from_get_or}
 use Rattle.std.proofs.lemmas.List.Sums.{sum_by-cons, count_by-le-length}
 use Rattle.cnf_core.specs.Lit.{Literal, negate, has}
-use Rattle.cnf_core.specs.Clause.{Clauses, Avoids, AreDistinct, AllDistinct, words_of}
+use Rattle.cnf_core.specs.Clause.{Clauses, Avoids, AreDistinct, AllDistinct}
 use Rattle.cnf_core.specs.Propagation.{LiteralSet}
 use Rattle.cnf_core.proofs.PropagationLemmas.{negate-negate, contains_from_has, has_from_contains, contains_later}
-use Rattle.cnf_core.proofs.ClauseLemmas.{distinct_at, words_at}
+use Rattle.cnf_core.proofs.ClauseLemmas.{distinct_at}
 use Rattle.cnf_core.proofs.TrailLemmas.{has_last, has_front, same_literal_or}
 use Rattle.plan_core.proofs.TruthFacts.{same_when}
 use Rattle.cnf_core.specs.Trail.{weight}
 use Rattle.cnf_core.specs.Times.{times}
 use Rattle.refute_check.specs.Entries.{is_short, is_counted, places_from}
-use Rattle.refute_check.specs.Tables.{CountedUp, false_count, AreCounts}
+use Rattle.refute_check.specs.Tables.{CountedUp, IsLong, false_count, AreCounts}
 use Rattle.refute_check.proofs.CountLemmas.{times_at}
 
 abbrev one_at : ℕ → ℕ → ℕ
 one_at n m = cond (nat_eq m n) 1 0
 
-times_cons : (m : ℕ) (ms : List ℕ) (n : ℕ) → times (m ∷ ms) n ≡ one_at n m + times ms n
+pub times_cons : (m : ℕ) (ms : List ℕ) (n : ℕ) → times (m ∷ ms) n ≡ one_at n m + times ms n
 times_cons m ms n = refl
 
 one_other : (n m : ℕ) → m ≢ n → one_at n m ≡ 0
@@ -185,7 +185,11 @@ all_named clauses l = All-from_get_or (IsNamed clauses l) (places_from 0 clauses
     let within : n < length clauses = places_there clauses l i 0 low in
     named_at clauses l n within (named_long clauses l n within (omega (arith, times_at (places_from 0 clauses l) i low))))
 
--- what counting up and down needs and leaves
+pub places_long : (clauses : Clauses) (l : Literal) → All (IsLong clauses) (places_from 0 clauses l)
+places_long clauses l = All-weaker (IsNamed clauses l) (IsLong clauses) (λ n h. record { within = h.within; long = h.long }) (places_from 0 clauses l)
+    (all_named clauses l)
+
+-- what counting down needs and leaves
 pub down_enough : (clauses : Clauses) (trail : List Literal) (l : Literal) (counts : List ℕ) → AllDistinct clauses → has trail l ≡ false →
     AreCounts clauses (has trail) counts → All (λ n. times (places_from 0 clauses (negate l)) n ≤ get_or counts n 0) (places_from 0 clauses (negate l))
 down_enough clauses trail l counts distinct none right = All-weaker (IsNamed clauses (negate l))
@@ -204,30 +208,6 @@ pub counts_down : (clauses : Clauses) (trail : List Literal) (l : Literal) (old 
     AreCounts clauses (has trail) old → length new ≡ length old → CountedUp (places_from 0 clauses (negate l)) new old →
     AreCounts clauses (has (trail ++ l ∷ [])) new
 counts_down clauses trail l old new distinct none right same up = record {
-  size = same ∙ right.size;
-  each = λ n within long. let h = named_at clauses (negate l) n within long in omega
-      (arith, up n, right.each n within long, h.once, false_more trail (get_or clauses n []) l (distinct_at clauses n distinct) none);
-}
-
-pub up_small : (clauses : Clauses) (trail : List Literal) (l : Literal) (counts : List ℕ) → AllDistinct clauses → has trail l ≡ false →
-    words_of clauses ≤ 268435456 → AreCounts clauses (has (trail ++ l ∷ [])) counts →
-    All (λ n. get_or counts n 0 + times (places_from 0 clauses (negate l)) n < 2 ^ 32) (places_from 0 clauses (negate l))
-up_small clauses trail l counts distinct none small right = All-weaker (IsNamed clauses (negate l))
-    (λ n. get_or counts n 0 + times (places_from 0 clauses (negate l)) n < 2 ^ 32)
-    (λ n h. omega (
-      arith,
-      right.each n h.within h.long,
-      h.once,
-      false_more trail (get_or clauses n []) l (distinct_at clauses n distinct) none,
-      words_at clauses
-          n,
-    ))
-    (places_from 0 clauses (negate l)) (all_named clauses (negate l))
-
-pub counts_up : (clauses : Clauses) (trail : List Literal) (l : Literal) (old new : List ℕ) → AllDistinct clauses → has trail l ≡ false →
-    AreCounts clauses (has (trail ++ l ∷ [])) old → length new ≡ length old → CountedUp (places_from 0 clauses (negate l)) old new →
-    AreCounts clauses (has trail) new
-counts_up clauses trail l old new distinct none right same up = record {
   size = same ∙ right.size;
   each = λ n within long. let h = named_at clauses (negate l) n within long in omega
       (arith, up n, right.each n within long, h.once, false_more trail (get_or clauses n []) l (distinct_at clauses n distinct) none);

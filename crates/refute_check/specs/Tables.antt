@@ -16,6 +16,21 @@ use Rattle.refute_check.specs.Entries.{is_short, shorts_from, places_from}
 abbrev pub CountedUp : List ℕ → List ℕ → List ℕ → Type 0
 CountedUp ns old new = (n : ℕ) → slice_index new n ≡ slice_index old n + times ns n
 
+-- a clause with this number is counted
+pub record IsLong (clauses : Clauses) (n : ℕ) : Type 0 where
+  pub within : n < length clauses
+  pub long : is_short (slice_index_or clauses n []) ≡ false
+
+-- from the counts of before one was taken for each time that a number is listed, and these are such clauses' numbers
+pub record AreTaken (clauses : Clauses) (taken counts before : List ℕ) : Type 0 where
+  pub up : CountedUp taken counts before
+  pub long : All (IsLong clauses) taken
+
+-- the second list has what was taken from any counts, where the first one has
+abbrev pub TakesMore : Clauses → List ℕ → List ℕ → List ℕ → List ℕ → Type 0
+TakesMore clauses taken counts more now = (before : List ℕ) → AreTaken clauses taken counts before
+    → AreTaken clauses more now before
+
 -- how many literals of the clause are false in the set
 abbrev pub false_count : LiteralSet → List Literal → ℕ
 false_count set c = count_by (λ k. set (negate k)) c

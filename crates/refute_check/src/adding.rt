@@ -7,6 +7,7 @@ ghost use Rattle.cnf_core.specs.Propagation.{Falsifies, Falsified, nothing};
 ghost use Rattle.cnf_core.specs.Trail.{IsTrail, marked, Grows};
 ghost use Rattle.refute_check.specs.Entries.{is_short, other_of, rest_of, with_entry};
 ghost use Rattle.refute_check.specs.Tables.{AreOccurrences, false_count, Lists, IsUnsetUnit, IsCountedTo, AreQuiet};
+ghost use Rattle.refute_check.specs.Tables.{TakesMore};
 ghost use Rattle.refute_check.specs.Settled.{AreSettled, IsListed};
 
 use crate::places::{Places, Rest};
@@ -148,6 +149,7 @@ impl Tables {
         ensures falsified { IfOk result (λ found. found ≡ true → Falsifies formula.now.clauses nothing) }
     {
         let reached = self.mark_and_propagate(formula, l)?;
+        self.taken.clear();
         Ok(reached.0)
     }
 
@@ -166,6 +168,8 @@ impl Tables {
         requires not_true { marked self.old.truth.items l ≡ false }
         requires not_false { marked self.old.truth.items (negate l) ≡ false }
         ensures same { OnOk result (self.new.occurrences.items ≡ self.old.occurrences.items) }
+        ensures taken { OnOk result (TakesMore formula.now.clauses self.old.taken.items self.old.counts.items
+            self.new.taken.items self.new.counts.items) }
         ensures on { IfOk result (λ r. length self.old.trail.items ≤ r.1) }
         ensures counted { IfOk result (λ r. IsCountedTo formula.now.vars formula.now.clauses self.new.truth.items
             self.new.trail.items self.new.counts.items r.1) }
@@ -181,6 +185,7 @@ impl Tables {
             formula,
             &self.occurrences,
             &mut self.counts,
+            &mut self.taken,
             &mut self.truth,
             &mut self.trail,
             level,

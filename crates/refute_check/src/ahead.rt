@@ -2,6 +2,9 @@
 use crate::places::Places;
 use cnf_core::Lit;
 
+/// Of so many literals at once the lists are read, so that the memory is waited for once.
+const GROUP: usize = 8;
+
 /// The lists of the negation of the trail's literal at this place, if there is one.
 fn lists_at<'a>(occurrences: &'a [Places], trail: &[Lit], at: usize) -> Option<&'a Places> {
     let l = trail.get(at)?;
@@ -16,38 +19,50 @@ fn read_lengths(occurrences: &[Places], trail: &[Lit], at: usize) -> usize {
     }
 }
 
-/// Reads how the list of longer clauses at a place begins.
-fn read_longer(occurrences: &[Places], trail: &[Lit], at: usize) -> usize {
-    match lists_at(occurrences, trail, at) {
-        Some(lists) => match lists.longer().first() {
-            Some(number) => *number as usize,
+/// Reads how the list of longer clauses begins and ends.
+fn read_longer(lists: &Places) -> usize {
+    let longer = lists.longer();
+    match longer.first() {
+        Some(number) => match longer.last() {
+            Some(other) => (*number ^ *other) as usize,
             None => 0,
         },
         None => 0,
     }
 }
 
-/// Reads how the list of short clauses at a place begins.
-fn read_shorts(occurrences: &[Places], trail: &[Lit], at: usize) -> usize {
-    match lists_at(occurrences, trail, at) {
-        Some(lists) => match lists.shorts().first() {
-            Some(rest) => rest.first.word() as usize,
+/// Reads how the list of short clauses begins and ends.
+fn read_shorts(lists: &Places) -> usize {
+    let shorts = lists.shorts();
+    match shorts.first() {
+        Some(rest) => match shorts.last() {
+            Some(other) => (rest.first.word() ^ other.first.word()) as usize,
             None => 0,
         },
         None => 0,
     }
 }
 
-/// Reads the lists that propagation comes to soon, behind the trail's literal at `front`. The answer says nothing; who
-/// keeps it makes sure that they are read.
+/// Reads how the lists at a place begin and end.
+fn read_lists(occurrences: &[Places], trail: &[Lit], at: usize) -> usize {
+    match lists_at(occurrences, trail, at) {
+        Some(lists) => read_shorts(lists) ^ read_longer(lists),
+        None => 0,
+    }
+}
+
+/// Reads the lists that propagation comes to soon, behind the trail's literal at `front`, for a group of literals where
+/// one begins. The answer says nothing; who keeps it makes sure that they are read.
 pub(crate) fn read_behind(occurrences: &[Places], trail: &[Lit], front: usize) -> usize {
-    let later = read_lengths(occurrences, trail, front.saturating_add(5));
-    let soon = front.saturating_add(2);
-    later ^ read_shorts(occurrences, trail, soon) ^ read_longer(occurrences, trail, soon)
-}
-
-/// Reads the lists that taking back comes to soon, before the trail's end. The answer is of the same kind.
-pub(crate) fn read_before(occurrences: &[Places], trail: &[Lit]) -> usize {
-    let later = read_lengths(occurrences, trail, trail.len().saturating_sub(6));
-    later ^ read_longer(occurrences, trail, trail.len().saturating_sub(3))
+    if front % GROUP != 0 {
+        return 0;
+    }
+    let mut found = 0;
+    for k in 0..GROUP {
+        found ^= read_lengths(occurrences, trail, front.saturating_add(2 * GROUP + k));
+    }
+    for k in 0..GROUP {
+        found ^= read_lists(occurrences, trail, front.saturating_add(GROUP + k));
+    }
+    found
 }

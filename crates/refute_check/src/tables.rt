@@ -1,9 +1,12 @@
 // The tables that propagation works on, between the lines of a log.
-ghost use Rattle.std.specs.Prelude.{◌≡◌, ◌≤◌, ◌<◌, ◌+◌, ◌*◌, [], true, false, OnOk, IfOk, length, take};
+ghost use Rattle.std.specs.Prelude.{◌≡◌, ◌≤◌, ◌<◌, ◌+◌, ◌*◌, ◌^◌, [], true, false, All, OnOk, IfOk, length, take};
+ghost use Rattle.std.specs.Prelude.{slice_index};
 ghost use Rattle.cnf_core.specs.Lit.{has};
 ghost use Rattle.cnf_core.specs.Clause.{AreThere, AreDistinct};
+ghost use Rattle.cnf_core.specs.Times.{times};
+ghost use Rattle.cnf_core.specs.Trail.{IsTrail};
 ghost use Rattle.cnf_core.specs.Propagation.{Falsifies, Rup, negations, IsClosure};
-ghost use Rattle.refute_check.specs.Tables.{IsCountedTo, AreOccurrences, AreQuiet, AreExplained};
+ghost use Rattle.refute_check.specs.Tables.{IsCountedTo, AreOccurrences, AreQuiet, AreExplained, CountedUp, TakesMore};
 ghost use Rattle.refute_check.specs.Settled.{AreSettled};
 
 use crate::assume::assume_false;
@@ -21,6 +24,8 @@ pub(crate) struct Tables {
     pub(crate) occurrences: Vec<Places>,
     /// By clause of one literal or of more than three, how many of its literals are not false.
     pub(crate) counts: Vec<u32>,
+    /// The numbers of the clauses from whose counts one was taken since the last line, as often as it was.
+    pub(crate) taken: Vec<u32>,
     /// By a literal's word, whether it is true.
     pub(crate) truth: Vec<bool>,
     /// The literals that are true, in the order in which they became so.
@@ -43,6 +48,7 @@ impl Tables {
         Ok(Tables {
             occurrences,
             counts: Vec::new(alloc),
+            taken: Vec::new(alloc),
             truth,
             trail: Vec::new(alloc),
             ahead: 0,
@@ -61,6 +67,8 @@ impl Tables {
         requires distinct { AreDistinct lits.now }
         ensures counted { IfOk result (λ r. IsCountedTo formula.now.vars formula.now.clauses self.new.truth.items
             self.new.trail.items self.new.counts.items r.1) }
+        ensures taken { OnOk result (TakesMore formula.now.clauses self.old.taken.items self.old.counts.items
+            self.new.taken.items self.new.counts.items) }
         ensures on { IfOk result (λ r. length self.old.trail.items ≤ r.1) }
         ensures front { OnOk result (take (length self.old.trail.items) self.new.trail.items ≡ self.old.trail.items) }
         ensures same { OnOk result (self.new.occurrences.items ≡ self.old.occurrences.items) }
@@ -82,6 +90,7 @@ impl Tables {
             formula,
             &self.occurrences,
             &mut self.counts,
+            &mut self.taken,
             &mut self.truth,
             &mut self.trail,
             level,
@@ -90,26 +99,26 @@ impl Tables {
         Ok(reached)
     }
 
-    /// Takes the trail back to its first `level` literals, of which `front` were counted.
-    pub(crate) fn take_back(&mut self, formula: &Formula, level: usize, front: usize)
-        requires counted { IsCountedTo formula.now.vars formula.now.clauses self.old.truth.items self.old.trail.items
-            self.old.counts.items front }
-        requires level { level ≤ front }
-        requires occurrences { AreOccurrences formula.now.vars formula.now.clauses self.old.occurrences.items }
-        ensures counted { IsCountedTo formula.now.vars formula.now.clauses self.new.truth.items self.new.trail.items
-            self.new.counts.items level }
+    /// Takes the trail back to its first `level` literals, and gives the counts back what was taken from them.
+    pub(crate) fn take_back(&mut self, vars: u32, level: usize)
+        requires trail { IsTrail vars self.old.truth.items self.old.trail.items }
+        requires there { All (λ n. n < length self.old.counts.items) self.old.taken.items }
+        requires small { All (λ n. slice_index self.old.counts.items n + times self.old.taken.items n < 2 ^ 32)
+            self.old.taken.items }
+        ensures trail { IsTrail vars self.new.truth.items self.new.trail.items }
         ensures rest { self.new.trail.items ≡ take level self.old.trail.items }
+        ensures counts { CountedUp self.old.taken.items self.old.counts.items self.new.counts.items }
+        ensures size { length self.new.counts.items ≡ length self.old.counts.items }
+        ensures untaken { self.new.taken.items ≡ [] }
         ensures same { self.new.occurrences.items ≡ self.old.occurrences.items }
     {
         undo(
-            formula,
-            &self.occurrences,
             &mut self.counts,
+            &mut self.taken,
             &mut self.truth,
             &mut self.trail,
+            vars,
             level,
-            front,
-            &mut self.ahead,
         );
     }
 
@@ -123,8 +132,8 @@ impl Tables {
         ensures no { IfOk result (λ b. b ≡ false → Rup formula.now.clauses lits.now → ⊥) }
     {
         let level = self.trail.len();
-        let (falsified, front) = self.suppose(formula, lits)?;
-        self.take_back(formula, level, front);
+        let (falsified, _) = self.suppose(formula, lits)?;
+        self.take_back(formula.vars(), level);
         Ok(falsified)
     }
 }

@@ -1,70 +1,44 @@
 // Taking assumptions back.
-ghost use Rattle.std.specs.Prelude.{◌≡◌, ◌≤◌, ◌<◌, ◌+◌, ◌*◌, length, take, option_to_list, ◌++◌, ◌∷◌, []};
+ghost use Rattle.std.specs.Prelude.{◌≡◌, ◌<◌, ◌+◌, ◌^◌, [], All, length, take, slice_index};
+ghost use Rattle.cnf_core.specs.Times.{times};
 ghost use Rattle.cnf_core.specs.Trail.{IsTrail};
-ghost use Rattle.refute_check.specs.Tables.{IsCountedTo, AreOccurrences};
+ghost use Rattle.refute_check.specs.Tables.{CountedUp};
 
-use crate::ahead::read_before;
 use crate::counts::count_up;
-use crate::places::Places;
 use crate::trail::unmark_last;
-use cnf_core::{Formula, Lit};
+use cnf_core::Lit;
 
-/// Takes off the trail what isn't counted yet.
-fn drop_uncounted(truth: &mut [bool], trail: &mut Vec<Lit>, vars: u32, front: usize)
+/// Takes off the trail what came after its first `level` literals.
+fn unmark_behind(truth: &mut [bool], trail: &mut Vec<Lit>, vars: u32, level: usize)
     requires trail { IsTrail vars truth.old trail.old.items }
     ensures trail { IsTrail vars truth.new trail.new.items }
-    ensures rest { trail.new.items ≡ take front trail.old.items }
+    ensures rest { trail.new.items ≡ take level trail.old.items }
 {
-    while trail.len() > front {
+    while trail.len() > level {
         unmark_last(truth, trail, vars);
     }
 }
 
-/// Takes the latest literal off a trail that is counted whole.
-fn step_back(
-    formula: &Formula,
-    occurrences: &[Places],
-    counts: &mut [u32],
-    truth: &mut [bool],
-    trail: &mut Vec<Lit>,
-)
-    requires occurrences { AreOccurrences formula.now.vars formula.now.clauses occurrences.now }
-    requires counted { IsCountedTo formula.now.vars formula.now.clauses truth.old trail.old.items counts.old
-        (length trail.old.items) }
-    requires some { 1 ≤ length trail.old.items }
-    ensures counted { IsCountedTo formula.now.vars formula.now.clauses truth.new trail.new.items counts.new
-        (length trail.new.items) }
-    ensures shorter { length trail.new.items + 1 ≡ length trail.old.items }
-    ensures rest { trail.new.items ≡ take (length trail.new.items) trail.old.items }
-{
-    let vars = formula.vars();
-    if let Some(l) = unmark_last(truth, trail, vars) {
-        let places = &occurrences[l.negated().word() as usize];
-        count_up(places.longer(), counts);
-    }
-}
-
-/// Takes off the trail all that came after its first `level` literals, of which `front` were
-/// counted. What is read ahead goes into `ahead`.
+/// Takes off the trail all that came after its first `level` literals, and gives the counts back what was taken from
+/// them.
 pub(crate) fn undo(
-    formula: &Formula,
-    occurrences: &[Places],
     counts: &mut [u32],
+    taken: &mut Vec<u32>,
     truth: &mut [bool],
     trail: &mut Vec<Lit>,
+    vars: u32,
     level: usize,
-    front: usize,
-    ahead: &mut usize,
 )
-    requires occurrences { AreOccurrences formula.now.vars formula.now.clauses occurrences.now }
-    requires counted { IsCountedTo formula.now.vars formula.now.clauses truth.old trail.old.items counts.old front }
-    requires level { level ≤ front }
-    ensures counted { IsCountedTo formula.now.vars formula.now.clauses truth.new trail.new.items counts.new level }
+    requires trail { IsTrail vars truth.old trail.old.items }
+    requires there { All (λ n. n < length counts.old) taken.old.items }
+    requires small { All (λ n. slice_index counts.old n + times taken.old.items n < 2 ^ 32) taken.old.items }
+    ensures trail { IsTrail vars truth.new trail.new.items }
     ensures rest { trail.new.items ≡ take level trail.old.items }
+    ensures counts { CountedUp taken.old.items counts.old counts.new }
+    ensures size { length counts.new ≡ length counts.old }
+    ensures untaken { taken.new.items ≡ [] }
 {
-    drop_uncounted(truth, trail, formula.vars(), front);
-    while trail.len() > level {
-        *ahead ^= read_before(occurrences, trail);
-        step_back(formula, occurrences, counts, truth, trail);
-    }
+    unmark_behind(truth, trail, vars, level);
+    count_up(taken, counts);
+    taken.clear();
 }

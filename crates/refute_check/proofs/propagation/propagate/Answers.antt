@@ -6,15 +6,17 @@ use Rattle.refute_check.proofs.AdvanceLemmas.{propagated_none, propagated_more}
 use Rattle.refute_check.proofs.propagation.propagate.Goals as goal
 
 pub loop-front-init : goal.loop-front-init
-loop-front-init c = propagated_none c.args.formula.now.vars c.args.formula.now.clauses c.args.trail.now.items c.args.truth.now c.args.counts.now c.args.from
-    c.requires.counted c.requires.quiet
+loop-front-init c = propagated_none c.args.formula.now.vars c.args.formula.now.clauses c.args.trail.now.items c.args.truth.now c.args.counts.now
+    c.args.taken.now.items c.args.from c.requires.counted c.requires.quiet
 
 pub loop-front-preserved : goal.loop-front-preserved
 loop-front-preserved c =
     let next = c.in_ok-found.ensures.next c.if-found.false in
     rw next (propagated_more c.args.formula.now.vars c.args.formula.now.clauses c.args.trail.now.items c.loop-front.trail.items c.advance.new.trail.items
-    c.loop-front.truth c.advance.new.truth c.loop-front.counts c.advance.new.counts c.args.from c.loop-front.front
-    c.loop-front.invariant (rw next at c.in_ok-found.ensures.counted) (c.in_ok-found.ensures.quiet c.if-found.false) c.in_ok-found.ensures.grows)
+    c.loop-front.truth c.advance.new.truth c.args.counts.now c.args.taken.now.items c.loop-front.counts c.loop-front.taken.items c.advance.new.counts
+    c.advance.new.taken.items c.args.from c.loop-front.front
+    c.loop-front.invariant (rw next at c.in_ok-found.ensures.counted) (c.in_ok-found.ensures.quiet c.if-found.false) c.in_ok-found.ensures.grows
+    c.in_ok-found.ensures.taken)
 
 pub loop-front-smaller : goal.loop-front-smaller
 loop-front-smaller c =
@@ -54,3 +56,9 @@ returns-clause-grows c = c.loop-front.invariant.grows
 
 pub returns-clause-falsified : goal.returns-clause-falsified
 returns-clause-falsified c = λ e. absurd (false≢true e)
+
+pub returns-then-found-clause-taken : goal.returns-then-found-clause-taken
+returns-then-found-clause-taken c = λ before h. c.in_ok-found.ensures.taken before (let p = c.loop-front.invariant in p.taken before h)
+
+pub returns-clause-taken : goal.returns-clause-taken
+returns-clause-taken c = c.loop-front.invariant.taken

@@ -8,6 +8,7 @@ returns c =
     var_added c.args.formula.now.vars c.args.formula.now.clauses c.args.self.now (record {
       occurrences = c.push-2.new.self;
       counts = c.args.self.now.counts;
+      taken = c.args.self.now.taken;
       truth = c.push-4.new.self;
       trail = c.args.self.now.trail;
       ahead = c.args.self.now.ahead;
@@ -17,4 +18,4 @@ returns c =
     c.in_ok-push.ensures.items c.in_ok-push-2.ensures.items c.new.ensures c.new-2.ensures)
     (pushed_twice c.args.self.now.truth.items c.push-3.new.self.items c.push-4.new.self.items false false false c.in_ok-push-3.ensures.items
     c.in_ok-push-4.ensures.items refl refl)
-    refl refl
+    refl refl refl

@@ -14,8 +14,9 @@ returns c =
     listed c.args.formula.now.vars clauses c.args.lits.now c.count_open-count.result c.args.self.now (record {
       occurrences = c.list_clause.new.occurrences;
       counts = c.push.new.self;
+      taken = c.args.self.now.taken;
       truth = c.args.self.now.truth;
       trail = c.args.self.now.trail;
       ahead = c.args.self.now.ahead;
     })
-    c.requires.settled lists count c.in_ok-push.ensures.items refl refl
+    c.requires.settled lists count c.in_ok-push.ensures.items refl refl refl

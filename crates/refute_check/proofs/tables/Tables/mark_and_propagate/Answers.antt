@@ -2,6 +2,7 @@ use Rattle.std.proofs.Common.{◌≡◌, ◌∙◌, List, arith, length, subst, 
 use Rattle.cnf_core.specs.Lit.{Literal}
 use Rattle.cnf_core.specs.Trail.{IsTrail, Grows}
 use Rattle.refute_check.proofs.SupposeLemmas.{written_back}
+use Rattle.refute_check.proofs.TakenLemmas.{takes_written}
 use Rattle.refute_check.proofs.AddLemmas.{unit_counted}
 use Rattle.refute_check.proofs.tables.Tables.mark_and_propagate.Goals as goal
 
@@ -39,3 +40,10 @@ returns-clause-all c = c.in_ok-reached.ensures.all
 
 pub returns-clause-quiet : goal.returns-clause-quiet
 returns-clause-quiet c = c.in_ok-reached.ensures.quiet
+
+pub returns-clause-taken : goal.returns-clause-taken
+returns-clause-taken c =
+    let size : length c.propagate.new.counts ≡ c.args.self.now.counts.len = c.propagate.auto.counts ∙ c.deref_mut-2.ensures.len in
+    takes_written c.args.formula.now.clauses c.args.self.now.taken.items c.args.self.now.counts.items c.deref_mut-2.result.now c.propagate.new.taken.items
+    c.propagate.new.counts (drop (length c.propagate.new.counts) c.args.self.now.counts.items) c.args.self.now.counts.len c.in_ok-reached.ensures.taken
+    c.deref_mut-2.ensures.value size

@@ -19,9 +19,18 @@ pub returns-clause-settled : goal.returns-clause-settled
 returns-clause-settled c = λ f.
     let u = unset_by_marks c.args.formula.now.vars c.args.self.now.truth.items c.args.self.now.trail.items c.args.lits.now c.args.l
     c.requires.listed.counted.table c.requires.unset in
-    settled_unit c.args.formula.now.vars c.args.formula.now.clauses c.args.lits.now c.args.l c.args.self.now c.mark_and_propagate.new.self
+    let new = c.mark_and_propagate.new.self in
+    settled_unit c.args.formula.now.vars c.args.formula.now.clauses c.args.lits.now c.args.l c.args.self.now (record {
+      occurrences = new.occurrences;
+      counts = new.counts;
+      taken = c.clear.new.self;
+      truth = new.truth;
+      trail = new.trail;
+      ahead = new.ahead;
+    })
     c.in_ok-reached.reached.1 c.requires.listed u
     c.in_ok-reached.ensures.same c.in_ok-reached.ensures.counted c.in_ok-reached.ensures.grows (c.in_ok-reached.ensures.all f) (c.in_ok-reached.ensures.quiet f)
+    c.clear.ensures.items
 
 pub returns-clause-falsified : goal.returns-clause-falsified
 returns-clause-falsified c = λ t.

@@ -2,6 +2,7 @@ use Rattle.std.proofs.Common.{◌≡◌, ◌∙◌, arith, length, subst, drop}
 use Rattle.cnf_core.specs.Trail.{IsTrail}
 use Rattle.refute_check.proofs.SupposeLemmas.{assumed_counted, assumed_quiet, clash_falsifies, supposed_falsifies, supposed_closure, supposed_front}
 use Rattle.refute_check.proofs.SupposeLemmas.{written_back}
+use Rattle.refute_check.proofs.TakenLemmas.{takes_written}
 use Rattle.refute_check.proofs.NoveltyLemmas.{supposed_reasoned}
 use Rattle.refute_check.proofs.tables.Tables.suppose.Goals as goal
 
@@ -48,3 +49,13 @@ returns-clause-closed c = λ f. supposed_closure c.args.formula.now.clauses c.ar
 pub returns-clause-reasoned : goal.returns-clause-reasoned
 returns-clause-reasoned c = λ _. supposed_reasoned c.args.formula.now.clauses c.args.self.now.trail.items c.assume_false.new.trail.items
     c.propagate.new.trail.items c.args.lits.now c.requires.settled.reasoned c.in_ok-clash.ensures.assumes c.in_ok-reached.ensures.grows
+
+pub returns-then-clash-clause-taken : goal.returns-then-clash-clause-taken
+returns-then-clash-clause-taken c = λ _ h. h
+
+pub returns-clause-taken : goal.returns-clause-taken
+returns-clause-taken c =
+    let size : length c.propagate.new.counts ≡ c.args.self.now.counts.len = c.propagate.auto.counts ∙ c.deref_mut-2.ensures.len in
+    takes_written c.args.formula.now.clauses c.args.self.now.taken.items c.args.self.now.counts.items c.deref_mut-2.result.now c.propagate.new.taken.items
+    c.propagate.new.counts (drop (length c.propagate.new.counts) c.args.self.now.counts.items) c.args.self.now.counts.len c.in_ok-reached.ensures.taken
+    c.deref_mut-2.ensures.value size
