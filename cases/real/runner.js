@@ -13,6 +13,7 @@ import { NativeEngine } from "../../shell/terminal/native_engine.js";
 import { habits } from "./habits.js";
 import { judged } from "./judged.js";
 import { kinds } from "./kinds.js";
+import { kinds3 } from "./kinds3.js";
 import { remedied } from "./remedies.js";
 
 /** @typedef {import("./kinds.js").Kind} Kind */
@@ -161,7 +162,7 @@ function word({ isDrawn, wrong, fault }) {
     return isDrawn ? (wrong.length ? "drawn otherwise" : "drawn") : `refused: ${fault.split(" ")[2] ?? fault}`;
 }
 
-const all = [...kinds(), ...habits()].filter((it) => it.name.includes(part));
+const all = [...kinds(), ...habits(), ...kinds3()].filter((it) => it.name.includes(part));
 /** @type {Result[]} */
 const results = new Array(all.length);
 let next = 0;

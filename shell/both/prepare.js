@@ -9,6 +9,7 @@ import { mendEnds, mendLegs, mendOutside } from "./mending/places.js";
 import { mendIds, mendRefs } from "./mending/names.js";
 import { mendJoins } from "./mending/joins.js";
 import { mendMileages, mendNumbers, mendOffsets, noteLacking } from "./mending/numbers.js";
+import { mendRailml3 } from "./railml3/prepared.js";
 import { mendDoctype, mendEncoding, mendPrefix, refuseNoXml, refuseRoot, refuseText } from "./mending/texts.js";
 import { Guess, Prepared, Unfit } from "./mending/prepared.js";
 
@@ -23,15 +24,16 @@ export const MARK = "prepared by railplan; no part of what is proved";
  * joined are to have one mileage; and from where the producer sees hands */
 
 /** @type {Map<string, Step>} what makes each kind of change */
-const STEPS = new Map([["encoding", mendEncoding], ["doctype", mendDoctype], ["prefix", mendPrefix], ["numbers", mendNumbers],
+const STEPS = new Map([["encoding", mendEncoding], ["doctype", mendDoctype], ["railml3", mendRailml3],
+    ["prefix", mendPrefix], ["numbers", mendNumbers],
     ["offsets", mendOffsets], ["ids", mendIds], ["refs", mendRefs], ["ends", mendEnds], ["legs", mendLegs], ["outside", mendOutside],
     ["mileages", mendMileages], ["joins", mendJoins]]);
 /** the kinds that change more than texts and mileages */
-export const STRUCTURAL = ["ids", "refs", "ends", "legs", "outside", "joins"];
+export const STRUCTURAL = ["railml3", "ids", "refs", "ends", "legs", "outside", "joins"];
 /** @type {Map<string, Step>} what --hands takes */
 export const HANDS = new Map([["along", exchangeIncoming], ["radii", takeRadii]]);
 /** @type {(Step | string)[]} in which order a file is looked at and changed; the words are kinds, or what has to be asked for */
-const ORDER = [refuseNoXml, "encoding", refuseText, "doctype", "prefix", refuseRoot, noteSource, "numbers", "offsets", "ids", "refs",
+const ORDER = [refuseNoXml, "encoding", refuseText, "doctype", "railml3", "prefix", refuseRoot, noteSource, "numbers", "offsets", "ids", "refs",
     "ends", "legs", "outside",
     "--one-km", "mileages", "joins", "--hands", noteLacking];
 

@@ -45,3 +45,29 @@ test("offsets, and elements beside tracks", () => {
         "absPosOffset isn't read: add it to absPos. Write absPos=\"1050\" at the end of track m, and leave "
             + "absPosOffset out"]);
 });
+
+test("kilometres that jump on one of several tracks", () => {
+    const changes = "<mileageChanges><mileageChange id=\"x\" pos=\"AT\" absPos=\"9\"/></mileageChanges></trackTopology>";
+    const of = (/** @type {string} */ at) => said(track("m", "0", "1000") + track("n", "1000",
+        "2000").replace("</trackTopology>",
+        changes.replace("AT", at))).filter((it) => it.includes("jump"));
+    assert.deepEqual(of("500"), ["the kilometres of track n jump (mileageChange). Against other tracks these may be in "
+        + "another order than on "
+        + "the ground: the end of track n"]);
+    assert.deepEqual(of("0"), []);
+});
+
+test("mileages in kilometres beside positions in metres", () => {
+    assert.deepEqual(said(track("m", "1", "2")), ["by absPos all tracks together are 1 m long, and by pos 1000 m. Both are "
+        + "read as metres: "
+        + "is one of them in kilometres?"]);
+    assert.deepEqual(said(track("m", "0", "1400")), []);
+});
+
+test("a crossing of a type that isn't known", () => {
+    const of = (/** @type {string} */ type) => said(track("m", "0", "1000").replace("</trackTopology>",
+        `<connections><crossing id="k" pos="5"${type}/></connections></trackTopology>`));
+    assert.deepEqual(of(" type=\"singleSwitchCrossing\""),
+        ["k is a crossing of the type singleSwitchCrossing; it is drawn as a plain one, without slips if it has any"]);
+    assert.deepEqual([...of(" type=\"simpleCrossing\""), ...of("")], []);
+});

@@ -3,15 +3,17 @@ import assert from "node:assert/strict";
 import { test } from "node:test";
 import { habits } from "../../cases/real/habits.js";
 import { kinds } from "../../cases/real/kinds.js";
+import { kinds3 } from "../../cases/real/kinds3.js";
 import { judge } from "../both/mending/judge.js";
 import { HANDS, mended } from "../both/prepare.js";
 import { KINDS, OWN_OPTIONS } from "../both/words.js";
 
-const FILES = new Map([...kinds(), ...habits()].map((it) => [it.name, it]));
+const FILES = new Map([...kinds(), ...habits(), ...kinds3()].map((it) => [it.name, it]));
 /** @type {[string, string, RegExp][]} a file that has each kind of change, and what is said of it */
 const CHANGES = [
     ["encoding", "windows-1252", /^windows-1252 is written as UTF-8$/],
     ["doctype", "doctype", /^s\.xml:2:1: the DOCTYPE is taken out/],
+    ["railml3", "railML-3-loop", /^railML 3\.2 is written as railML 2\.2: 13 net elements, 7 switches\. railML 3 was tried on files/],
     ["prefix", "two-namespaces-and-elements", /^the prefix own: is given to 6 elements of the namespace http:\/\/www\.producer\.com\/ext/],
     ["prefix", "prefix", /^the prefix rail: is taken off \d+ elements$/],
     ["numbers", "exponents", /absPos="1\.20000000e\+4" of the begin of track tr_1 is written as 12000$/],

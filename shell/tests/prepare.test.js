@@ -222,12 +222,15 @@ test("what is no railML 2", () => {
             + "first"],
         [latin1("PK\x03\x04\xff"), "this file is a packed archive. Unpack it, and name the railML file in it"],
         [bytes("name;km\n"), "this file is no XML"],
-        [bytes("<?xml version=\"1.0\"?>\n<railML version=\"3.1\"/>"), "s.xml:2:1: this is railML 3, which isn't read"],
-        [bytes("<r:railML xmlns:r=\"x\"><r:infrastructure/></r:railML>"), "s.xml:1:1: this is railML 3, which isn't read"],
         [bytes("<timetable/>"), "the first element is timetable, so the file isn't railML 2"]])) {
         assert.ok(mended(data).unfit.includes(said), mended(data).unfit);
     }
     assert.equal(mended(TRACK).unfit, "");
+    for (const text of ["<railML version=\"3.1\"/>", "<r:railML xmlns:r=\"x\"><r:infrastructure/></r:railML>"]) {
+        assert.deepEqual(mended(text).guesses, ["this is railML 3, and has no net elements (topology) of which tracks could be made"]);
+    }
+    const left = prepared("s.xml", bytes("<railML version=\"3.1\"/>"), "railplan", { without: ["railml3"] });
+    assert.match(left.unfit, /^s\.xml:1:1: this is railML 3, which isn't read as it is\. /);
 });
 
 test("what is whole stays to the byte", () => {
@@ -282,8 +285,8 @@ test("what prepare wrote is written over, and nothing where something lacks", ()
     assert.deepEqual([status, existsSync(`${folder}/none.xml`)], [1, false]);
     assert.match(said, /has no course[^]*railplan: nothing is written: 1 thing would have to be guessed\n$/);
     writeFileSync(`${folder}/three.xml`, "<railML version=\"3.1\"/>");
-    assert.deepEqual(run("three.xml", "none.xml"), { status: 1, said: "railplan: three.xml:1:1: this is railML 3, which isn't "
-        + "read. Export the infrastructure as railML 2\nrailplan: nothing is written\n" });
+    assert.deepEqual(run("three.xml", "none.xml"), { status: 1, said: "railplan: this is railML 3, and has no net "
+        + "elements (topology) of which tracks could be made\nrailplan: nothing is written: 1 thing would have to be guessed\n" });
 }));
 
 test("what isn't replaced, and what can't be read", () => inFolder((run, folder) => {

@@ -1,5 +1,6 @@
 /** Hands that a producer sees otherwise than they are read. They are changed only where somebody asks for it. */
 import * as railml from "../railml.js";
+import { Guess } from "./prepared.js";
 
 /** @typedef {import("./prepared.js").Prepared} Prepared */
 /** @typedef {import("../railml.js").Element} Element */
@@ -32,8 +33,16 @@ function exchanging(it, point) {
     return [it.edits.setting(found.of, found.name, OTHER.get(found.hand) ?? "")];
 }
 
+/** @param {Prepared} it refuses railML 3, whose branches are left and right by themselves */
+function refuseRailml3(it) {
+    if (it.known) {
+        throw new Guess("railML 3 says itself which branch lies left (leftBranch, rightBranch), from wherever one sees it: leave --hands out");
+    }
+}
+
 /** @param {Prepared} it exchanges the hands of incoming switches: the producer sees them along the track, and not from the points */
 export function exchangeIncoming(it) {
+    refuseRailml3(it);
     const incoming = switchesOf(it.document).filter((point) => point.named("connection")[0]?.attributes.get("orientation") === "incoming");
     it.replace(incoming.flatMap((point) => exchanging(it, point)));
     if (incoming.length) {
@@ -57,6 +66,7 @@ export function isWider(point) {
 
 /** @param {Prepared} it writes the hand that the radii say, where track and branch of a switch turn to one hand */
 export function takeRadii(it) {
+    refuseRailml3(it);
     it.replace(switchesOf(it.document).filter(isWider).flatMap((point) => {
         it.changed(point, `the hand of switch ${point.id} is exchanged: by its radii the branch is the wider curve of two to one hand, `
             + "so it lies to the other");

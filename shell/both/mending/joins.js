@@ -1,7 +1,7 @@
 /**
  * Tracks that a producer cuts at each switch, joined into one: where two tracks end at each other and a switch or crossing is at
  * that very place, it is at the end of a track, and no piece of track leads on from it. The parts become one track, counted on
- * from the first one; a part that is counted the other way is turned for it, with all that stands at it.
+ * from the first one; a part that is counted the other way is turned for it, with all that is at it.
  */
 import { Decimal } from "../decimal.js";
 import * as railml from "../railml.js";

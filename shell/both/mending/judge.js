@@ -7,9 +7,9 @@ import { readGraph } from "../page/texts.js";
 import * as railml from "../railml.js";
 import { surroundingsOfGraph, Walked } from "../surroundings.js";
 import { asRead } from "./numbers.js";
+import { Prepared } from "./prepared.js";
 
 /** @typedef {import("../engine.js").Engine} Engine */
-/** @typedef {import("./prepared.js").Prepared} Prepared */
 /** @typedef {import("../page/texts.js").Graph} Graph */
 
 /** so far a switch may be moved, in metres */
@@ -18,13 +18,14 @@ const MEASURED = [...railml.ENDS, ...railml.POINTS, "signal"];
 
 /** @param {Prepared} it @param {Graph} graph @returns {string} the first switch or crossing that isn't as it was, with why */
 function differing(it, graph) {
-    const source = /** @type {railml.Document} */ (it.source), old = (/** @type {string} */ id) => it.renamed.get(id) ?? id;
+    const old = (/** @type {string} */ id) => it.renamed.get(id) ?? id;
     const here = new Map([...surroundingsOfGraph(graph, it.made)].map(([id, around]) => [old(id), around.map(old).join(", ")]));
-    const there = new Walked(source).all();
-    for (const [id, around] of there) {
-        const [toe, ...legs] = around, wanted = (it.exchanged.has(id) ? [toe, ...legs.reverse()] : around).join(", ");
-        if (here.get(id) !== wanted) {
-            return `${id} has ${wanted} around it in the file, and ${here.get(id) ?? "isn't there"} in what would be written`;
+    const there = it.known?.around ?? new Map([...new Walked(/** @type {railml.Document} */ (it.source)).all()]
+        .map(([id, around]) => [id, [around]]));
+    for (const [id, ways] of there) {
+        const wanted = ways.map(([toe, ...legs]) => [toe, ...it.exchanged.has(id) ? legs.reverse() : legs].join(", "));
+        if (!wanted.includes(here.get(id) ?? "")) {
+            return `${id} has ${wanted.join(" or ")} around it in the file, and ${here.get(id) ?? "isn't there"} in what would be written`;
         }
     }
     return here.size === there.size ? "" : "there would be other switches or crossings";
@@ -40,24 +41,60 @@ function givenOf(document) {
 
 /** @param {Prepared} it @param {Graph} graph @returns {string} the first switch, crossing or signal that is elsewhere */
 function elsewhere(it, graph) {
-    const source = /** @type {railml.Document} */ (it.source), given = givenOf(source), written = givenOf(it.document);
+    const source = /** @type {railml.Document} */ (it.source), given = it.known?.given ?? givenOf(source), written = givenOf(it.document);
+    const ends = it.known?.signals ?? new Walked(source).signals();
     const old = (/** @type {string} */ id) => it.renamed.get(id) ?? id;
     const points = graph.nodes.filter((node) => node.kind === "switch" || node.kind === "crossing")
         .map((node) => /** @type {const} */ ([old(node.name), Number(node.mileage)]));
-    const signals = source.tracks().flatMap(railml.signals).map((signal) => /** @type {const} */ ([signal.id, written.get(signal.id)]));
+    const signals = [...ends.keys()].map((id) => /** @type {const} */ ([id, written.get(id)]));
     const moved = it.isRecounted ? undefined : [...points, ...signals]
         .find(([id, at]) => given.has(id) && Math.abs(Number(given.get(id)) - Number(at)) > MOVED);
     if (moved) {
         return `${moved[0]} would be at another mileage, ${moved[1]}`;
     }
     const now = new Walked(it.document).signals();
-    for (const [id, ends] of new Walked(source).signals()) {
+    for (const [id, between] of ends) {
         const here = now.get(id)?.split(" and ").map((name) => it.made.get(name) ?? old(name));
-        if (here?.every((name) => !ends.split(" and ").includes(name))) {
+        if (!here || here.every((name) => !between.split(" and ").includes(name))) {
             return `signal ${id} would be on another piece of track`;
         }
     }
     return "";
+}
+
+/**
+ * The first switch or crossing of what is mended that isn't as it was, by readings of both files: for a file that is too large for the
+ * program, in which no three-way switch was written as two.
+ * @param {Prepared} it
+ * @returns {string} "" where all are as they were
+ */
+export function otherInFile(it) {
+    const old = (/** @type {string} */ id) => it.renamed.get(id) ?? id;
+    const here = new Map([...new Walked(it.document).all()].map(([id, around]) => [old(id), around.map(old).join(", ")]));
+    const there = [...new Walked(/** @type {railml.Document} */ (it.source)).all()];
+    const other = there.find(([id, around]) => here.get(id) !== around.join(", "));
+    return other ? other[0] : here.size === there.length ? "" : "a switch that wasn't there";
+}
+
+/** @typedef {Pick<Prepared, "known" | "renamed" | "made" | "isRebuilt">} Kept what a file that is mended elsewhere is to be judged by */
+
+/**
+ * What to keep of a file that is judged where it wasn't mended, as a worker hands it on.
+ * @param {Prepared} it
+ * @returns {Kept}
+ */
+export function toJudge({ known, source, renamed, made, isRebuilt }) {
+    return { known: known ?? (source && knownOfFile(source)), renamed, made, isRebuilt };
+}
+
+/**
+ * What a file says of each switch and crossing, kept without the file.
+ * @param {railml.Document} source
+ * @returns {import("../railml3/around.js").Known}
+ */
+function knownOfFile(source) {
+    const walked = new Walked(source);
+    return { around: new Map([...walked.all()].map(([id, around]) => [id, [around]])), given: givenOf(source), signals: walked.signals() };
 }
 
 /** @typedef {{reason: string, fault: string}} Judgement why what is mended isn't to be written, and the fault that the program
@@ -78,5 +115,17 @@ export async function judge(engine, it, signal) {
         return { reason: "", fault: linesOf(ran.output).at(-1) ?? `status ${ran.status}` };
     }
     const graph = readGraph(text);
-    return { reason: it.source ? differing(it, graph) || elsewhere(it, graph) : "", fault: "" };
+    return { reason: it.source || it.known ? differing(it, graph) || elsewhere(it, graph) : "", fault: "" };
+}
+
+/**
+ * Why what is mended of a file that says of itself what lies around its switches can't be used.
+ * @param {Engine} engine @param {string} name @param {Uint8Array} data what is mended @param {Kept} kept
+ * @returns {Promise<string>} "" where the program's track graph has each switch and crossing as the file has it
+ */
+export async function whyUnfit(engine, name, data, kept) {
+    const judgement = await judge(engine, Object.assign(new Prepared(name, data, "railplan"), kept));
+    return !judgement ? "it was stopped"
+        : judgement.reason ? `it can't be shown that each switch and crossing has the same legs and sides: ${judgement.reason}`
+        : judgement.fault && kept.isRebuilt ? `the program finds a fault in what would be written: ${judgement.fault}` : "";
 }

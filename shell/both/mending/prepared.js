@@ -30,6 +30,8 @@ export class Prepared {
         this.read = null;
         /** @type {railml.Document | null} the file as it was read, once its text is one that is read */
         this.source = null;
+        /** @type {import("../railml3/around.js").Known | null} what a railML 3 file says of itself; of others it is read of `source` */
+        this.known = null;
         /** @type {Map<string, string>} the old ids of what has a new one */
         this.renamed = new Map();
         /** @type {Map<string, string>} switches that were made, each with the switch of which it is a part */

@@ -2,6 +2,7 @@
  * pages. */
 import { mileageOf, spotsOf } from "../one_mileage.js";
 import * as railml from "../railml.js";
+import { sidesOf } from "../sides/said.js";
 import { offsetsOf } from "./offsets.js";
 
 /** @typedef {import("../railml.js").Document} Document */
@@ -9,6 +10,8 @@ import { offsetsOf } from "./offsets.js";
 
 /** so many names are listed */
 const SHOWN = 3;
+/** two lengths of all tracks that are further apart aren't of one unit */
+const FACTOR = 20;
 
 /** @param {string[]} names @param {string} what @returns {string} the first of some names, and how many more there are */
 function listed(names, what) {
@@ -114,6 +117,35 @@ function unjoinedEnds(document) {
         + "apart"];
 }
 
+/** @param {Document} document @returns {string[]} tracks whose kilometres jump on their way, so that what lies behind the jump may be in
+ * other columns than beside them */
+function jumps(document) {
+    const tracks = document.tracks();
+    return tracks.length < 2 ? [] : tracks.flatMap((track) => {
+        const [begin] = spotsOf(track), changes = railml.topology(track)?.named("mileageChanges").flatMap((it) => it.named("mileageChange"));
+        const jump = begin && changes?.find((it) => railml.position(it).compare(railml.position(begin)) > 0);
+        const behind = jump ? spotsOf(track).filter((it) => railml.byPosition(it, jump) >= 0).map(railml.what) : [];
+        return behind.length ? [`the kilometres of track ${track.id} jump (mileageChange). Against other tracks these may be in another order `
+            + `than on the ground: ${listed(behind, "places")}`] : [];
+    });
+}
+
+/** @param {Document} document @returns {string[]} that mileages and positions aren't of one unit */
+function units(document) {
+    const spans = document.tracks().flatMap((track) => {
+        const [begin, end] = railml.ENDS.map((name) => railml.endOf(track, name));
+        const [one, other] = [begin, end].map((it) => railml.metres(it?.attributes.get("absPos")));
+        return begin && end && one && other ? [[other.minus(one), railml.position(end).minus(railml.position(begin))]
+            .map((it) => Math.abs(it.toNumber()))] : [];
+    });
+    const [mileages, lengths] = [0, 1].map((at) => spans.reduce((sum, it) => sum + it[at], 0)), part = mileages / lengths;
+    if (!mileages || !lengths || part > 1 / FACTOR && part < FACTOR) {
+        return [];
+    }
+    return [`by absPos all tracks together are ${Math.round(mileages * 1000) / 1000} m long, and by pos ${Math.round(lengths)} m. Both are read `
+        + "as metres: is one of them in kilometres?"];
+}
+
 /**
  * All that a file leaves open or says twice.
  * @param {Document} document @param {string} command
@@ -122,5 +154,5 @@ function unjoinedEnds(document) {
 export function doubtsOf(document, command) {
     const offsets = offsetsOf(document);
     return [...offsets ? [offsets] : [], ...command === "signals" ? unsaidSignals(document) : [], ...unrelated(document),
-        ...unjoinedEnds(document)];
+        ...unjoinedEnds(document), ...jumps(document), ...units(document), ...sidesOf(document).doubts];
 }

@@ -1,5 +1,6 @@
 /** What a fault of the track graph, or of the order of its edges, means: the elements behind its names and numbers. */
 import * as railml from "../railml.js";
+import { alongTheTrack } from "../sides/said.js";
 import { TrackGraph } from "../track_graph.js";
 import { offsetsOf } from "./offsets.js";
 import { causeOf } from "./side_mismatch.js";
@@ -162,11 +163,12 @@ export function contradicts(station, named) {
     const found = [[one, other], [other, one]]
         .flatMap(([upper, lower]) => graph.origins(upper, lower).slice(0, 1).map((fork) => ({ upper, lower, fork })))
         .sort((before, behind) => before.fork.node.place - behind.fork.node.place);
+    const along = alongTheTrack(station.document, station.prepared());
     return [{ text: `${station.name}: the piece of track ${pieces[0]} and the piece ${pieces[1]} would each lie above the `
         + "other. Of the places below one turns off to the wrong hand (course) or the wrong way (orientation)" },
     ...found.map(({ upper, lower, fork }) => ({
         text: `by the ${railml.what(fork.node)} (${hand(fork)}) ${graph.pieceInWords(upper)} lies above `
             + `${graph.pieceInWords(lower)}`,
         place: station.place(fork.node),
-    }))];
+    })), ...along ? [{ text: along }] : []];
 }

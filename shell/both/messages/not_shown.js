@@ -1,6 +1,8 @@
 /** What a file has that the drawing of an answer doesn't show, for standard error and for pages. */
 import { Decimal, ZERO } from "../decimal.js";
+import { namedPoints } from "../operational_points.js";
 import * as railml from "../railml.js";
+import { KINDS } from "../trackside.js";
 import { TrackGraph } from "../track_graph.js";
 import { gridOf } from "./advice.js";
 import { doubtsOf } from "./doubts.js";
@@ -11,6 +13,7 @@ import { kilometres } from "./law_words.js";
 /** @typedef {import("../words.js").Line} Line */
 
 const SLIPS = new Map([["doubleSwitchCrossing", "a double slip"], ["simpleSwitchCrossing", "a single slip"]]);
+const PLAIN = "simpleCrossing";
 /** from how many signals on one piece of track on it is said why each edge takes so many columns */
 const MANY_SIGNALS = 4;
 /** two mileages of one place that are further apart are no matter of measuring, in metres */
@@ -20,6 +23,8 @@ const PASSED_GROUPS = ["trackElements", "ocsElements"];
 const READ_GROUPS = ["trackBegin", "trackEnd", "connections"];
 /** what a station has beside its tracks */
 const OUTSIDE = ["operationControlPoints", "controllers", "trackGroups"];
+/** what pages draw or list of what the program passes over */
+const SHOWN = [...KINDS.keys()];
 const READ = ["track", "trackTopology", "trackBegin", "trackEnd", "connections", "switch", "crossing", "connection"];
 
 /** @template T @param {Iterable<T>} listed @returns {Map<T, number>} how often each is there, in the order of the first ones */
@@ -36,11 +41,17 @@ function sorted(kinds) {
     return [...kinds].sort(([one], [other]) => (one < other ? -1 : 1));
 }
 
-/** @param {Document} document @returns {string[]} */
-function slips(document) {
-    return document.tracks().flatMap(railml.points).flatMap((it) => {
-        const slip = it.name === "crossing" && SLIPS.get(it.attributes.get("type") ?? "");
-        return slip ? [`${it.id} is ${slip} in the file; it is drawn as a crossing, without its slips`] : [];
+/**
+ * crossings that have slips, or are of a kind that isn't known
+ * @param {Document} document @param {boolean} isPage @returns {string[]}
+ */
+function slips(document, isPage) {
+    const said = isPage ? "its sign says so, and the ways over its slips aren't drawn"
+        : "it is drawn as a crossing, without its slips";
+    return document.tracks().flatMap(railml.points).filter((it) => it.name === "crossing").flatMap((it) => {
+        const type = it.attributes.get("type") ?? PLAIN, slip = SLIPS.get(type);
+        return slip ? [`${it.id} is ${slip} in the file; ${said}`]
+            : type === PLAIN ? [] : [`${it.id} is a crossing of the type ${type}; it is drawn as a plain one, without slips if it has any`];
     });
 }
 
@@ -88,17 +99,29 @@ function leaves(group) {
     return group.children.flatMap((listed) => listed.children);
 }
 
-/** @param {Document} document @param {string} command @returns {string[]} what a file has besides its tracks' topology, by
- * kinds */
-function passedOver(document, command) {
+/**
+ * What a file has besides its tracks' topology, by kinds. Pages draw more than the program, or list what they can't draw, and
+ * say why.
+ * @param {Document} document @param {string} command @param {boolean} isPage
+ * @returns {string[]}
+ */
+function passedOver(document, command, isPage) {
     const outside = document.stations().flatMap((it) => it.children).filter((it) => OUTSIDE.includes(it.name));
+    const named = namedPoints(document);
     const kinds = counted([...outside.flatMap((group) => group.children), ...document.tracks().flatMap((track) => [
         ...track.named(...PASSED_GROUPS).flatMap(leaves).filter((it) => it.name !== "signal" || command !== "signals"),
         ...track.named("trackTopology").flatMap((it) => it.children).filter((it) => !READ_GROUPS.includes(it.name))
             .flatMap((group) => (group.children.length ? group.children : [group])),
-    ])].map((it) => it.name));
+    ])].filter((it) => !isPage || !SHOWN.includes(it.name) && !named.has(it)).map((it) => it.name));
     const listed = sorted(kinds).map(([name, count]) => `${count} ${name}`).join(", ");
     return listed ? [`not drawn: ${listed}${kinds.has("signal") ? "; signals draws signals" : ""}`] : [];
+}
+
+/** @param {Document} document @param {string} command @returns {string[]} signals that aren't there, which pages leave out */
+function virtual(document, command) {
+    const isVirtual = (/** @type {Element} */ it) => ["true", "1"].includes((it.attributes.get("virtual") ?? "").trim());
+    const count = document.tracks().flatMap(railml.signals).filter(isVirtual).length;
+    return count && command === "signals" ? [`left out: ${count} virtual ${count === 1 ? "signal" : "signals"}`] : [];
 }
 
 /** @param {Document} document @param {string} command @returns {string[]} elements that would be read without their prefix */
@@ -152,12 +175,14 @@ function fullestPiece(document, count) {
 }
 
 /**
- * All that a file has and a drawing doesn't show.
+ * All that a file has and a drawing doesn't show: the program's own one, or that of a page.
  * @param {Uint8Array} data @param {Line} line @param {string[]} said the answer's lines
+ * @param {boolean} [isPage]
  * @returns {string[]}
  */
-export function notShown(data, line, said) {
+export function notShown(data, line, said, isPage = line.pages.has("--html")) {
     const document = railml.read(data);
-    return [...slips(document), ...bentTracks(document), ...twoMileages(document), ...prefixed(document, line.command),
-        ...passedOver(document, line.command), ...crowdedPiece(document, line, said), ...doubtsOf(document, line.command)];
+    return [...slips(document, isPage), ...bentTracks(document), ...twoMileages(document), ...prefixed(document, line.command),
+        ...passedOver(document, line.command, isPage), ...isPage ? virtual(document, line.command) : [],
+        ...crowdedPiece(document, line, said), ...doubtsOf(document, line.command)];
 }

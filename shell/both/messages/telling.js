@@ -223,6 +223,11 @@ async function ofAnswer(run, said) {
         const data = seen.bytes(line.names[0]), { notShown } = await import("./not_shown.js");
         found.push(...data ? notShown(data, line, said).map((text) => ({ text })) : []);
     }
+    if (status === 0 && command === "graph") {
+        const data = seen.bytes(line.names[0]), { sidesOf } = await import("../sides/said.js"), { read } = await import("../railml.js");
+        const { good, doubts } = data ? sidesOf(read(data)) : { good: [], doubts: [] };
+        found.push(...[...good, ...doubts].map((text) => ({ text })));
+    }
     if (command === "draw") {
         found.push(...advice.oddPicture(line.options.get("--svg") ?? "", said));
     }
