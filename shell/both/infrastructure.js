@@ -1,5 +1,6 @@
 /**
- * What a railML file says beyond the texts of the program: names, kinds of ends, types of tracks, signals.
+ * What a railML file says beyond the texts of the program: names, kinds of ends, types of tracks, signals, and what else lies
+ * at tracks.
  *
  * Its elements are those of railml.js, which selects what the program selects. So what is in an element that the program skips
  * isn't seen here either. A file that can't be read so says nothing, and `trouble` says why. Other than a message, a page has
@@ -7,6 +8,8 @@
  */
 import { Decimal } from "./decimal.js";
 import * as railml from "./railml.js";
+import { stationPoint, neighbourNames } from "./operational_points.js";
+import { elementsAt, objectOf } from "./trackside.js";
 
 /** @typedef {Map<string, string>} Given an element's attributes */
 /** @typedef {{id: string, kind: string, ref: string, mileage: Decimal | null, pos: Decimal | null}} TrackEnd */
@@ -15,9 +18,21 @@ import * as railml from "./railml.js";
  * @property {string} name
  * @property {string} track
  * @property {string} direction
+ * @property {string} type main, distant, combined, shunting or repeater; "" where the file doesn't say it
+ * @property {string} use its function
+ * @property {boolean} isVirtual
  * @property {Decimal | null} own
  * @property {Decimal | null} pos */
-/** @typedef {{id: string, name: string, type: string, begin: TrackEnd, end: TrackEnd}} Track */
+/** @typedef {{id: string, pos: Decimal | null}} Place a switch or crossing of a track, and how far along it it is */
+/** @typedef {object} Track
+ * @property {string} id
+ * @property {string} name
+ * @property {string} type
+ * @property {TrackEnd} begin
+ * @property {TrackEnd} end
+ * @property {Place[]} points from its begin to its end */
+/** @typedef {{type: string, normal: string, course: string, goesOn: string}} Point what a switch or crossing says of itself,
+ * and the course of its connection */
 /** @typedef {object} Infrastructure
  * @property {string} title
  * @property {Map<string, string>} names
@@ -25,6 +40,9 @@ import * as railml from "./railml.js";
  * @property {Map<string, Track>} tracks
  * @property {Map<string, SignalInFile>} signals
  * @property {Map<string, string>} owners
+ * @property {Map<string, Point>} points switches and crossings
+ * @property {Map<string, string>} leads where lines go on, by the ids of ends: the names of operational points
+ * @property {import("./trackside.js").Trackside[]} objects in file order
  * @property {string} trouble */
 
 const ENDS = new Map([["openEnd", "open end"], ["bufferStop", "buffer stop"], ["macroscopicNode", "line goes on"]]);
@@ -76,7 +94,8 @@ const noEnd = () => ({ id: "", kind: "", ref: "", mileage: null, pos: null });
  * @returns {Infrastructure} one that says nothing
  */
 export function nothing(trouble = "") {
-    return { title: "", names: new Map(), ends: new Map(), tracks: new Map(), signals: new Map(), owners: new Map(), trouble };
+    return { title: "", names: new Map(), ends: new Map(), tracks: new Map(), signals: new Map(), owners: new Map(),
+        points: new Map(), leads: new Map(), objects: [], trouble };
 }
 
 /** What the elements of a file say. */
@@ -85,6 +104,7 @@ class Taken {
     constructor(document) {
         this.found = nothing();
         this.found.title = title(document);
+        this.leads = neighbourNames(document);
         for (const track of document.tracks()) this.#takeTrack(track);
     }
 
@@ -100,19 +120,30 @@ class Taken {
         const id = attributes.get("id") ?? "";
         /** @type {Track} */
         const track = { id, name: attributes.get("name") ?? "", type: attributes.get("type") ?? "", begin: noEnd(),
-            end: noEnd() };
+            end: noEnd(), points: [] };
         this.found.tracks.set(id, track);
         this.#name(attributes);
         for (const end of it.named("trackTopology").flatMap((below) => below.named("trackBegin", "trackEnd"))) {
             this.#takeEnd(end.name === "trackBegin" ? track.begin : track.end, end);
         }
-        for (const point of railml.points(it)) {
-            this.#name(given(point));
-            for (const one of point.named("connection")) {
-                this.found.owners.set(given(one).get("id") ?? "", given(point).get("id") ?? "");
-            }
-        }
+        for (const point of railml.points(it).sort(railml.byPosition)) this.#takePoint(track, point);
         for (const signal of railml.signals(it)) this.#takeSignal(track, given(signal));
+        for (const one of elementsAt(it)) {
+            const attributes = given(one);
+            this.found.objects.push(objectOf(one.name, id, attributes, (name) => number(attributes, name)));
+        }
+    }
+
+    /** @param {Track} track @param {railml.Element} point */
+    #takePoint(track, point) {
+        const attributes = given(point), id = attributes.get("id") ?? "", of = (/** @type {string} */ it) =>
+            attributes.get(it) ?? "";
+        const listed = point.named("connection");
+        this.#name(attributes);
+        track.points.push({ id, pos: number(attributes, "pos") });
+        this.found.points.set(id, { type: of("type"), normal: of("normalPosition"), goesOn: of("trackContinueCourse"),
+            course: listed.length === 1 ? given(listed[0]).get("course") ?? "" : "" });
+        for (const one of listed) this.found.owners.set(given(one).get("id") ?? "", id);
     }
 
     /** @param {TrackEnd} end @param {railml.Element} it */
@@ -126,6 +157,8 @@ class Taken {
             if (kind) {
                 end.kind = kind;
                 this.found.ends.set(end.id, kind);
+                const leads = this.leads.get(below);
+                if (leads) this.found.leads.set(end.id, givenBack(leads));
             } else {
                 end.kind = "connection";
                 end.ref = given(below).get("ref") ?? "";
@@ -140,13 +173,19 @@ class Taken {
         if (this.found.signals.has(id)) return;
         this.found.signals.set(id, {
             id, name: attributes.get("name") ?? "", track: track.id, direction: attributes.get("dir") ?? "",
+            type: attributes.get("type") ?? "", use: attributes.get("function") ?? "",
+            isVirtual: ["true", "1"].includes((attributes.get("virtual") ?? "").trim()),
             own: number(attributes, "absPos"), pos: number(attributes, "pos"),
         });
     }
 }
 
-/** @type {(document: railml.Document) => string} the infrastructure's name, or the title of the file */
+/**
+ * @type {(document: railml.Document) => string} the station's operational point, the infrastructure's name, or the file's title
+ */
 function title(document) {
+    const point = givenBack(stationPoint(document));
+    if (point) return point;
     const names = document.stations().map((it) => (given(it).get("name") ?? "").trim());
     const titles = document.elements.filter((it) => ["title", "dc:title"].includes(it.name))
         .filter((it) => it.above("metadata") && it.above("metadata")?.parent === document.root);

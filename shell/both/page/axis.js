@@ -4,7 +4,8 @@
  * A column has a tick where all that is in it, nodes and signals, has one known kilometre. Where it has several a tick would
  * be wrong of some of them, so there is none: the list of objects, and what each sign says, have every kilometre. Law 2 keeps
  * nodes in the order of their kilometres, but a signal's column follows from its own piece of track alone. So signals without
- * a node have a tick only where nothing on the left has a greater kilometre, and nothing on the right a smaller one.
+ * a node have a tick only where nothing on the left has a greater kilometre, and nothing on the right a smaller one. So have
+ * other objects, where there is room.
  */
 import { kilometres } from "../messages/law_words.js";
 import { Sign } from "./field.js";
@@ -78,6 +79,7 @@ export function putAxis(plan, top) {
     plan.parts.frame.push(lineAt("axis", [left, y], [right, y]));
     const ticks = [...plan.scene.ticks].filter(([column]) => plan.has(column));
     for (const [column, km] of ticks) putTick(plan, [plan.x(column), y], km);
+    for (const [x, km] of plan.objectTicks) putTick(plan, [x, y], km);
     const [first, last] = /** @type {[string, string]} */ (ENDS.get(plan.scene.east));
     if (!plan.strip.isCutWest && first) putWord(plan, first, -20 - widthOf(first, SMALL), 4, [left, y]);
     if (!plan.strip.isCutEast) putWord(plan, last, 20, 4, [right, y]);

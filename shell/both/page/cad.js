@@ -1,19 +1,26 @@
 /**
- * A drawing as DXF, for CAD programs: layers for tracks, nodes, names and signals, in millimetres of the picture.
+ * A drawing as DXF, for CAD programs: layers for tracks, nodes, names, signals and what else lies at tracks, in millimetres of
+ * the
+ * picture.
  *
  * It is the form of AutoCAD R12, which every such program reads: polylines, points with blocks, circles and texts.
  */
 import { kilometres } from "../messages/law_words.js";
-import { Columns, MM, Strip, heightAt, neighbours } from "./columns.js";
+import { MM, Strip, heightAt, neighbours } from "./columns.js";
 import { fixed } from "./numbers.js";
+import { edgesBetween, isAbove, signOf } from "./objects_drawn.js";
 import { SIZES } from "./places.js";
+import { headSign, linesOf } from "./signs.js";
 
 /** @typedef {import("./columns.js").Spot} Spot */
+/** @typedef {import("./drawing.js").Picture} Picture */
 /** @typedef {import("./drawing.js").Scene} Scene */
+/** @typedef {import("./markup.js").Element} Element */
+/** @typedef {import("./texts.js").Edge} Edge */
 /** @typedef {[number, string | number]} Code a code of DXF and its value */
 
 /** @type {[string, number][]} */
-const LAYERS = [["TRACK", 7], ["MAIN", 7], ["NODE", 1], ["NAME", 3], ["SIGNAL", 5], ["KILOMETRE", 8]];
+const LAYERS = [["TRACK", 7], ["MAIN", 7], ["NODE", 1], ["NAME", 3], ["SIGNAL", 5], ["OBJECT", 6], ["KILOMETRE", 8]];
 // how high a capital is, of a letter's size
 const CAP = 0.716;
 const MARGIN = 30;
@@ -33,10 +40,11 @@ const place = (first, [x, y]) => [[first, fixed(x, 4)], [first + 10, fixed(y, 4)
 
 /** The entities of a drawing. */
 class Entities {
-    /** @param {Scene} scene @param {Columns} columns */
-    constructor(scene, columns) {
+    /** @param {Scene} scene @param {Picture} picture whose columns it takes */
+    constructor(scene, { columns, spots }) {
         this.scene = scene;
         this.columns = columns;
+        this.spots = spots;
         this.strip = new Strip(0, columns.at.length - 1);
         /** @type {Code[]} */
         this.codes = [];
@@ -91,6 +99,55 @@ class Entities {
         }
     }
 
+    /**
+     * @param {string} layer
+     * @param {Element[]} parts
+     * @param {Spot} point
+     * @param {number} [turn] draws a sign, as pictures have it
+     */
+    #sign(layer, parts, [x, y], turn = 0) {
+        const at = (/** @type {Spot} */ spot) => {
+            const [across, up] = inMillimetres(spot, turn);
+            return /** @type {Spot} */ ([x + across, y + up]);
+        };
+        for (const part of parts) {
+            // what is filled in pictures has the same outline within, half as large
+            for (const size of String(part.attributes.class).includes("full") ? [1, 0.5] : [1]) {
+                if (part.tag === "circle") {
+                    const [cx, cy, r] = ["cx", "cy", "r"].map((it) => Number(part.attributes[it] ?? 0));
+                    this.#put("CIRCLE", layer, ...place(10, at([cx, cy])), [40, fixed(size * r / MM, 4)]);
+                } else for (const line of linesOf(part)) this.#line(layer, line.map(([u, v]) => at([u * size, v * size])));
+            }
+        }
+    }
+
+    /** @param {Edge} edge @param {number} column @returns {{point: Spot, turn: number}} */
+    #on(edge, column) {
+        const x = this.#at([column, 0])[0], line = edge.points.map((it) => this.#at(it));
+        const [[left, low], [right, high]] = neighbours(line).find(([[from], [to]]) => from <= x && x <= to) ?? [line[0],
+            line[1]];
+        return { point: [x, heightAt(x, line) ?? low], turn: -Math.atan2(high - low, right - left) };
+    }
+
+    putObjects() {
+        const { pieces, drawing } = this.scene;
+        for (const one of pieces.located) {
+            const [column, far] = this.spots.get(one.number) ?? [];
+            if (column === undefined || !one.place) continue;
+            const { point: [x, y], turn } = this.#on(drawing.edges[one.place.edge], column);
+            if (far !== undefined) {
+                const run = edgesBetween(this.scene, one), [from, to] = [Math.min(column, far), Math.max(column, far)];
+                const along = run.flatMap((edge) => columnsOver(drawing.edges[edge], from, to)
+                    .map((it) => this.#on(drawing.edges[edge], it).point));
+                const aside = 2 * (isAbove(one) ? 1 : -1);
+                for (const up of [aside, aside * 1.5]) this.#line("OBJECT", along.map(([u, v]) => [u, v + up]));
+            } else this.#sign("OBJECT", signOf(one).parts, [x, y], turn);
+            const name = this.scene.label(String(one.number), "object");
+            if (name) this.#text("NAME", name, [x, y + 3.2], SIZES.object);
+            this.#text("KILOMETRE", kilometres(one.place.metres.toString()), [x, y - 4.6], SIZES.object);
+        }
+    }
+
     putSignals() {
         for (const signal of this.scene.signals) {
             const [x, level] = this.#at(signal.point);
@@ -99,17 +156,27 @@ class Entities {
             const side = this.scene.isLeft ? way : -way;
             this.#line("SIGNAL", [[x, y + 1.2 * side], [x, y + 3.6 * side]]);
             this.#line("SIGNAL", [[x, y + 2.4 * side], [x + 2 * way, y + 2.4 * side]]);
-            this.#put("CIRCLE", "SIGNAL", ...place(10, [x + 3 * way, y + 2.4 * side]), [40, "1.0"]);
+            this.#sign("SIGNAL", headSign(this.scene.station.signalKind(signal.name)), [x + 3 * way, y + 2.4 * side]);
             this.#text("NAME", this.scene.label(signal.name, "signal"), [x, y + (side > 0 ? 4.2 : -6.2)], SIZES.signal);
         }
     }
 }
+
+/** @type {(spot: Spot, turn: number) => Spot} a place of a sign in millimetres, where y rises, turned */
+const inMillimetres = ([x, y], turn) => [(x * Math.cos(turn) - y * Math.sin(turn)) / MM, -(x * Math.sin(turn)
+    + y * Math.cos(turn)) / MM];
 
 /** @type {(points: Spot[]) => number} how many columns a line is over */
 const across = (points) => points[points.length - 1][0] - points[0][0];
 
 /** @type {(points: Spot[]) => [Spot, Spot]} the longest piece of a line */
 const longest = (points) => neighbours(points).reduce((best, it) => across(it) > across(best) ? it : best);
+
+/** @type {(edge: Edge, from: number, to: number) => number[]} the columns at which a part of a piece begins, turns and ends */
+function columnsOver({ points }, from, to) {
+    const [low, high] = [Math.max(from, points[0][0]), Math.min(to, points[points.length - 1][0])];
+    return low > high ? [] : [low, ...points.map(([x]) => x).filter((x) => low < x && x < high), high];
+}
 
 /** @returns {Code[]} one line type and the layers */
 function tables() {
@@ -124,14 +191,15 @@ function tables() {
 /**
  * The whole text, with the codes of DXF and their values on lines of their own.
  * @param {Scene} scene
- * @param {Columns} columns
+ * @param {Picture} picture
  * @returns {string}
  */
-export function dxf(scene, columns) {
-    const entities = new Entities(scene, columns);
+export function dxf(scene, picture) {
+    const entities = new Entities(scene, picture);
     entities.putTracks();
     entities.putNodes();
     entities.putSignals();
+    entities.putObjects();
     /** @type {Code[]} */
     const codes = [...tables(), ...entities.codes, [0, "ENDSEC"], [0, "EOF"]];
     return codes.map(([code, value]) => `${code}\r\n${value}\r\n`).join("");

@@ -154,9 +154,16 @@ export class Changes {
      * @returns {string}
      */
     oldKey(kind, number) {
+        if (kind === "o") return this.#oldObject(number);
         const same = kind === "n" ? this.nodes.get(this.old.nodes[number].name)
             : this.edges.get(sameness(this.old.edges[number], this.old));
         return same ? `${kind}${same.number}` : `gone-${kind}${number}`;
+    }
+
+    /** @param {number} number @returns {string} the key of what lies at a track of the old drawing: that of the same id now */
+    #oldObject(number) {
+        const { id } = this.former.file.objects[number], now = this.station.file.objects.findIndex((it) => it.id === id);
+        return id && now >= 0 ? `o${now}` : `gone-o${number}`;
     }
 
     /** @returns {Element[]} each change, to be ticked off; it leads to what is meant */

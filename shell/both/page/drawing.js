@@ -9,6 +9,8 @@ import { BESIDE_CUT, Columns, LEVEL, ROW, SLOPED, Strip, cut, lastColumn, lastRo
     slopedIntervals } from "./columns.js";
 import { Element, element, flat } from "./markup.js";
 import { byCharacters, shown } from "./numbers.js";
+import { drawObjects, labelOf, objectDemands, signOf } from "./objects_drawn.js";
+import { Pieces } from "./pieces.js";
 import { LONGEST, NoPlace, SIZES } from "./places.js";
 import { bounds, viewOf } from "./shapes.js";
 import { StripPlan } from "./strip.js";
@@ -46,6 +48,8 @@ export class Marks {
 export class Scene {
     /** @type {Map<number, string> | null} */
     #ticks = null;
+    /** @type {Pieces | null} */
+    #pieces = null;
 
     /**
      * @param {Drawing} drawing
@@ -80,9 +84,25 @@ export class Scene {
         return this.#ticks ??= ticksOf(this);
     }
 
-    /** @param {string} id @param {Kind} kind @returns {string} */
+    /** @returns {Pieces} the pieces of track on which objects lie */
+    get pieces() {
+        return this.#pieces ??= new Pieces(this.station, this.drawing, this.signals, this.hasScale);
+    }
+
+    /** @param {import("./pieces.js").Located} located @returns {ReturnType<typeof signOf>} the sign of an object on a track */
+    trackSign(located) {
+        return signOf(located);
+    }
+
+    /**
+     * @param {string} id
+     * @param {Kind} kind
+     * @returns {string} what is written at a thing; at an end also where its line goes on
+     */
     label(id, kind) {
-        return this.station.label(id, kind === "signal");
+        if (kind === "object") return labelOf(this, Number(id));
+        const label = this.station.label(id, kind === "signal"), leads = kind === "node" ? this.station.leadsTo(id) : "";
+        return leads && !label.includes(leads) ? `${label}, to ${leads}` : label;
     }
 
     /** @param {string} id @param {Kind} kind @returns {number} how wide the label is at most */
@@ -97,15 +117,19 @@ export class Picture {
     /**
      * @param {StripPlan[]} plans
      * @param {Columns} columns
-     * @param {{short?: [string, string][], leftOut?: string[], trouble?: number}} how
+     * @param {{short?: [string, string][], leftOut?: string[], trouble?: number, objects?: import("./objects_drawn.js").Laid}}
+     * how
      */
-    constructor(plans, columns, { short = [], leftOut = [], trouble = 0 } = {}) {
+    constructor(plans, columns, { short = [], leftOut = [], trouble = 0, objects } = {}) {
         this.strips = plans.map((it) => it.svg());
         this.boxes = plans.map((it) => it.box);
         this.columns = columns;
         this.short = short;
         this.leftOut = leftOut;
         this.trouble = trouble;
+        /** the columns at which objects lie, between whole ones, and those for which there is no room, by their numbers */
+        this.spots = objects?.spots ?? new Map();
+        this.lacking = objects?.lacking ?? new Set();
     }
 
     /** @returns {number} the width of the widest strip */
@@ -170,6 +194,7 @@ function* demands(scene) {
         for (const [[column, wide], [other, also]] of neighbours(row)) yield [column, other, Math.max(24, wide + also + 4)];
     }
     yield* trackDemands(scene);
+    yield* objectDemands(scene);
 }
 
 /**
@@ -259,21 +284,23 @@ function spread(columns, room, outer) {
 export function drawn(scene, columns, isCrowded = false) {
     /** @type {Set<string>} */
     const named = new Set();
-    const plans = columns.strips.map((strip) => {
-        const plan = new StripPlan(scene, columns, strip, named, isCrowded);
+    const plans = columns.strips.map((strip) => new StripPlan(scene, columns, strip, named, isCrowded));
+    for (const plan of plans) plan.laySigns();
+    const objects = drawObjects(scene, plans);
+    for (const plan of plans) {
         plan.lay();
         for (const owner of plan.names.keys()) named.add(owner);
-        return plan;
-    });
+    }
     const lacking = scene.drawing.edges.find((it) => it.track !== null && !named.has(`track ${it.track}`));
     if (lacking && !isCrowded) throw new NoPlace(`track ${lacking.track}`);
     const names = plans.flatMap((plan) => [...plan.names.values()].map((name) => ({ plan, name })));
-    const clashes = plans.flatMap((plan) => plan.clashes);
+    const clashes = [...plans.flatMap((plan) => plan.clashes), ...objects.worst];
     const leftOut = new Map(plans.flatMap((plan) => [...plan.leftOut]).filter(([owner]) => !named.has(owner)));
-    const short = new Map(names.filter(({ name }) => name.text !== name.whole)
-        .map(({ name }) => [`${name.text}\n${name.whole}`, /** @type {[string, string]} */ ([name.text, name.whole])]));
+    const written = [...names.map(({ name }) => name), ...plans.flatMap((plan) => plan.objectNames)];
+    const short = new Map(written.filter((name) => name.text !== name.whole)
+        .map((name) => [`${name.text}\n${name.whole}`, /** @type {[string, string]} */ ([name.text, name.whole])]));
     const trouble = names.reduce((sum, { name }) => sum + name.trouble(), 12 * (plans.length - 1) + 20 * clashes.length);
-    const picture = new Picture(plans, columns, { trouble, leftOut: [...leftOut.values()].sort(byCharacters),
+    const picture = new Picture(plans, columns, { trouble, objects, leftOut: [...leftOut.values()].sort(byCharacters),
         short: [...short.values()].sort((one, other) => byCharacters(one[0], other[0]) || byCharacters(one[1], other[1])) });
     const worst = names.filter(({ name }) => name.trouble()).map(({ plan, name }) => plan.columnOf(name));
     return { picture, worst: [...worst, ...clashes] };

@@ -1,11 +1,17 @@
 /**
- * The objects of a drawing by kilometre: nodes, pieces of track and signals, what is said of each, and the list as CSV.
+ * The objects of a drawing by kilometre: nodes, pieces of track, signals and what else lies at tracks; what is said of each,
+ * and
+ * the list as CSV.
  */
 import { Decimal } from "../decimal.js";
 import { kilometres } from "../messages/law_words.js";
+import { UNKNOWN } from "./pieces.js";
+import { sectionsOf } from "./sections.js";
 import { DIVERGING, STRAIGHT, edgeOf } from "./station.js";
 
+/** @typedef {import("./drawing.js").Picture} Picture */
 /** @typedef {import("./drawing.js").Scene} Scene */
+/** @typedef {import("./pieces.js").Located} Located */
 /** @typedef {import("./texts.js").Edge} Edge */
 /** @typedef {import("./texts.js").Node} Node */
 /** @typedef {import("./texts.js").Signal} Signal */
@@ -19,10 +25,12 @@ import { DIVERGING, STRAIGHT, edgeOf } from "./station.js";
  * @property {{metres: Decimal, rank: number, number: number}} order
  * @property {Fact[]} facts
  * @property {string} track
- * @property {[number, number]} point
- * @property {string} side */
+ * @property {[number, number] | null} point where the program has it; nothing where a page finds its place
+ * @property {string} side
+ * @property {string} note what else the file says of it, in a few words */
 
-const HEADER = ["km", "kind", "name", "id", "track", "column", "row", "side"];
+const HEADER = ["km", "kind", "name", "id", "track", "column", "row", "side", "note"];
+const NOT_DRAWN = "not drawn";
 const NONE = /** @type {Decimal} */ (Decimal.of("0"));
 
 /** @type {(mileage: string | null) => Decimal} */
@@ -40,15 +48,20 @@ const shortest = (number) => number.toString().replace(/(\.\d*?)0+$/, "$1").repl
 
 /** The entries of a scene, by kilometre. */
 export class Objects {
-    /** @param {Scene} scene */
-    constructor(scene) {
+    /** @param {Scene} scene @param {Picture | null} [picture] in which places were looked for */
+    constructor(scene, picture = null) {
         this.scene = scene;
+        this.picture = picture;
         this.station = scene.station;
         this.drawing = scene.drawing;
         /** @type {Entry[]} */
         this.entries = [...this.drawing.nodes.map((it) => this.#ofNode(it)),
             ...this.drawing.edges.map((it) => this.#ofEdge(it)),
-            ...scene.signals.map((it) => this.#ofSignal(it))];
+            ...scene.signals.map((it) => this.#ofSignal(it)), ...scene.pieces.located.map((it) => this.#ofObject(it))];
+        const sections = sectionsOf(scene);
+        /** whether sections aren't known, as one of their borders has no known place */
+        this.lacksSections = sections === null;
+        this.entries.push(...(sections ?? []).map((it, at) => this.#ofSection(it, at + 1)));
         this.entries.sort((one, other) => one.order.metres.compare(other.order.metres) || byRank(one, other));
     }
 
@@ -74,7 +87,7 @@ export class Objects {
         /** @type {Entry} */
         const entry = { key: this.scene.key("n", number), id: this.station.shown(name), name: this.station.name(name),
             kind: this.station.kind(number), km: kmOf(mileage), order: { metres: metres(mileage), rank: 0, number },
-            facts: [], track: "", point, side: "" };
+            facts: [], track: "", point, side: "", note: this.#noteOf(number) };
         if (known && legs) {
             entry.side = `${known.legs} ${known.side}`;
             entry.facts = [["legs", `on the ${edgeOf(known.legs)}; the diverging leg is on the ${known.side} side`, ""],
@@ -84,7 +97,20 @@ export class Objects {
             const met = this.drawing.edges.filter((it) => it.west === number || it.east === number);
             entry.facts = met.map((it) => this.#leads("line", number, it.number));
         }
+        if (entry.note) entry.facts.push(["file", entry.note, ""]);
         return entry;
+    }
+
+    /**
+     * @param {number} number
+     * @returns {string} what the file says of a node: a slip, a normal position, where a line goes on
+     */
+    #noteOf(number) {
+        const [sign, kind] = [this.station.signOf(number), this.station.kind(number)];
+        const leads = this.station.leadsTo(this.drawing.nodes[number].name), normal = this.station.normalLeg(number);
+        const other = this.station.file.points.get(this.station.node(number)?.name ?? "")?.normal ?? "";
+        return [sign === kind ? "" : sign, leads && `to ${leads}`, normal ? `normal position ${normal}`
+            : other && `normal position in the file: ${this.station.shown(other)}`].filter(Boolean).join(", ");
     }
 
     /** @param {Edge} edge @returns {string} */
@@ -111,7 +137,7 @@ export class Objects {
         }
         return { key: scene.key("e", edge.number), id: station.shown(track), name: station.name(track), kind: "piece of track",
             km: kmOf(from), order: { metres: metres(from), rank: 1, number: edge.number }, facts, track: station.shown(track),
-            point: edge.points[0], side: "" };
+            point: edge.points[0], side: "", note: "" };
     }
 
     /** @param {Signal} signal @returns {string} */
@@ -126,20 +152,68 @@ export class Objects {
         const [east, edge] = [station.headsEast(signal), this.drawing.edges[signal.edge]];
         const track = edge.track || `edge ${edge.number}`;
         const place = station.signalMileage(signal.name) ?? metres(this.drawing.nodes[edge.west].mileage);
+        const use = station.shown(station.signal(signal.name)?.use ?? "");
         return { key: scene.key("s", signal.number), id: station.shown(signal.name), name: station.signalName(signal.name),
-            kind: "signal", km: this.#kmOfSignal(signal), order: { metres: place, rank: 2, number: signal.number },
-            facts: [["for", wayOf(east), ""],
+            kind: station.signalKind(signal.name), km: this.#kmOfSignal(signal), order: { metres: place, rank: 2,
+                number: signal.number },
+            facts: [["for", wayOf(east), ""], ...use ? [/** @type {Fact} */ (["function", use, ""])] : [],
                 ["on", `${station.label(track)}, from ${this.#at(edge.west)} to ${this.#at(edge.east)}`,
                 scene.key("e", edge.number)]],
-            track: station.shown(track), point: signal.point, side: east === null ? "" : east ? "east" : "west" };
+            track: station.shown(track), point: signal.point, side: east === null ? "" : east ? "east" : "west", note: use };
+    }
+
+    /** @param {Located} located @returns {Entry} what lies at a track */
+    #ofObject({ number, object, place, far, why }) {
+        const { station, scene } = this, { id, name, kind, track, own, length, said, direction } = object;
+        const [mileage, edge] = [place?.metres ?? own, place && this.drawing.edges[place.edge]];
+        const lacks = why || (this.picture?.lacking.has(number) ? UNKNOWN.room : "");
+        const words = [...said.map((it) => station.shown(it)), length ? `${shortest(length)} m long` : "",
+            direction && `direction ${station.shown(direction)}`].filter(Boolean);
+        const kmOfFar = far ? kilometres(far.metres.toString()) : "";
+        /** @type {Fact[]} */
+        const facts = [...words.map((it) => /** @type {Fact} */ (["file", it, ""])),
+            ...kmOfFar ? [/** @type {Fact} */ (["to", `km ${kmOfFar}`, ""])] : [],
+            ...edge ? [/** @type {Fact} */ (["on",
+                `${station.label(track)}, from ${this.#at(edge.west)} to ${this.#at(edge.east)}`,
+                scene.key("e", edge.number)])] : [],
+            ...lacks ? [/** @type {Fact} */ ([NOT_DRAWN, lacks, ""])] : []];
+        return { key: scene.key("o", number), id: station.shown(id), name: name.trim() && name !== id ? station.shown(name)
+            : "", kind,
+            km: mileage ? kilometres(mileage.toString()) : "", order: { metres: mileage ?? NONE, rank: 3, number }, facts,
+            track: station.shown(track), point: null, side: "",
+            note: [...words, kmOfFar && `to km ${kmOfFar}`, lacks && `${NOT_DRAWN}: ${lacks}`].filter(Boolean).join(", ") };
+    }
+
+    /** @param {import("./sections.js").Section} section @param {number} number from 1 @returns {Entry} */
+    #ofSection({ borders, ends, edges, from }, number) {
+        const { station, scene } = this, name = `section ${number}`;
+        const bounds = borders.map(({ object: { id, name: own }, place }) =>
+            `${station.shown(own.trim() || id)}${place ? `, km ${kilometres(place.metres.toString())}` : ""}`);
+        const open = ends.map((it) => this.#at(it)), mileage = Decimal.of(String(from)) ?? NONE;
+        /** @type {Fact[]} */
+        const facts = [...bounds.map((it, at) => /** @type {Fact} */ (["border", it, scene.key("o", borders[at].number)])),
+            ...open.map((it, at) => /** @type {Fact} */ (["end", it, scene.key("n", ends[at])])),
+            ...edges.map((it) => /** @type {Fact} */ (["on", station.label(this.drawing.edges[it].track ?? `edge ${it}`),
+                scene.key("e", it)]))];
+        return { key: scene.key("d", number), id: "", name, kind: "track section", km: kilometres(mileage.toString()),
+            order: { metres: mileage, rank: 4, number }, facts, track: "", point: null, side: "",
+            note: [`from ${bounds.join("; from ")}`, ...open.map((it) => `to the end ${it}`)].join("; ") };
     }
 
     // ---- the whole
 
+    /** @returns {[Entry, string][]} what the list has and the drawing hasn't, with why */
+    notDrawn() {
+        return this.entries.flatMap((entry) => {
+            const why = entry.facts.find(([term]) => term === NOT_DRAWN)?.[1];
+            return why ? [/** @type {[Entry, string]} */ ([entry, why])] : [];
+        });
+    }
+
     /** @returns {string} the entries as a table; its fields are those of the header */
     csv() {
-        const rows = this.entries.map((it) => [it.km, it.kind, it.name, it.id, it.track, ...it.point.map(String),
-            it.side].map(safe));
+        const rows = this.entries.map((it) => [it.km, it.kind, it.name, it.id, it.track, ...it.point?.map(String) ?? ["", ""],
+            it.side, it.note].map(safe));
         return [HEADER, ...rows].map((row) => `${row.map(quoted).join(",")}\r\n`).join("");
     }
 
@@ -148,7 +222,7 @@ export class Objects {
     links() {
         const taken = new Set();
         return new Map([...this.entries].sort(byRank).map(({ key, id }) => {
-            const link = taken.has(id) ? `${key}:${id}` : id;
+            const link = taken.has(id) || !id ? `${key}:${id}` : id;
             taken.add(link);
             return [key, link];
         }));

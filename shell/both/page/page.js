@@ -4,6 +4,7 @@
 import { draw } from "./drawing.js";
 import { element } from "./markup.js";
 import { Objects } from "./objects.js";
+import { kindOfSign } from "./objects_drawn.js";
 import { MEANINGS } from "./signs.js";
 
 /** @typedef {import("./drawing.js").Picture} Picture */
@@ -22,13 +23,19 @@ import { MEANINGS } from "./signs.js";
  * @property {string} [kind] */
 
 /**
- * The kinds of signs that a scene has.
+ * The kinds of signs that a scene has in its picture.
  * @param {Scene} scene
+ * @param {Picture} picture
  * @returns {string[]}
  */
-function signsIn({ station, drawing, signals }) {
-    const seen = new Set(drawing.nodes.map((it) => station.kind(it.number)));
-    for (const it of signals) seen.add(station.headsEast(it) === null ? "signal both" : "signal");
+function signsIn({ station, drawing, signals, pieces }, { spots }) {
+    const seen = new Set(drawing.nodes.map((it) => station.signOf(it.number)));
+    if (drawing.nodes.some((it) => station.normalLeg(it.number) && station.legs(it.number))) seen.add("normal");
+    for (const it of signals) {
+        const kind = station.signalKind(it.name);
+        seen.add(station.headsEast(it) === null ? "signal both" : kind);
+    }
+    for (const number of spots.keys()) seen.add(kindOfSign(pieces.located[number]));
     const tracks = drawing.edges.map((it) => station.isMain(it.track) ? "main" : "track");
     if (tracks.includes("main")) for (const it of tracks) seen.add(it);
     return [...MEANINGS.keys()].filter((it) => seen.has(it));
@@ -54,6 +61,8 @@ export class Page {
         this.objects = null;
         /** @type {Scene | null} */
         this.scene = null;
+        /** @type {Picture | null} the picture of this scene */
+        this.picture = null;
         /** @type {Set<string>} */
         this.signs = new Set();
         /** @type {Map<string, [string, string]>} each shortened name with the whole one */
@@ -96,15 +105,16 @@ export class Page {
         this.figures.push({ picture, parts: picture.strips, caption, ...more });
         for (const pair of picture.short) this.short.set(pair.join("\n"), pair);
         for (const name of picture.leftOut) this.leftOut.add(name);
-        for (const kind of signsIn(scene)) this.signs.add(kind);
+        for (const kind of signsIn(scene, picture)) this.signs.add(kind);
         this.isLeft = scene.isLeft;
-        if (!this.objects) this.list(scene);
+        if (!this.objects) this.list(scene, picture);
     }
 
-    /** @param {Scene} scene the one whose objects are listed */
-    list(scene) {
+    /** @param {Scene} scene the one whose objects are listed @param {Picture} picture of it */
+    list(scene, picture) {
         this.scene = scene;
-        this.objects = new Objects(scene);
+        this.picture = picture;
+        this.objects = new Objects(scene, picture);
     }
 
     /** Gives all pictures one width: so a screen that is narrower shows them at one scale. */

@@ -12,7 +12,7 @@ import { ASCENT, heightOf, shortened, widthOf } from "./widths.js";
 /** @typedef {import("./field.js").Box} Box */
 /** @typedef {import("./field.js").Field} Field */
 /** @typedef {import("./columns.js").Spot} Spot */
-/** @typedef {"node" | "track" | "signal"} Kind */
+/** @typedef {"node" | "track" | "signal" | "object"} Kind */
 /** @typedef {[number, number, number]} Level a level piece: its height, and where it begins and ends */
 /** @typedef {object} Wish a name that wants a place: its places near by, and the point from which a thin line would lead
  * @property {string} owner
@@ -23,8 +23,8 @@ import { ASCENT, heightOf, shortened, widthOf } from "./widths.js";
  * @property {Spot} half how far its sign reaches aside and apart
  * @property {Spot} [anchor] */
 
-export const SIZES = { node: 11.5, track: 10.5, signal: 10.5 };
-export const LONGEST = { node: 150, track: 190, signal: 120 };
+export const SIZES = { node: 11.5, track: 10.5, signal: 10.5, object: 10 };
+export const LONGEST = { node: 150, track: 190, signal: 120, object: 90 };
 const GAP = 1.4;
 // the directions of thin lines
 const DIRECTIONS = Array.from({ length: 24 }, (_, step) => {

@@ -16,8 +16,15 @@ import { Letters } from "./letters.js";
 /** @typedef {{one: number, other: number, position: string}} Way a way through a node, from one edge to another, and how the
  * node's switch lies for it */
 
+/** @type {"straight"} */
 export const STRAIGHT = "straight";
+/** @type {"diverging"} */
 export const DIVERGING = "diverging";
+/** what the kinds of signals are called, by the types that files give them */
+export const SIGNALS = new Map(["main", "distant", "combined", "repeater", "shunting"].map((it) => [it, `${it} signal`]));
+/** @type {Map<string, string>} slips, by the types that files give to crossings */
+const SLIPS = new Map([["doubleSwitchCrossing", "double slip"], ["simpleSwitchCrossing", "single slip"],
+    ["singleSwitchCrossing", "single slip"]]);
 
 /** @type {(side: string) => string} where in a drawing is what the program calls east, since kilometres rise to it, or west */
 export const edgeOf = (side) => side === "east" ? "right" : "left";
@@ -49,8 +56,9 @@ export class Station {
 
     /** @returns {Set<string>} all that may be shown */
     #texts() {
-        const { names, tracks, signals } = this.file;
-        const found = [...names.keys(), ...names.values(), ...tracks.keys(), ...signals.keys()];
+        const { names, tracks, signals, objects } = this.file;
+        const found = [...names.keys(), ...names.values(), ...tracks.keys(), ...signals.keys(),
+            ...objects.flatMap((it) => [it.id, it.name])];
         found.push(...[...signals.values()].map((it) => it.name));
         if (this.graph) found.push(...this.graph.nodes.map((it) => it.name), ...this.graph.edges.map((it) => it.track));
         return new Set(found);
@@ -123,6 +131,12 @@ export class Station {
         return this.#isLabel(name, id, isSignal) ? `${name} (${own})` : `${own} (${name})`;
     }
 
+    /** @param {string} id @returns {string} the name of the operational point to which a line goes on at an end, or nothing */
+    leadsTo(id) {
+        const name = this.file.leads.get(id);
+        return name ? this.shown(name) : "";
+    }
+
     // ---- kinds and sides, from the graph
 
     /** @param {number} number @returns {GraphNode | null} */
@@ -139,6 +153,27 @@ export class Station {
         const node = this.node(number);
         if (!node) return "node";
         return node.kind === "end" ? this.file.ends.get(node.name) ?? "end" : node.kind;
+    }
+
+    /**
+     * @param {number} number
+     * @returns {string} what kind of sign a node has: a crossing's says whether the file has slips there
+     */
+    signOf(number) {
+        const kind = this.kind(number);
+        return kind === "crossing" ? SLIPS.get(this.file.points.get(this.node(number)?.name ?? "")?.type ?? "") ?? kind : kind;
+    }
+
+    /**
+     * The leg of a switch that the file has as its normal position; nothing where it has none, or another word.
+     * @param {number} number
+     * @returns {"straight" | "diverging" | ""}
+     */
+    normalLeg(number) {
+        const node = this.node(number), said = node?.kind === "switch" ? this.file.points.get(node.name) : undefined;
+        if (!said?.normal) return "";
+        const [isBranch, isTrack] = [said.course === said.normal, (said.goesOn || STRAIGHT) === said.normal];
+        return isBranch === isTrack ? "" : isBranch ? DIVERGING : STRAIGHT;
     }
 
     /**
@@ -231,6 +266,11 @@ export class Station {
     /** @param {string} id @returns {SignalInFile | null} */
     signal(id) {
         return this.file.signals.get(id) ?? null;
+    }
+
+    /** @param {string} id @returns {string} the kind of a signal, as its sign is called */
+    signalKind(id) {
+        return SIGNALS.get(this.signal(id)?.type ?? "") ?? "signal";
     }
 
     /**

@@ -2,7 +2,7 @@
  * One strip of a drawing: its lines, signs and names. What is around them is in frame.js.
  */
 import { kilometres } from "../messages/law_words.js";
-import { Columns, heightAt, neighbours } from "./columns.js";
+import { BEYOND, Columns, heightAt, neighbours } from "./columns.js";
 import { Field, Line, Name, Sign, overlap } from "./field.js";
 import { addFrame, putLimits } from "./frame.js";
 import { element } from "./markup.js";
@@ -90,6 +90,14 @@ export class StripPlan {
         this.leftOut = new Map();
         /** @type {number[]} the columns of signals that lie on something */
         this.clashes = [];
+        /** @type {Wish[]} names that want a place */
+        this.wishes = [];
+        /** @type {Wish[]} names of objects, which have none where there is no room */
+        this.objectWishes = [];
+        /** @type {Name[]} those that have a place */
+        this.objectNames = [];
+        /** @type {[number, string][]} the kilometres of objects at which the axis has ticks, by where they are */
+        this.objectTicks = [];
         /** @type {Box} */
         this.box = [0, 0, 0, 0];
     }
@@ -104,6 +112,16 @@ export class StripPlan {
     /** @param {Spot} point @returns {Spot} */
     at([column, row]) {
         return [this.x(column), -row * this.columns.row];
+    }
+
+    /** @param {number} x @returns {number} the column at a place, or the part of a way between two */
+    columnAt(x) {
+        const { first, last } = this.strip;
+        let column = first;
+        while (column < last && this.x(column + 1) <= x) column += 1;
+        const from = this.x(column);
+        if (x < from) return first - (from - x) / (2 * BEYOND);
+        return column + (x - from) / (column < last ? this.x(column + 1) - from : 2 * BEYOND);
     }
 
     /** @param {number} column @returns {boolean} */
@@ -147,7 +165,9 @@ export class StripPlan {
         const placed = this.clipped(edge).map((it) => this.at(it));
         if (placed.length < 2) return;
         const [kind, isMain] = [marks.edges.get(edge.number) ?? "", station.isMain(edge.track)];
-        for (const [start, end] of neighbours(placed)) this.field.add(new Line(start, end, kind ? 2.2 : isMain ? 1.8 : 1));
+        for (const [start, end] of neighbours(placed)) {
+            this.field.add(new Line(start, end, kind ? 2.2 : isMain ? 1.8 : 1, `edge ${edge.number}`));
+        }
         const points = signs.spots(placed);
         const [west, east] = [edge.west, edge.east].map((it) => station.both(drawing.nodes[it].name));
         const track = edge.track ? station.both(edge.track) : `edge ${edge.number}`;
@@ -189,7 +209,9 @@ export class StripPlan {
         const legs = known?.legs ? `, legs on the ${edgeOf(known.legs)}, diverging to the ${known.side} side` : "";
         const km = node.mileage && node.mileage !== "-" ? `, km ${kilometres(node.mileage)}` : "";
         const [column, row] = node.point;
-        return `${station.both(node.name)}: ${station.kind(node.number)}${legs}${km}; column ${column}, row ${row}`;
+        const sign = station.signOf(node.number), leads = station.leadsTo(node.name) && `, to ${station.leadsTo(node.name)}`;
+        const normal = station.normalLeg(node.number) && `, normally ${station.normalLeg(node.number)}`;
+        return `${station.both(node.name)}: ${sign}${leads}${legs}${normal}${km}; column ${column}, row ${row}`;
     }
 
     /** @param {number} number @returns {number} */
@@ -202,9 +224,20 @@ export class StripPlan {
     /** @param {Node} node @returns {signs.Drawn} */
     #signOf({ number }) {
         const station = this.scene.station;
-        const [kind, known] = [station.kind(number), station.node(number)];
+        const [kind, known] = [station.signOf(number), station.node(number)];
         const legs = kind === "switch" && known ? this.#directions(known.legs, station.edgesAt(number, known.legs)) : [];
-        return signs.nodeSign(kind, this.#outside(number), legs, kind === "joint" ? this.#slopeAt(number) : 0);
+        const sign = signs.nodeSign(kind, this.#outside(number), legs, kind === "joint" ? this.#slopeAt(number) : 0);
+        const normal = this.#normalSign(number);
+        return normal ? { ...sign, parts: [...sign.parts, ...normal.parts], lines: [...sign.lines, ...normal.lines] } : sign;
+    }
+
+    /** @param {number} number @returns {signs.Drawn | null} the mark at the leg that is a switch's normal position */
+    #normalSign(number) {
+        const { station } = this.scene, [normal, legs] = [station.normalLeg(number), station.legs(number)];
+        if (!normal || !legs) return null;
+        const edges = normal === "straight" ? [legs.straight, legs.diverging] : [legs.diverging, legs.straight];
+        const [leg, other] = this.#directions(station.node(number)?.legs ?? "", edges);
+        return signs.normalSign(leg, other);
     }
 
     /** @param {Node} node @returns {Wish} */
@@ -270,9 +303,9 @@ export class StripPlan {
 
     /** @param {Signal} signal @param {boolean | null} east @returns {string} */
     #saidOfSignal(signal, east) {
-        const mileage = this.scene.station.signalMileage(signal.name);
-        const km = mileage ? `, km ${kilometres(mileage.toString())}` : "";
-        return `${this.scene.station.both(signal.name, true)}: signal ${WAYS.get(east)}${km}; column ${signal.point[0]}`;
+        const { station } = this.scene, mileage = station.signalMileage(signal.name);
+        const km = mileage ? `, km ${kilometres(mileage.toString())}` : "", kind = station.signalKind(signal.name);
+        return `${station.both(signal.name, true)}: ${kind} ${WAYS.get(east)}${km}; column ${signal.point[0]}`;
     }
 
     /**
@@ -282,7 +315,7 @@ export class StripPlan {
      */
     #putSignal(signal) {
         const [[x, y], east] = [this.placeOf(signal), this.scene.station.headsEast(signal)];
-        const { parts, corners } = signs.signalSign(east, this.scene.isLeft);
+        const { parts, corners } = signs.signalSign(east, this.scene.isLeft, this.scene.station.signalKind(signal.name));
         const turn = east === null ? 0 : this.#signalSlope(signal, east);
         this.parts.things.push(element("g", { class: "sign signal", transform: movedTo([x, y]),
             "data-key": this.scene.key("s", signal.number) }, element("title", {}, this.#saidOfSignal(signal, east)),
@@ -360,6 +393,18 @@ export class StripPlan {
         }
     }
 
+    /** Writes the names of objects where there is room. */
+    #putObjectNames() {
+        const found = places.place(this.field, this.objectWishes, this.columns.row, { isCrowded: true });
+        for (const wish of this.objectWishes) {
+            const name = found.get(wish.owner), key = this.scene.key("o", Number(wish.owner.slice(7)));
+            if (name) {
+                this.objectNames.push(name);
+                this.parts.things.push(this.#nameOf(name, "name object", key));
+            } else this.leftOut.set(wish.owner, wish.whole);
+        }
+    }
+
     /** @param {Wish} wish @returns {string} the key of what a name is of; of a track that of its first edge */
     #keyOf({ kind, owner }) {
         const rest = owner.slice(kind.length + 1);
@@ -386,14 +431,14 @@ export class StripPlan {
 
     // ---- the whole
 
-    /** @returns {Wish[]} finds a place for lines and signs; the names that these want */
-    #laySigns() {
+    /** Finds a place for lines and signs; the names that these want wait for theirs. */
+    laySigns() {
         const { drawing, marks, signals } = this.scene;
         putLimits(this);
         const isMarked = marks.edges;
         for (const edge of drawing.edges.filter((it) => !isMarked.has(it.number))) this.#putEdge(edge);
         for (const edge of drawing.edges.filter((it) => isMarked.has(it.number))) this.#putEdge(edge);
-        return [...drawing.nodes.filter((it) => this.has(it.point[0])).map((it) => this.#putNode(it)),
+        this.wishes = [...drawing.nodes.filter((it) => this.has(it.point[0])).map((it) => this.#putNode(it)),
             ...signals.filter((it) => this.has(it.point[0])).map((it) => this.#putSignal(it))];
     }
 
@@ -404,14 +449,15 @@ export class StripPlan {
 
     /** Finds a place for lines and signs alone. */
     layBare() {
-        this.#laySigns();
+        this.laySigns();
         const [left, top, right, bottom] = this.bounds();
         this.box = [left - 6, top - 6, right + 6, bottom + 6];
     }
 
-    /** Finds a place for everything. */
+    /** Finds a place for all names and for what is around, where signs have theirs. */
     lay() {
-        this.#putNames([...this.#laySigns(), ...this.#trackWishes()]);
+        this.#putNames([...this.wishes, ...this.#trackWishes()]);
+        this.#putObjectNames();
         addFrame(this);
         const [left, top, right, bottom] = this.bounds();
         this.box = [left - 18, top - 14, right + 8, bottom + 6];
@@ -433,7 +479,7 @@ export class StripPlan {
 const around = (corners) => bounds(corners.map(([x, y]) => [x, y, x, y]));
 
 /** @param {Spot[]} corners @returns {Element} where a pointer finds a signal */
-function hitOf(corners) {
+export function hitOf(corners) {
     const [left, top, right, bottom] = around(corners);
     return element("rect", { class: "hit", x: shown(left), y: shown(top), width: shown(right - left),
         height: shown(bottom - top) });

@@ -198,7 +198,18 @@ function faultsOfNames(drawn) {
         ...drawn.texts.slice(at + 1).filter((it) => overlap(one.box, it.box)).map((it) => `${one.text} lies on ${it.text}`)]);
 }
 
-/** @param {Drawn} drawn @returns {string[]} signals that lie on a line, a sign or another signal */
+/**
+ * @type {(drawn: Drawn, key: string, box: Box) => boolean} whether what lies at a track meets another line than that on which
+ * it is
+ */
+function isOnOther(drawn, key, box) {
+    const spots = drawn.places.get(key) ?? [], isOwn = (/** @type {Piece} */ piece) => spots.some((it) => meets([...it, ...it],
+        piece, 0.2));
+    return box[3] - box[1] < 20 && drawn.lines.some(({ kind, piece }) => kind === "edge" && meets(box, piece, -0.3)
+        && !isOwn(piece));
+}
+
+/** @param {Drawn} drawn @returns {string[]} signals and objects that lie on a line, a sign or another one */
 function faultsOfSigns(drawn) {
     return drawn.signs.flatMap(({ key, box }) => {
         /** @type {Box} */
@@ -207,6 +218,7 @@ function faultsOfSigns(drawn) {
         const others = drawn.signs.filter((it) => it.key !== key && overlap(small, it.box)).map((it) =>
             `${key} lies on ${it.key}`);
         return [...key.startsWith("s") ? [...isOnLine ? [`${key} lies on a line`] : [], ...others] : [],
+            ...key.startsWith("o") ? [...isOnOther(drawn, key, box) ? [`${key} lies on another line`] : [], ...others] : [],
             ...isInside(box, drawn.view, 0.5) ? [] : [`${key} is cut off`]];
     });
 }

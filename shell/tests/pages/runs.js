@@ -51,7 +51,7 @@ export function runOf(words, output, how) {
     const inputs = line.names.slice(0, INPUTS.get(line.command) ?? 0).map((name) => inputOf(name, files.get(name)));
     const graphs = inputs.slice(0, 2).map(({ facts: { name } }) => ifStored(name.replace(/\.\w+$/, ".graph")));
     const hash = /^end /m.test(output) ? hashOf(sheetPart(output)) : "";
-    const shown = inputs[0]?.content ? notShown(inputs[0].content, line, output.split("\n")) : [];
+    const shown = inputs[0]?.content ? notShown(inputs[0].content, line, output.split("\n"), true) : [];
     return new Run({ words, output, names: line.names, options: line.options, inputs, graphs, date: DATE, sheetHash: hash,
         notShown: shown, ...more });
 }
