@@ -291,6 +291,12 @@ export default {
             "takes": "word",
             "choices": ["rising", "falling", "right", "left"]
         },
+        {
+            "word": "--certify",
+            "what": "puts the search's log, trimmed and checked, into the page, so that it certifies itself",
+            "takes": "nothing",
+            "commands": ["draw", "signals"]
+        },
         { "word": "--plain", "what": "leaves out of a page the program by which it checks itself", "takes": "nothing" }
     ],
     "paged": ["draw", "signals", "front", "explain", "redraw", "verify"],
@@ -406,8 +412,8 @@ export default {
             "what": "writes what users get into the folder OUT: an archive, a Debian package, the desk, and what was proved",
             "more": [
                 "It needs a clone whose gate passed for the commit that it is at, with nothing changed. What it writes",
-                "needs no kit: the archive runs wherever Node is. Made again from the same commit it has the same",
-                "bytes. SHA256SUMS has the sums, and PROVED says how to make it again."
+                "needs no kit: the archive is for Node on any system, and was tried on Linux. Made again from the same",
+                "commit it has the same bytes. SHA256SUMS has the sums, and PROVED says how to make it again."
             ],
             "names": [
                 { "word": "OUT", "what": "a folder that isn't there yet", "kind": "folder" }
@@ -451,7 +457,7 @@ export default {
         {
             "word": "--without", "value": "KIND,..", "takes": "word",
             "what": "leaves out kinds of changes",
-            "choices": ["encoding", "doctype", "prefix", "numbers", "offsets", "ids", "refs", "ends", "legs", "outside", "mileages", "joins"]
+            "choices": ["encoding", "doctype", "railml3", "prefix", "numbers", "offsets", "ids", "refs", "ends", "legs", "outside", "mileages", "joins"]
         },
         {
             "word": "--one-km", "takes": "nothing",
@@ -492,6 +498,11 @@ export default {
     "kinds": [
         { "word": "encoding", "found": "UTF-16, ISO-8859-1 or windows-1252", "written": "UTF-8" },
         { "word": "doctype", "found": "a DOCTYPE without entities", "written": "nothing" },
+        {
+            "word": "railml3",
+            "found": "infrastructure of railML 3.1 or 3.2: net elements, net relations, switches, crossings, buffer stops, signals",
+            "written": "tracks of railML 2, each switch with the hands of its leftBranch and rightBranch"
+        },
         {
             "word": "prefix",
             "found": "a prefix at the elements that are read, as rail:",

@@ -33,6 +33,8 @@ export class FolderRecord {
         /** @type {string[]} */
         this.order = [];
         this.certified = "";
+        /** what is known of the program that drew it: proved, unproved or unknown, and its SHA-256 */
+        this.program = "";
         this.seconds = 0;
         this.said = "";
         /** @type {string[]} */

@@ -41,6 +41,16 @@ export const ENDINGS = [
     ["130", "the run was stopped"],
 ];
 
+// what of the environment counts
+/** @type {[string, string][]} */
+const SETTINGS = [
+    ["PATH", "where rt of the Rattle kit, esbuild and wasm-opt are looked for"],
+    ["TMPDIR", "where files of a run are made and locks are, in place of /tmp"],
+    ["NO_COLOR", "if it isn't empty, standard error has no colours"],
+    ["DESTDIR", "install, uninstall: the folder in front of PREFIX"],
+    ["SOURCE_DATE_EPOCH", "the date of pages, in seconds since 1970"],
+];
+
 /**
  * All commands, those of the launcher itself behind the program's.
  * @returns {Map<string, Command>}
@@ -123,6 +133,7 @@ export function overview(called, times) {
     lines.push("", `Pages of ${PAGED.slice(0, -1).join(", ")} and ${PAGED.at(-1)}; no part of what is proved`);
     lines.push(...rowsOf(optionRows(PAGE_WORDS.values())));
     lines.push("", "Before the command", ...rowsOf(optionRows(FRONT_WORDS.values())), "", "A run ends with", ...rowsOf(ENDINGS, 7));
+    lines.push("", "Of the environment", ...rowsOf(SETTINGS));
     lines.push("", "README.md says more, and docs/formats.md has every text and every fault.");
     return `${lines.join("\n")}\n`;
 }
@@ -181,6 +192,6 @@ export function manPage(version) {
     lines.push(".SH PAGES", ...manRows(optionRows(PAGE_WORDS.values())));
     lines.push(".SH BEFORE THE COMMAND", ...manRows(optionRows(FRONT_WORDS.values())));
     lines.push(".SH EXAMPLES", ".nf", ...commands.flatMap((it) => it.examples.map((line) => escaped(`railplan ${line}`))));
-    lines.push(".fi", ".SH EXIT STATUS", ...manRows(ENDINGS), ".SH SEE ALSO", "README.md and docs/formats.md of the clone.");
+    lines.push(".fi", ".SH EXIT STATUS", ...manRows(ENDINGS), ".SH ENVIRONMENT", ...manRows(SETTINGS), ".SH SEE ALSO", "README.md and docs/formats.md of the clone.");
     return `${lines.join("\n")}\n`;
 }

@@ -238,7 +238,7 @@ export function read(given) {
     const line = new Line();
     for (let at = 0; at < given.length; at++) {
         const word = given[at], hasCommand = line.words.length > 0;
-        if (PAGE_WORDS.has(word) && !line.pages.has(word)) {
+        if (PAGE_WORDS.has(word) && !line.pages.has(word) && !OWN.get(line.command)?.options.includes(word)) {
             if (PAGE_WORDS.get(word)?.takes === "nothing") {
                 line.pages.set(word, "");
             } else if (at + 1 < given.length) {

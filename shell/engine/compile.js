@@ -28,6 +28,7 @@ export const NO_SHORTENER = "wasm-opt isn't there, which makes the program one t
 /** A step of a build that failed; its text is what the tool said. */
 export class BuildFailed extends Error {}
 
+/** @typedef {{file: string, isFilled: boolean}} Module an LLVM module, and whether new memory is filled with a pattern in it */
 /** @typedef {{kit: string, room: string, signal?: AbortSignal}} Bench the kit's folder, and one for what is made on the way */
 
 /**
@@ -64,7 +65,7 @@ export async function withBench(rt, signal, use) {
  * The module of the program without proofs, with its checks: as `rt try` makes it, which isn't let to compile it.
  * @param {Bench} bench
  * @param {string} crate the folder of the program's crate
- * @returns {Promise<string>} the module's file
+ * @returns {Promise<Module>}
  * @throws {Otherwise} where the kit goes other ways
  */
 export async function unprovedModule(bench, crate) {
@@ -75,7 +76,7 @@ export async function unprovedModule(bench, crate) {
     if (!existsSync(module)) {
         throw new Otherwise(`no module came of rt try: ${ran.said.trim().slice(-300)}`);
     }
-    return module;
+    return { file: module, isFilled: true };
 }
 
 /**
@@ -100,7 +101,7 @@ os.execv(rtlib.RATTLE, [rtlib.RATTLE, "build", *words])
  * that are proved. The program that comes of it is to be the same, byte for byte, as the one that is there.
  * @param {Bench} bench
  * @param {string} crate the folder of the program's crate, in whose out/ the proved program lies
- * @returns {Promise<string>} the module's file
+ * @returns {Promise<Module>}
  * @throws {Otherwise} where the kit goes other ways, or another program comes of it
  */
 export async function provedModule(bench, crate) {
@@ -115,7 +116,7 @@ export async function provedModule(bench, crate) {
     if (!readFileSync(made).equals(readFileSync(join(crate, "out/railplan_main")))) {
         throw new Otherwise("another program came of it than the one that is there");
     }
-    return module;
+    return { file: module, isFilled: false };
 }
 
 /**
@@ -132,24 +133,24 @@ async function linked(bench, compiled, to) {
 /**
  * The text of a module, changed for a target.
  * @param {Bench} bench
- * @param {string} module
+ * @param {Module} module
  * @param {"native" | "wasm"} target
  * @returns {Promise<string>} the text's file
  */
 async function textFor(bench, module, target) {
     const text = join(bench.room, "module.ll"), result = join(bench.room, `${target}.ll`);
     if (!existsSync(text)) {
-        const words = ["--target=x86_64-unknown-linux-gnu", "--no-default-config", "-x", "ir", module, "-S", "-emit-llvm", "-O0"];
+        const words = ["--target=x86_64-unknown-linux-gnu", "--no-default-config", "-x", "ir", module.file, "-S", "-emit-llvm", "-O0"];
         await step(bench, join(bench.kit, "toolchain/bin/clang"), [...words, "-Xclang", "-disable-llvm-passes", "-o", text]);
     }
-    writeFileSync(result, changed(readFileSync(text, "utf8"), target));
+    writeFileSync(result, changed(readFileSync(text, "utf8"), target, module.isFilled));
     return result;
 }
 
 /**
  * The native program of a module.
  * @param {Bench} bench
- * @param {string} module
+ * @param {Module} module
  * @param {string} to the program's file, which is written whole
  */
 export async function nativeProgram(bench, module, to) {
@@ -166,7 +167,7 @@ export async function nativeProgram(bench, module, to) {
 /**
  * The module as WebAssembly that every browser takes: railplan.wasm.
  * @param {Bench} bench
- * @param {string} module
+ * @param {Module} module
  * @param {string} to the file, which is written whole
  */
 export async function wasmProgram(bench, module, to) {

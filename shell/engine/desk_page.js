@@ -9,6 +9,13 @@ import { packed, sourceOf, written } from "./packed.js";
 
 const PAGE = join(dirname(dirname(fileURLToPath(import.meta.url))), "page");
 
+/** @param {string} one @param {string} other @returns {string} how both begin */
+function commonFront(one, other) {
+    let at = 0;
+    while (at < one.length && one[at] === other[at]) at++;
+    return one.slice(0, at);
+}
+
 /**
  * @param {string} top the folder that has shell/ in it
  * @param {{wasm: Uint8Array, version: string, build: string, isProved: boolean, example: string}} parts the module, the version, what is
@@ -20,7 +27,8 @@ export function deskPage(top, parts) {
     // what the pages of answers are made of: they are shown in a frame, under this page's own policy
     const pages = { ...stylesIn(top), script: packedScript(top, "page"), worker: packedScript(top, "worker") };
     const styles = [style, ...[...PAPERS.keys()].flatMap((paper) => stylesOf(pages, paper))];
-    const scripts = JSON.stringify({ ...pages, desk: packedScript(top, "desk") });
+    const desk = packedScript(top, "desk"), common = commonFront(pages.script, desk);
+    const scripts = JSON.stringify({ ...pages, common, script: pages.script.slice(common.length), desk: desk.slice(common.length) });
     const data = written({ ...parts, wasm: packed(parts.wasm), packed: packed(Buffer.from(scripts)) });
     const policy = [
         "default-src 'none'", `script-src ${[begin, pages.script].map(sourceOf).join(" ")} 'wasm-unsafe-eval' blob:`, "worker-src blob:",

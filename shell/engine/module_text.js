@@ -12,8 +12,9 @@ const FRAMES = / ?("frame-pointer"="all"|"probe-stack"="[^"]*"|"stack-probe-size
  * One line of a module, or null where it goes.
  * @param {string} line
  * @param {"native" | "wasm"} target
+ * @param {boolean} isFilled
  */
-export function changedLine(line, target) {
+function changedLine(line, target, isFilled) {
     if (line.startsWith("attributes #")) {
         const plain = line.replace(FRAMES, "");
         return (target === "wasm" ? plain.replace(/ "target-cpu"="[^"]*"/, "") : plain).replace("{ }", "{ nounwind }");
@@ -24,18 +25,18 @@ export function changedLine(line, target) {
     if (target === "wasm" && line.startsWith("target triple")) {
         return 'target triple = "wasm64-unknown-unknown"';
     }
-    // a run without proofs fills new memory with a pattern, for the tool that isn't used here
-    return line.includes(" i8 -86, i64 ") && line.includes("llvm.memset") ? null : line;
+    return isFilled && line.includes(" i8 -86, i64 ") && line.includes("llvm.memset") ? null : line;
 }
 
 /**
  * @param {string} text
  * @param {"native" | "wasm"} target
+ * @param {boolean} isFilled whether new memory is filled with a pattern, as a run without proofs does for the tool that isn't used here
  */
-export function changed(text, target) {
+export function changed(text, target, isFilled) {
     const lines = [];
     for (const line of text.split("\n")) {
-        const kept = changedLine(line, target);
+        const kept = changedLine(line, target, isFilled);
         if (kept !== null) {
             lines.push(kept);
         }

@@ -4,6 +4,7 @@ import { createHash } from "node:crypto";
 import { dirname, join } from "node:path";
 import { fileURLToPath } from "node:url";
 import { gzipSync } from "node:zlib";
+import { together } from "./together.js";
 
 const SHELL = dirname(dirname(fileURLToPath(import.meta.url)));
 /** where Debian has the packages of node */
@@ -23,16 +24,16 @@ export const NO_BUNDLER = "esbuild isn't there, which packs the script of a page
 /** A script couldn't be made. */
 export class NotBundled extends Error {}
 
+const WORDS = ["--bundle", "--minify", "--target=es2022", "--charset=utf8", "--log-level=error", ...READER];
+const environment = () => ({ ...process.env, NODE_PATH: PACKAGES });
+
 /**
  * A module of the shell with all that it imports, as one script.
  * @param {string} entry its path from shell/
- * @param {boolean} readsXml whether the XML reader is among what it imports
  * @throws {NotBundled}
  */
-export function bundled(entry, readsXml) {
-    const words = [join(SHELL, entry), "--bundle", "--minify", "--format=iife", "--target=es2022", "--charset=utf8", "--log-level=error",
-        ...READER, ...readsXml ? [`--banner:js=${READER_NOTICE}`] : []];
-    const ran = spawnSync("esbuild", words, { encoding: "utf8", env: { ...process.env, NODE_PATH: PACKAGES }, maxBuffer: 1 << 26 });
+export function bundled(entry) {
+    const ran = spawnSync("esbuild", [join(SHELL, entry), ...WORDS, "--format=iife"], { encoding: "utf8", env: environment(), maxBuffer: 1 << 26 });
     if (ran.error) {
         throw new NotBundled(NO_BUNDLER);
     }
@@ -40,6 +41,23 @@ export function bundled(entry, readsXml) {
         throw new NotBundled(`${entry} couldn't be packed: ${ran.stderr}`);
     }
     return ran.stdout;
+}
+
+/**
+ * Two modules of the shell that read XML, each with all that it imports as one script; what both have is at the beginning of both.
+ * @param {[string, string]} entries
+ * @returns {[string, string]}
+ * @throws {NotBundled}
+ */
+export function bundledTogether(entries) {
+    const [one, other] = entries.map((it) => join(SHELL, it)), { texts, why, isThere } = together([one, other], WORDS, READER_NOTICE, environment());
+    if (!isThere) {
+        throw new NotBundled(NO_BUNDLER);
+    }
+    if (why) {
+        throw new NotBundled(`${entries.join(" and ")} couldn't be packed: ${why}`);
+    }
+    return texts;
 }
 
 /**

@@ -1,9 +1,13 @@
 /** The desk: the whole program in a page. Files are chosen, a command is asked, and its answer is shown and can be saved. */
+import { MOST_HINTS } from "../both/folder_grids.js";
+import { packed } from "../both/packing.js";
 import { judgedFile } from "../both/line/judged.js";
 import { printable } from "../both/printable.js";
 import { quotedLine } from "../both/quoted.js";
-import { read } from "../both/words.js";
+import { sheetPart } from "../both/page/texts.js";
+import { pageWords, read } from "../both/words.js";
 import { answerOf, pictureOf } from "./desk_answer.js";
+import { certified } from "./desk_certify.js";
 import { engineOf } from "./desk_engine.js";
 import { chooser, dropped, taken } from "./desk_files.js";
 import { SLOTS, commandOf, formOf, pagesOf, slotsOf, wordsOf } from "./desk_form.js";
@@ -162,8 +166,9 @@ export class Desk {
      * Takes several stations, to draw them all.
      * @param {string} title
      * @param {Taken[]} files
+     * @param {import("../both/line/listing.js").Listed[]} [line] the stations of a line in their order
      */
-    several(title, files) {
+    several(title, files, line = []) {
         this.clear();
         const names = new Set(), named = files.map(({ name, bytes }) => {
             const at = name.lastIndexOf(".");
@@ -175,7 +180,7 @@ export class Desk {
         this.many = new Many(title, named, this.tools.start, () => {
             const form = this.command === "draw" ? this.form : formOf("draw");
             return { options: wordsOf("draw", form, () => "", "").slice(2), pages: pagesOf(form), maker: this.tools.maker };
-        }, (file) => this.begin(file));
+        }, (file) => this.begin(file), line);
         this.choose("draw");
         this.shown.replaceChildren(...this.many.shown());
     }
@@ -192,7 +197,7 @@ export class Desk {
             reason ? notes.push(`${file.name}.xml isn't taken: ${reason}`) : good.push({ name: `${file.name}.xml`, bytes });
         }
         if (good.length) {
-            this.several(name.replace(/\.\w+$/, ""), good);
+            this.several(name.replace(/\.\w+$/, ""), good, files.map((it) => it.listed));
         }
         this.station.replaceChildren(element("p", {}, `${printable(name)} was cut into stations. This is no part of what is proved.`),
             element("ul", {}, ...notes.map((it) => element("li", {}, printable(it)))));
@@ -254,7 +259,7 @@ export class Desk {
             return element("li", {}, `${SLOTS.get(slot)}: `, element("b", {}, there), ...(slot === "station" ? []
                 : [" ", chooser(`choose ${SLOTS.get(slot)}`, (files) => void this.fill(slot, files))]));
         }));
-        const pages = pagesOf(this.form), page = pages.size ? ["--html", `${this.stem}.html`, ...[...pages].flat()] : [];
+        const pages = pagesOf(this.form), page = pages.size ? ["--html", `${this.stem}.html`, ...[...pages].flatMap(pageWords)] : [];
         this.commandLine.textContent = `railplan ${quotedLine([...page, ...this.words()])}`;
         this.start.disabled = this.search !== undefined || !slots.every((slot) => this.placed.has(slot));
         this.stop.disabled = this.search === undefined;
@@ -273,7 +278,7 @@ export class Desk {
             far: (said) => { this.far.textContent = said; },
             found: (found) => {
                 const what = `The best drawing of ${station?.name} so far; the search goes on`;
-                this.shown.replaceChildren(...(this.placed.get("station") === station ? [pictureOf(found.picture, what)] : []));
+                this.shown.replaceChildren(...(found.picture && this.placed.get("station") === station ? [pictureOf(found.picture, what)] : []));
             },
         });
         this.search = search;
@@ -281,7 +286,7 @@ export class Desk {
         this.renew();
         try {
             const ran = await search.run();
-            // another station was put there meanwhile: this answer isn't its
+            // another station took its place meanwhile: this answer isn't its
             if (this.placed.get("station") === station) {
                 await this.show(given, pages, files, ran, search);
             }
@@ -319,15 +324,28 @@ export class Desk {
         const run = { line: read(words), status: ran.status, output, trap: ran.trap, seen: seenOn(files), graph: () => this.graph(files) };
         const stopped = best ? [element("p", {}, "The search ended before its end. This is the last drawing that was drawn by then.")] : [];
         const ask = (/** @type {string[]} */ further) => this.engines.second.run({ words: further, files });
-        const page = CUT.has(ran.status) && !best ? ""
-            : (await pageOf(best ? { ...run, status: 4 } : run, { files, pages, picture, ask }, this.tools.maker)).text;
+        const certificate = pages.has("--certify") && log && !CUT.has(ran.status) ? await this.certify(files, output, log) : undefined;
+        keep("hints", "hints", certificate?.hints);
+        const carried = certificate?.hints ? await packed(certificate.hints) : "";
+        const page = CUT.has(ran.status) && !best ? "" : (await pageOf(best ? { ...run, status: 4 } : run,
+            { files, pages, picture, hints: carried.length <= MOST_HINTS ? carried : "", ask }, this.tools.maker)).text;
         const answer = await answerOf(run, { picture: page ? undefined : picture, saved: page
             ? [[`${this.stem}.html`, new TextEncoder().encode(page), "text/html"], ...saved] : saved });
         if (this.placed.get("station") !== station) {
             return;
         }
-        this.shown.replaceChildren(...stopped, answer, ...(page ? [framed(page, `The page of ${words.join(" ")}`)] : []));
+        const noted = certificate ? [element("p", { class: "certificate" }, `Its log was trimmed, and what is left of it checked: ${certificate.said}.`)] : [];
+        this.shown.replaceChildren(...stopped, ...noted, answer, ...(page ? [framed(page, `The page of ${words.join(" ")}`)] : []));
         this.far.textContent = `${ran.seconds.toFixed(2)} s`;
+    }
+
+    /**
+     * Trims the log of a search, and checks what is left of it.
+     * @param {Map<string, Uint8Array>} files @param {Uint8Array} output @param {Uint8Array} log
+     */
+    certify(files, output, log) {
+        const name = this.placed.get("station")?.name ?? "", sheet = new TextEncoder().encode(sheetPart(new TextDecoder().decode(output)));
+        return certified((words, more) => this.engines.second.run({ words, files: new Map([...files, ...more]) }), name, sheet, log);
     }
 
     /**

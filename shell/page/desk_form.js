@@ -58,14 +58,26 @@ function choiceOf({ word, what, usual = "", choices = [] }) {
 const pageChoices = () => [...PAGE_WORDS.values()].filter((it) => it.choices);
 
 /**
- * The words of pages that are chosen, each with its value.
+ * the words of pages that a command has without a value
+ * @param {string} command
+ * @returns {Option[]}
+ */
+const pageFlags = (command) => [...PAGE_WORDS.values()].filter((it) => it.takes === "nothing" && it.commands?.includes(command));
+
+/** @param {Option} option a word without a value */
+function flagOf({ word, what }) {
+    return element("label", { class: "field" }, element("span", {}, `${word.slice(2)}: ${what}`), element("input", { type: "checkbox", name: word }));
+}
+
+/**
+ * The words of pages that are chosen, each with its value; "" for one that has none.
  * @param {HTMLFormElement} form
  * @returns {Map<string, string>}
  */
 export function pagesOf(form) {
-    const given = new FormData(form);
-    return new Map(pageChoices().map(({ word }) => /** @type {[string, string]} */ ([word, String(given.get(word) ?? "")]))
-        .filter(([, value]) => value !== ""));
+    const given = new FormData(form), chosen = pageChoices().map(({ word }) => /** @type {[string, string]} */ ([word, String(given.get(word) ?? "")]));
+    const flags = [...PAGE_WORDS.keys()].filter((word) => given.get(word) === "on").map((word) => /** @type {[string, string]} */ ([word, ""]));
+    return new Map([...chosen.filter(([, value]) => value !== ""), ...flags]);
 }
 
 /**
@@ -79,7 +91,7 @@ export function formOf(word) {
         form.append(element("label", { class: "field" }, element("span", {}, "two criteria, with a comma between them"), input));
     }
     const options = command.options.map((it) => /** @type {Option} */ (OPTIONS.get(it))).filter((it) => it.takes !== "file");
-    form.append(...options.map(fieldOf), ...PAGED.includes(word) ? pageChoices().map(choiceOf) : []);
+    form.append(...options.map(fieldOf), ...PAGED.includes(word) ? [...pageChoices().map(choiceOf), ...pageFlags(word).map(flagOf)] : []);
     form.addEventListener("submit", (event) => event.preventDefault());
     return form;
 }

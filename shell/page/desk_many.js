@@ -23,10 +23,12 @@ export class Many {
      * @param {() => WasmEngine} start starts a program
      * @param {() => Omit<Setting, "signal" | "certifies">} setting what holds for all, as the form says it now
      * @param {(file: Taken) => void} choose puts a station alone on the desk
+     * @param {import("../both/line/listing.js").Listed[]} line the stations of a line in their order, as the files are then
      */
-    constructor(title, files, start, setting, choose) {
+    constructor(title, files, start, setting, choose, line) {
         this.title = title;
-        this.files = files.sort((one, other) => byName(one.name, other.name));
+        this.line = line;
+        this.files = line.length ? files : files.sort((one, other) => byName(one.name, other.name));
         this.start = start;
         this.setting = setting;
         this.choose = choose;
@@ -121,7 +123,7 @@ export class Many {
     save() {
         const made = [...this.made.values()], records = made.map((it) => it.record);
         if (!made.length) return;
-        const files = new Map([["index.html", new TextEncoder().encode(indexOf(this.title, records))], ...made.flatMap((it) => [...it.files])]);
+        const files = new Map([["index.html", new TextEncoder().encode(indexOf(this.title, records, this.line))], ...made.flatMap((it) => [...it.files])]);
         const pieces = archive(files), name = `${this.title.replace(/[^\p{L}\p{N}._-]+/gu, "_")}.zip`;
         const size = pieces.reduce((sum, it) => sum + it.length, 0);
         const link = element("a", { href: URL.createObjectURL(new Blob(pieces, { type: "application/zip" })), download: name }, `${name} (${sized(size)})`);

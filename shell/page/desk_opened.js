@@ -10,13 +10,13 @@ import { one } from "./tree.js";
 
 /** @typedef {{version: string, build: string, isProved: boolean, wasm: string, packed: string, example: string}} Data what the page
  * carries */
-/** @typedef {import("./desk_page.js").Parts & {desk: string}} Scripts what pages are made of, and this script */
+/** @typedef {import("./desk_page.js").Parts & {common: string, desk: string}} Scripts what pages are made of, this script, and how both begin */
 
 async function open() {
     const data = /** @type {Data} */ (JSON.parse(one("#data")?.textContent ?? ""));
     const wasm = await unpacked(data.wasm), program = await sha256(wasm), module = await WebAssembly.compile(wasm);
-    const { desk, ...parts } = /** @type {Scripts} */ (JSON.parse(new TextDecoder().decode(await unpacked(data.packed))));
-    const script = URL.createObjectURL(new Blob([desk], { type: "text/javascript" }));
+    const { common, desk, ...packed } = /** @type {Scripts} */ (JSON.parse(new TextDecoder().decode(await unpacked(data.packed))));
+    const script = URL.createObjectURL(new Blob([common, desk], { type: "text/javascript" })), parts = { ...packed, script: common + packed.script };
     one("#program")?.append(`Version ${data.version}. The program: ${data.build}; as WebAssembly its SHA-256 is ${program}.`);
     const maker = { parts, wasm: data.wasm, program, version: data.version, isProved: data.isProved };
     new Desk({ start: () => engineOf(module, parts.worker), reader: new Reader(script), maker, example: data.example }).build();

@@ -7,7 +7,7 @@ import { textOf } from "../both/page/record.js";
 import { recorded, settingsOf } from "../both/page/recording.js";
 import { NoPage } from "../both/page/texts.js";
 import { pageText, stylesOf } from "../both/page/written.js";
-import { PAGED } from "../both/words.js";
+import { PAGED, pageWords } from "../both/words.js";
 import { sha256 } from "./desk_engine.js";
 import { element } from "./elements.js";
 
@@ -65,7 +65,7 @@ export async function pageOf({ line, status, output, seen }, { files, pages, pic
     }));
     const settings = settingsOf(pages), build = { state: /** @type {"proved" | "unproved"} */ (isProved ? "proved" : "unproved"), sha256: "" };
     const run = await recorded(line, { status, output }, { inputs, settings, build, version, date: Date.now() / 1000,
-        page: `${line.names[0]}.html`, frontWords: [...pages].flat() }, { called: "railplan", seen, ask, sha256 });
+        page: `${line.names[0]}.html`, frontWords: [...pages].flatMap(pageWords) }, { called: "railplan", seen, ask, sha256 });
     const { script, worker, ...styles } = parts, page = outline(run);
     const text = pageText(page, settings.paper, { ...styles, script, hashOf: await hashesOf(parts, settings.paper),
         picture: picture ? new TextDecoder().decode(picture) : "", data: await packed(new TextEncoder().encode(textOf(run.record))),

@@ -3,16 +3,17 @@
  * stations of a line.
  */
 import { wholeOf } from "../both/line/judged.js";
+import { mendedLine } from "../both/line/mended.js";
 import { cutLine } from "../both/line/stations.js";
+import { offeredOf } from "../both/mending/offered.js";
 import { notShown } from "../both/messages/not_shown.js";
-import { mended, STRUCTURAL, withMark } from "../both/prepare.js";
 import { read as readFile } from "../both/railml.js";
+import { sidesOf } from "../both/sides/said.js";
 import { read } from "../both/words.js";
 
-/** @typedef {{tracks: number, points: number, open: string[]}} Read what a file has: tracks, switches and crossings, and what a drawing of
- * it doesn't show */
-/** @typedef {{data: Uint8Array, unfit: string, changes: string[], guesses: string[], doubts: string[]}} Mended what prepare makes
- * of a file */
+/** @typedef {import("../both/mending/offered.js").Offered} Mended */
+/** @typedef {{tracks: number, points: number, good: string[], open: string[]}} Read what a file has: tracks, switches and crossings, what
+ * confirms its sides, and what a drawing of it doesn't show */
 /**
  * @typedef {{said: string[], files: import("../both/line/stations.js").StationFile[],
  *     whole: import("../both/line/judged.js").Whole}} Cut the stations of a line, what is to be said, and what the whole file says of
@@ -21,8 +22,6 @@ import { read } from "../both/words.js";
 /** @typedef {{what: "read" | "mend" | "cut", name: string, bytes: Uint8Array}} Wanted */
 
 const CALLED = "railplan";
-// what is mended here isn't judged, so tracks and switches stay as they are
-const ASKED = { without: STRUCTURAL };
 
 /**
  * @param {string} name
@@ -32,17 +31,8 @@ const ASKED = { without: STRUCTURAL };
 function readNow(name, bytes) {
     const document = readFile(bytes), tracks = document.tracks();
     const points = document.elements.filter((it) => it.name === "switch" || it.name === "crossing").length;
-    return { tracks: tracks.length, points, open: document.trouble ? [] : notShown(bytes, read(["draw", name]), []) };
-}
-
-/**
- * @param {string} name
- * @param {Uint8Array} bytes
- * @returns {Mended}
- */
-function mendNow(name, bytes) {
-    const { data, unfit, changes, guesses, doubts } = mended(name, bytes, CALLED, ASKED);
-    return { data: changes.length ? withMark(data) : data, unfit, changes, guesses, doubts };
+    const isRead = !document.trouble;
+    return { tracks: tracks.length, points, good: isRead ? sidesOf(document).good : [], open: isRead ? notShown(bytes, read(["draw", name]), [], true) : [] };
 }
 
 /**
@@ -51,7 +41,7 @@ function mendNow(name, bytes) {
  * @returns {Cut}
  */
 function cutNow(name, bytes) {
-    const it = mended(name, bytes, CALLED, ASKED), document = readFile(it.data);
+    const it = mendedLine(name, bytes, CALLED), document = readFile(it.data);
     if (it.unfit || document.trouble) {
         return { said: [it.unfit || `line ${document.trouble?.line}: ${document.trouble?.what}`], files: [], whole: wholeOf(document) };
     }
@@ -61,7 +51,7 @@ function cutNow(name, bytes) {
 
 /** answers each message, in a worker */
 export function serveReading() {
-    const does = { read: readNow, mend: mendNow, cut: cutNow };
+    const does = { read: readNow, mend: (/** @type {string} */ name, /** @type {Uint8Array} */ bytes) => offeredOf(name, bytes, CALLED), cut: cutNow };
     onmessage = ({ data }) => {
         const { what, name, bytes } = /** @type {Wanted} */ (data);
         try {

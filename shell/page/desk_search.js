@@ -3,16 +3,19 @@
  * learnt clauses as it had then: it ends with the drawing that was found by then.
  */
 import { Searched, duration } from "../both/searched.js";
+import { OPTIONS } from "../both/words.js";
 
 /** @typedef {import("../both/wasm_engine.js").WasmEngine} WasmEngine */
 /** @typedef {Awaited<ReturnType<WasmEngine["run"]>>} Ran */
 /**
- * @typedef {{picture: Uint8Array, sheet: Uint8Array, log: Uint8Array}} Found a drawing: its picture, its sheet, and the log of
- * its search
+ * @typedef {{picture?: Uint8Array, sheet: Uint8Array, log: Uint8Array}} Found a drawing: its picture, where the command has one, what
+ * was printed, and the log of its search
  */
 
 /** how often is said how far it is, in milliseconds */
 const OFTEN = 200;
+/** the commands whose search can be done again with as many learnt clauses */
+const DRAWING = new Set(["draw", "signals", "redraw"]);
 export const PICTURE = "picture.svg", LOG = "search.log";
 
 /** One run, from its words to its end. */
@@ -61,14 +64,15 @@ export class Search {
     /** @param {boolean} hasLog */
     say(hasLog) {
         const seconds = duration((performance.now() - this.began) / 1000);
-        const learnt = `${this.searched.learnt.toLocaleString("en")} clauses learnt`;
+        const budget = Number(this.words[this.words.indexOf("--conflicts") + 1 || this.words.length] ?? OPTIONS.get("--conflicts")?.usual);
+        const learnt = `${this.searched.learnt.toLocaleString("en")} of ${budget.toLocaleString("en")} clauses learnt`;
         this.hear.far(hasLog ? `${this.searched.inWords()} · ${learnt} · ${seconds}` : `running · ${seconds}`);
     }
 
     /** draws the best so far, where a better one was found and none is being drawn */
     look() {
         const known = this.searched.hasModel ? this.searched.inWords() : "";
-        if (this.words[0] !== "draw" || this.isLooking || known === this.known || known === "") {
+        if (!DRAWING.has(this.words[0]) || this.isLooking || known === this.known || known === "") {
             return;
         }
         this.known = known;
@@ -78,7 +82,7 @@ export class Search {
         void this.engines.second.run({ words, files: this.files, signal: this.stop.signal }).then((ran) => {
             this.isLooking = false;
             const picture = ran.files.get(PICTURE), log = ran.files.get(LOG);
-            if (picture && log && !this.stop.signal.aborted) {
+            if ([0, 4].includes(ran.status) && log && !this.stop.signal.aborted) {
                 this.best = { picture, log, sheet: ran.output };
                 this.hear.found(this.best);
                 this.look();

@@ -1,4 +1,5 @@
 /** What was read of a station's file: its size, its tracks and nodes, what a drawing doesn't show; its fault, and what may help. */
+import { whyUnfit } from "../both/mending/judge.js";
 import { printable } from "../both/printable.js";
 import { linesOf } from "../both/messages/telling.js";
 import { read } from "../both/words.js";
@@ -26,8 +27,8 @@ const list = (texts) => element("ul", {}, ...texts.map((it) => element("li", {},
  * @param {Taken} file
  * @param {Hands} hands
  */
-async function mending(file, { reader, use }) {
-    const { data, unfit, changes, guesses, doubts } = await reader.mend(file.name, file.bytes);
+async function mending(file, { reader, engine, use }) {
+    const { data, unfit, changes, guesses, doubts, kept } = await reader.mend(file.name, file.bytes);
     if (unfit) {
         return [element("p", {}, `It can't be mended: ${printable(unfit)}`)];
     }
@@ -36,6 +37,10 @@ async function mending(file, { reader, use }) {
     }
     if (!changes.length) {
         return [element("p", {}, "Nothing in it is of a kind that prepare mends.")];
+    }
+    const wrong = kept ? await whyUnfit(engine, file.name, data, kept) : "";
+    if (wrong) {
+        return [element("p", {}, `It isn't mended: ${printable(wrong)}`)];
     }
     const name = file.name.replace(/(\.\w+)?$/, "_mended.xml");
     return [element("p", {}, `prepare would change ${counted(changes.length, "thing")}, and nothing else. This is no part of what is proved:`),
@@ -80,13 +85,14 @@ function offers(file, hands, { hasFault, isLong }) {
  */
 export async function whatWasRead(file, hands) {
     const { name, bytes } = file, files = new Map([[name, bytes]]);
-    const [{ tracks, points, open }, ran] = await Promise.all([hands.reader.read(name, bytes), hands.engine.run({ words: ["graph", name], files })]);
+    const [{ tracks, points, good, open }, ran] = await Promise.all([hands.reader.read(name, bytes), hands.engine.run({ words: ["graph", name], files })]);
     const graph = ran.status === 0 ? linesOf(ran.output) : [];
     const size = (/** @type {string} */ word) => Number(graph.find((it) => it.startsWith(`${word} `))?.split(" ")[1] ?? 0);
     const nodes = ran.status === 0 ? `; ${counted(size("nodes"), "node")} and ${counted(size("edges"), "piece")} of track between them` : "";
     const what = `${name}: ${sized(bytes.length)}, ${counted(tracks, "track")}, ${counted(points, "switch or crossing", "switches and crossings")}${nodes}.`;
     const fault = ran.status === 0 ? [] : [await answerOf({ line: read(["graph", name]), status: ran.status, output: ran.output, trap: ran.trap,
         seen: seenOn(files), graph: async () => [] }, { saved: [] })];
-    return [element("p", { class: "read" }, what), ...(open.length ? [list(open)] : []), ...fault,
+    const said = [...ran.status === 0 ? good : [], ...open];
+    return [element("p", { class: "read" }, what), ...(said.length ? [list(said)] : []), ...fault,
         ...offers(file, hands, { hasFault: ran.status !== 0, isLong: points >= MANY_POINTS || /^(long|topology 2|graph [12])\b/.test(linesOf(ran.output)[0] ?? "") })];
 }

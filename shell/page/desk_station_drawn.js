@@ -6,6 +6,7 @@ import { linesOf, notesOf } from "../both/messages/telling.js";
 import { plain } from "../both/notes.js";
 import { packed } from "../both/packing.js";
 import { read } from "../both/words.js";
+import { certified } from "./desk_certify.js";
 import { seenOn } from "./desk_memory.js";
 import { pageOf } from "./desk_page.js";
 
@@ -20,7 +21,7 @@ import { pageOf } from "./desk_page.js";
  * @property {AbortSignal} signal */
 /** @typedef {{record: FolderRecord, files: Map<string, Uint8Array>}} Made what came of a station, and its files by their names */
 
-const PICTURE = "picture.svg", LOG = "search.log", SHEET = "station.sheet", HINTS = "station.hints";
+const PICTURE = "picture.svg", LOG = "search.log";
 
 /** The run was stopped. */
 export class Stopped extends Error {}
@@ -71,12 +72,9 @@ class Drawing {
      * @returns {Promise<string>} what recheck answers
      */
     async certify(sheet, log) {
-        const trimmed = await this.program(["trim", this.file.name, SHEET, LOG, HINTS], [[SHEET, sheet], [LOG, log]]);
-        const hints = trimmed.files.get(HINTS);
-        if (trimmed.status !== 0 || !hints) return linesOf(trimmed.output).join("\n").trim() || `ended with ${trimmed.status}`;
-        this.keep("hints", hints);
-        const ran = await this.program(["recheck", this.file.name, SHEET, HINTS], [[SHEET, sheet], [HINTS, hints]]);
-        return linesOf(ran.output).join("\n").trim() || `ended with ${ran.status}`;
+        const { said, hints } = await certified((words, files) => this.program(words, files), this.file.name, sheet, log);
+        if (hints) this.keep("hints", hints);
+        return said;
     }
 
     /**
@@ -96,7 +94,8 @@ class Drawing {
 
     /** @returns {Promise<Made>} */
     async whole() {
-        const began = performance.now(), asked = await this.program(["graph", this.file.name]), record = new FolderRecord(this.stem);
+        const began = performance.now(), asked = await this.program(["graph", this.file.name]);
+        const record = new FolderRecord(this.stem, "", { program: this.setting.maker.isProved ? "proved" : "unproved" });
         const graph = asked.status ? [] : linesOf(asked.output), { ran, words, grid } = await this.draw(graph), log = ran.files.get(LOG);
         if (note(record, ran.status, linesOf(ran.output), grid, this.setting.options)) {
             this.keep("sheet", ran.output);

@@ -14,6 +14,14 @@ function carried(kind) {
     return JSON.parse(one(`script.${kind}`)?.textContent || '""');
 }
 
+/** what is shown in the place of the badges of a page that isn't so */
+function notSo() {
+    const badge = document.createElement("span");
+    badge.className = "badge broken";
+    badge.textContent = "this page isn't what it says";
+    return badge;
+}
+
 /** @param {import("../both/page/run.js").RunRecord} record */
 export async function checkSelf(record) {
     const place = one(".checked"), program = carried("program");
@@ -36,6 +44,7 @@ export async function checkSelf(record) {
         const judged = sheetOf(record) || !isSound ? inWords(record, verdict) : "checked here: the file and its track graph";
         const said = `${judged}. Not judged: ${verdict.open.join("; ")}`;
         document.body.classList.toggle("unsound", !isSound);
+        if (!isSound) document.querySelector(".badges")?.replaceChildren(notSo());
         place.textContent = `${said}. The program: WebAssembly, SHA-256 ${await sha256(wasm)}. ${MORE}`;
         document.body.dataset.checked = isSound ? "right" : "wrong";
     } catch (error) {

@@ -2,34 +2,21 @@
  * The scripts of pages and of the desk, and their styles. A script is packed once from its modules, and kept in out/shell/ by
  * their hash.
  */
-import { createHash } from "node:crypto";
-import { mkdirSync, readFileSync, readdirSync } from "node:fs";
+import { mkdirSync, readFileSync } from "node:fs";
 import { join } from "node:path";
-import { NotBundled, bundled } from "../engine/packed.js";
+import { NotBundled, bundled, bundledTogether } from "../engine/packed.js";
 import { writeWhole } from "./files.js";
+import { sumOfModules } from "./hash.js";
 import { end } from "./say.js";
 
-/** where scripts are kept, the module with which each begins, and which of them read XML */
-const KEPT = "out/shell", READING = ["page", "desk"];
+/** where scripts are kept, and the module with which each begins */
+const KEPT = "out/shell";
 const ENTRIES = { page: "page/opened.js", worker: "page/desk_worker.js", desk: "page/desk_opened.js", begin: "page/desk_begin.js" };
 /** how many scripts there are */
 export const SCRIPTS = Object.keys(ENTRIES).length;
-const FOLDERS = ["both", "both/line", "both/messages", "both/page", "page"];
 
-/**
- * What the modules of pages are, as one hash.
- * @param {string} shell the folder of the shell
- * @returns {string}
- */
-function sumOf(shell) {
-    const sum = createHash("sha256");
-    for (const folder of FOLDERS) {
-        for (const name of readdirSync(join(shell, folder)).filter((it) => it.endsWith(".js")).sort()) {
-            sum.update(`${folder}/${name}\n`).update(readFileSync(join(shell, folder, name)));
-        }
-    }
-    return sum.digest("hex");
-}
+/** @param {string} shell the folder of the shell @returns {string} what the modules of pages are, as one hash */
+const sumOf = (shell) => sumOfModules(shell, ["both", "page"]);
 
 /** @param {string} name @returns {string} what a file has, or "" */
 function read(name) {
@@ -90,7 +77,13 @@ export function packedScript(top, kind) {
     const [folder, name] = [join(top, KEPT), `${kind}-${sumOf(join(top, "shell"))}.js`];
     const known = read(join(folder, name));
     if (known) return known;
-    const script = bundled(ENTRIES[kind], READING.includes(kind));
+    if (kind === "page" || kind === "desk") {
+        const [page, desk] = bundledTogether([ENTRIES.page, ENTRIES.desk]), sum = name.slice(kind.length);
+        keep(folder, `page${sum}`, page);
+        keep(folder, `desk${sum}`, desk);
+        return kind === "page" ? page : desk;
+    }
+    const script = bundled(ENTRIES[kind]);
     keep(folder, name, script);
     return script;
 }

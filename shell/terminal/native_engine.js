@@ -15,6 +15,9 @@ import { COMMANDS, isFileName, read } from "../both/words.js";
 const PATIENCE = 5000;
 // within this time a signal reaches all programs of a terminal
 const TOGETHER = 30;
+// how often it is looked at what a run over files has written
+const LOOK_MS = 100;
+const NO_MEMORY = 7;
 
 /**
  * how a shell reads one word; bytes that Node couldn't hand on are written by printf
@@ -117,12 +120,13 @@ export class NativeEngine {
         const folder = mkdtempSync(`${tmpdir()}/railplan-`);
         try {
             const { words, written } = placed(job.words, files, folder);
-            const ran = await this.runHere({ ...job, words });
-            for (const [name, place] of ran.wasStopped ? [] : written) {
-                try {
-                    ran.files.set(name, readFileSync(place));
-                } catch {
-                    continue;
+            const look = job.seen && looking(written, job.seen), timer = look && setInterval(look, LOOK_MS);
+            const ran = await this.runHere({ ...job, words }).finally(() => clearInterval(timer));
+            look?.();
+            for (const [name, place] of ran.wasStopped || ran.status === NO_MEMORY ? [] : written) {
+                const data = contentOf(place);
+                if (data) {
+                    ran.files.set(name, data);
                 }
             }
             return ran;
@@ -130,6 +134,33 @@ export class NativeEngine {
             rmSync(folder, { recursive: true, force: true });
         }
     }
+}
+
+/** @param {string} place @returns {Buffer | null} */
+function contentOf(place) {
+    try {
+        return readFileSync(place);
+    } catch {
+        return null;
+    }
+}
+
+/**
+ * What tells of the files that a run writes as they grow; each call says what is new since the one before.
+ * @param {Map<string, string>} written the files' places, by the names that the words have
+ * @param {NonNullable<Job["seen"]>} seen
+ */
+function looking(written, seen) {
+    const known = new Map([...written.keys()].map((name) => [name, 0]));
+    return () => {
+        for (const [name, place] of written) {
+            const data = contentOf(place), from = known.get(name) ?? 0;
+            if (data && data.length > from) {
+                known.set(name, data.length);
+                seen(name, data.subarray(from));
+            }
+        }
+    };
 }
 
 /**

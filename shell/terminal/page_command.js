@@ -4,13 +4,14 @@
 import { mkdtempSync, readFileSync, rmSync, writeFileSync } from "node:fs";
 import { tmpdir } from "node:os";
 import { packed, sourceOf } from "../engine/packed.js";
+import { MOST_HINTS } from "../both/folder_grids.js";
 import { best } from "../both/messages/advice.js";
 import { linesOf } from "../both/messages/telling.js";
 import { PAGES, dxfOf, outline, smallOf } from "../both/page/kinds.js";
 import { textOf } from "../both/page/record.js";
 import { recorded, settingsOf } from "../both/page/recording.js";
 import { INPUTS } from "../both/page/run.js";
-import { NoPage, sheetIn } from "../both/page/texts.js";
+import { NoPage, sheetIn, sheetPart } from "../both/page/texts.js";
 import { pageText, stylesOf } from "../both/page/written.js";
 import { ofLine } from "../both/places.js";
 import { quotedLine } from "../both/quoted.js";
@@ -59,7 +60,7 @@ export function refuse(line) {
     if (taken) end(2, asName(line, taken));
     const other = [...line.pages.keys()].find((word) => PAGE_WORDS.get(word)?.commands?.includes(line.command) === false);
     if (other && PAGES.has(line.command)) {
-        end(2, `${other} is a word of ${PAGE_WORDS.get(other)?.commands?.join(" and ")}; ${elsewhere(line)}`);
+        end(2, `${other} is a word of ${PAGE_WORDS.get(other)?.commands?.join(" and ")}${other === "--sheet" ? `; ${elsewhere(line)}` : ""}`);
     }
     if (files.some(([, name]) => !name) || COMMANDS.has(line.command) && !PAGES.has(line.command) || !line.command) end(2, USE);
 }
@@ -135,6 +136,8 @@ class PageRun {
         this.copies = new Map();
         /** @type {Map<string, string>} and by their names */
         this.copyOf = new Map();
+        // what certifies the page, packed
+        this.hints = "";
     }
 
     end() {
@@ -170,10 +173,16 @@ class PageRun {
         return this.script !== "" && line.command === "draw" && !fault(line.words) && !words.includes("--svg");
     }
 
+    /** @returns {boolean} whether the page is to carry what certifies it */
+    get certifies() {
+        return this.line.pages.has("--certify") && !fault(this.line.words);
+    }
+
     /** @returns {Engine} the program, which gets copies of the inputs */
     get engine() {
         const { context, copies, how } = this;
-        const more = [...how.more ?? [], ...this.asksForPicture ? ["--svg", `${this.folder}/picture`] : []];
+        const own = this.certifies && !this.line.options.has("--log") ? ["--log", `${this.folder}/log`] : [];
+        const more = [...how.more ?? [], ...this.asksForPicture ? ["--svg", `${this.folder}/picture`] : [], ...own];
         return { kind: context.engine.kind, run: (job) =>
             context.engine.run({ ...job, words: [...job.words.map((word, at) => copies.get(at) ?? word), ...more] }) };
     }
@@ -224,12 +233,31 @@ class PageRun {
     /** @returns {import("../both/page/written.js").Carried | null} the program as WebAssembly, where it is there */
     #carried() {
         const { context, line, how } = this;
-        if (!context.wasm || line.pages.has("--plain") || how.isPlain) return null;
-        return { program: packed(readFileSync(context.wasm)), worker: workerOf(context.top), hints: "" };
+        if (!context.wasm || line.pages.has("--plain") || how.isPlain) return this.hints ? { program: "", worker: "", hints: this.hints } : null;
+        return { program: packed(readFileSync(context.wasm)), worker: workerOf(context.top), hints: this.hints };
+    }
+
+    /**
+     * Trims the search's log, and checks what is left of it, which goes into the page.
+     * @param {Ran} ran
+     */
+    async certify(ran) {
+        const { line, folder } = this, [sheet, log, hints] = ["sheet", "log", "hints"].map((it) => `${folder}/${it}`), file = line.names[0];
+        if (!this.certifies || ![0, 3, 4].includes(ran.status) || ran.wasStopped) return;
+        writeFileSync(sheet, sheetPart(textOfOutput(ran.output)));
+        const trimmed = await this.ask(["trim", file, sheet, line.options.get("--log") ?? log, hints]);
+        const checked = trimmed.status === 0 ? await this.ask(["recheck", file, sheet, hints]) : trimmed;
+        const said = linesOf(checked.output).join(" ").trim() || `ended with ${checked.status}`, found = reread(hints);
+        const isClaim = said !== "certified 0" || ran.status === 3, lines = checked.status === 0 && isClaim && found ? packed(found) : "";
+        this.hints = lines.length <= MOST_HINTS ? lines : "";
+        say(checked.status !== 0 ? `the page carries no certificate: ${trimmed.status === 0 ? "recheck" : "trim"} says ${said}`
+            : !isClaim ? "the search settled nothing, so the page carries no certificate"
+                : this.hints ? `the page carries its certificate, which was checked: ${said}` : "the page's certificate is too long for it, and isn't there");
     }
 
     /** @param {Ran} ran makes the page, and writes each file that is asked for */
     async write(ran) {
+        await this.certify(ran);
         const run = await this.#runOf(ran);
         const page = outline(run);
         const [, drawing] = stylesOf(this.styles, run.record.settings.paper);

@@ -25,7 +25,7 @@ import { grouped } from "./numbers.js";
  * @property {string[]} check
  * @property {string} needs */
 
-const SENTENCES = { proved: "The program was built here after all its proofs had passed.",
+const SENTENCES = { proved: "All proofs of the program had passed before it was built, as the maker of this page says.",
     unproved: "The program was built without its proofs: what it says is a first look.",
     unknown: "Whether the program's proofs passed isn't known here." };
 const BADGES = { proved: "proved program", unproved: "not proved: first look", unknown: "proofs not known" };

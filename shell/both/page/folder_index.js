@@ -1,9 +1,10 @@
-/** The page of a folder: each station with its small drawing, faults first. */
+/** The page of a folder: each station with its small drawing, those of a line in its order, others with faults first. */
 import { fileName } from "../folder_record.js";
 import { Element, document, element } from "./markup.js";
 
 /** @typedef {import("../folder_record.js").FolderRecord} FolderRecord */
 /** @typedef {import("../folder_record.js").Kind} Kind */
+/** @typedef {import("../line/listing.js").Listed} Listed */
 /** @typedef {import("./markup.js").Child} Child */
 
 // statuses from the best to the worst; and what a run that ended so is called
@@ -19,7 +20,7 @@ td,th{border-top:1px solid #ccc;padding:.5em .6em;vertical-align:top}td p{margin
 td.drawing{width:46%;max-width:34em}img{max-width:100%;max-height:8em;background:#fff;vertical-align:bottom}
 pre{margin:0 0 .5em;overflow-x:auto;font-size:12px}.line{color:#777;font-size:12px}
 .fault td{background:#fdecea}.open td{background:#fff6dd}.badge{border:1px solid #2a7a2a;color:#2a7a2a;border-radius:.6em;
-padding:0 .5em;white-space:nowrap}.number{white-space:nowrap}
+padding:0 .5em;white-space:nowrap}.number{white-space:nowrap}.between td{text-align:center;font-style:italic}
 @media print{body{margin:0;max-width:none}tr{break-inside:avoid}}
 @media (prefers-color-scheme:dark){body{background:#1b1b1b;color:#ddd}a{color:#8ab4f8}.fault td{background:#43211e}
 .open td{background:#3d3520}.badge{color:#7ac77a;border-color:#7ac77a}.line{color:#aaa}}
@@ -211,20 +212,62 @@ export function certified(records) {
     return records.filter((it) => badge(it) instanceof Element).length;
 }
 
+const PROGRAMS = new Map([["proved", "a program all of whose proofs had passed"], ["unproved", "a program without proofs: a first look"],
+    ["unknown", "a program that isn't known to be proved"]]);
+
+/**
+ * By which programs they were drawn, each with its SHA-256, and how many by each where there are several.
+ * @param {FolderRecord[]} records @returns {Element[]}
+ */
+function programs(records) {
+    const found = [...new Set(records.map((it) => it.program).filter(Boolean))];
+    return found.map((program) => {
+        const [state, sum] = program.split(" "), count = records.filter((it) => it.program === program).length;
+        return element("p", {}, `${found.length > 1 ? `${stations(count)}: drawn` : "Drawn"} by ${PROGRAMS.get(state) ?? PROGRAMS.get("unknown")}`,
+            sum ? [" (SHA-256 ", element("code", {}, sum), ")"] : null, ".");
+    });
+}
+
+/**
+ * The row between two stations of a line that come one behind the other: how far it is between them, where one leads to the other.
+ * @param {Listed | undefined} before @param {Listed} here @returns {Element | null}
+ */
+function between(before, here) {
+    if (!before) {
+        return null;
+    }
+    const isJoined = before.leads.includes(here.title) || here.leads.includes(before.title), open = here.from - before.to;
+    const far = isJoined ? `open line${open > 0 ? `, ${open.toFixed(1)} km` : ""}` : "no track leads from the one to the other";
+    return element("tr", { class: "between" }, element("td", { colspan: String(HEADS.length) }, `${before.title} – ${here.title}: ${far}`));
+}
+
+/**
+ * The rows of the stations: those of a line in its order with the open line between them, then all others, faults first.
+ * @param {FolderRecord[]} records @param {Listed[]} line
+ * @returns {(Element | null)[]}
+ */
+function rows(records, line) {
+    const listed = line.filter((it) => records.some((record) => record.name === it.name)), names = new Set(listed.map((it) => it.name));
+    const others = records.filter((it) => !names.has(it.name))
+        .sort((one, other) => rank(other.status) - rank(one.status) || byName(one.name, other.name));
+    return [...listed.flatMap((it, at) => [between(listed[at - 1], it), row(/** @type {FolderRecord} */ (records.find(({ name }) => name === it.name)))]),
+        ...others.map(row)];
+}
+
 /**
  * The page of all stations.
  * @param {string} title @param {FolderRecord[]} records
+ * @param {Listed[]} [line] the stations of a line in their order
  * @returns {string}
  */
-export function text(title, records) {
-    const sorted = [...records].sort((one, other) => rank(other.status) - rank(one.status) || byName(one.name, other.name));
+export function text(title, records, line = []) {
     const table = element("table", {}, element("thead", {}, element("tr", {}, HEADS.map((it) => element("th", {}, it)))),
-        element("tbody", {}, sorted.map(row)));
+        element("tbody", {}, rows(records, line)));
     const count = certified(records);
-    const line = `${counts(records)}.${count ? ` ${count} with a certificate that was checked again.` : ""}`;
+    const summary = `${counts(records)}.${count ? ` ${count} with a certificate that was checked again.` : ""}`;
     const metas = [{ charset: "utf-8" }, { name: "generator", content: "railplan" },
         { name: "viewport", content: "width=device-width" }].map((it) => element("meta", it));
     const head = element("head", {}, metas, element("title", {}, title), element("style", {}, RULES));
-    const body = element("body", {}, element("h1", {}, stations(records.length)), element("p", {}, line), table);
+    const body = element("body", {}, element("h1", {}, stations(records.length)), element("p", {}, summary), programs(records), table);
     return document(element("html", { lang: "en" }, head, body));
 }

@@ -3,6 +3,7 @@
  */
 import { origin } from "../messages/explained.js";
 import * as railml from "../railml.js";
+import { sidesOf } from "../sides/said.js";
 import { TrackGraph } from "../track_graph.js";
 import { dxf } from "./cad.js";
 import { Changes } from "./changes.js";
@@ -31,6 +32,7 @@ const CAPTION = "Not to scale: kilometres rise from left to right. Seen this way
     + "crossings.";
 const OF_SIGNALS = " Signals are in order along their own piece of track alone. A kilometre of the axis is that of all that is "
     + "in its column.";
+const OF_OBJECTS = " What lies at a track is in order along its own piece of track.";
 const NO_LOG = "No log was kept. With --log NAME the search leaves one, which others can judge.";
 // of a paper's width: what a framed picture may have, and each of two side by side
 const FRAMED = 0.97;
@@ -58,6 +60,12 @@ function addValues(page, values, grid) {
 function addNotShown(page, run) {
     const found = run.record.notShown.map((it) => ended(page.station.shown(it)));
     if (found.length) page.fact("What the drawing doesn't show", ...found);
+}
+
+/** @param {Page} page @param {Run} run what in the file confirms the sides; what is open is said with what the drawing doesn't show */
+function addSides(page, run) {
+    const document = railml.read(run.content(0)), { good } = document.trouble ? { good: [] } : sidesOf(document);
+    if (good.length) page.fact("Sides", ...good.map(sentences.sentence));
 }
 
 /**
@@ -135,9 +143,12 @@ function drawPage(run) {
     const page = pageOf(run, `Track schematic${signals.length ? " with signals" : ""}`);
     page.badge = sentences.badgeOf(sheet.ending[0]);
     if (sheet.drawing) {
-        const scene = run.scene(sheet.drawing, page.station, { signals });
-        page.later(() => page.draw(scene, [CAPTION, signals.length ? OF_SIGNALS : ""]));
+        const real = signals.filter((it) => !page.station.signal(it.name)?.isVirtual);
+        const scene = run.scene(sheet.drawing, page.station, { signals: real });
+        page.later(() => page.draw(scene, [CAPTION, real.length ? OF_SIGNALS : "",
+            scene.pieces.located.some((it) => it.place) ? OF_OBJECTS : ""]));
         addValues(page, sheet.values, sheet.grid);
+        addSides(page, run);
         addNotShown(page, run);
         addSheet(page, run);
     } else page.lead = [noDrawing(sheet.grid)];
@@ -286,6 +297,7 @@ function redrawPage(run) {
         page.fact("Marks", "A circle: a node that moved. A square on its corner: a new one. A cross: one that is gone.",
             "Broken lines: pieces of track that are new or gone.");
         addValues(page, found.values, found.grid);
+        addSides(page, run);
         addNotShown(page, run);
     } else page.lead = [noDrawing(found.grid)];
     page.fact("How the search ended", sentences.endingOfMoved(found.ending));
@@ -315,7 +327,7 @@ function addVersions(page, run, changes) {
         page.draw(scene, [word, CAPTION], { picture: pictures[at], kind: isWide ? "" : "version", title: scene.title });
     });
     page.align();
-    page.list(scenes[1]);
+    page.list(scenes[1], pictures[1]);
 }
 
 /** @type {Map<string, sentences.Badge>} */
@@ -440,6 +452,6 @@ export function smallOf({ scene }, style) {
  * @param {Page} page
  * @returns {string}
  */
-export function dxfOf({ scene, pictures }) {
-    return scene && pictures.length ? dxf(scene, pictures[0].columns) : "";
+export function dxfOf({ scene, picture }) {
+    return scene && picture ? dxf(scene, picture) : "";
 }

@@ -13,7 +13,8 @@ export class Unjudged extends Error {}
 /**
  * @typedef {object} Verdict
  * @property {"lawful" | "unlawful" | "none" | "unjudged"} drawing what the program says of the drawing, where there is one
- * @property {"certified" | "refused" | "unjudged"} best whether the hinted lines certify what the sheet claims
+ * @property {string} claim what the sheet's ending claims besides, in words, or "" where it claims nothing
+ * @property {"certified" | "refused" | "unjudged"} best whether the hinted lines certify that
  * @property {Finding[]} findings each claim that was looked at
  * @property {string[]} open what the page claims and nobody judged
  */
@@ -21,6 +22,8 @@ export class Unjudged extends Error {}
 const FILE = "station.xml", SHEET = "station.sheet", HINTS = "station.hints";
 /** how a run of a judge ends that has judged: what was asked for, a file with a fault, or a refusal */
 const JUDGED = new Set([0, 1, 3, 4, 8]);
+/** the commands whose second file is a sheet of the first */
+const OF_SHEET = new Set(["verify", "check", "trim", "recheck"]);
 const LAWFUL = /^lawful (\d+ \d+ \d+ \d+)$/;
 const decoder = new TextDecoder("utf-8", { ignoreBOM: true }), encoder = new TextEncoder();
 
@@ -33,7 +36,7 @@ export function sheetOf(record) {
     if (command === "draw" || command === "signals") {
         return record.output.startsWith("railplan ") ? encoder.encode(sheetPart(record.output)) : null;
     }
-    return command === "verify" ? record.inputs[1]?.content ?? null : null;
+    return OF_SHEET.has(command) ? record.inputs[1]?.content ?? null : null;
 }
 
 /** One page, while it is judged. */
@@ -52,7 +55,7 @@ class Judging {
         this.file = record.inputs[0]?.content ?? null;
         this.sheet = sheetOf(record);
         /** @type {Verdict} */
-        this.verdict = { drawing: "unjudged", best: "unjudged", findings: [], open: [] };
+        this.verdict = { drawing: "unjudged", claim: "", best: "unjudged", findings: [], open: [] };
     }
 
     /**
@@ -83,7 +86,7 @@ class Judging {
             this.find("the page has its railML file", false);
             return this.verdict;
         }
-        this.find("the file is the one of the SHA-256 that the page names", await this.sha256(file) === record.inputs[0].facts.sha256);
+        this.find("the file is the one of the SHA-256 that the page names", await this.isNamed(file, 0));
         const graph = await this.ask(["graph", FILE]);
         this.find("the track graph is the file's", graph === (record.graphs[0] ?? null));
         if (sheet) {
@@ -93,12 +96,20 @@ class Judging {
         return this.verdict;
     }
 
+    /**
+     * whether an input has the SHA-256 that the page names
+     * @param {Uint8Array} content @param {number} number
+     */
+    async isNamed(content, number) {
+        return await this.sha256(content) === this.record.inputs[number]?.facts.sha256;
+    }
+
     /** says what of the page isn't judged */
     leaveOpen() {
         const [command] = this.record.words, { open } = this.verdict;
         if (command === "signals") {
             open.push("where the signals are");
-        } else if (command !== "draw" && command !== "verify") {
+        } else if (command !== "draw" && command !== "verify" && !(command === "recheck" && this.hints)) {
             open.push(`the answer of ${command}`);
         }
         open.push("the command line, names and dates");
@@ -126,11 +137,15 @@ class Judging {
         if (!parts) {
             return;
         }
-        const { drawing, values, order, ending } = parts;
-        if (record.words[0] === "verify") {
-            this.find("the program's answer is the one that the page shows", await this.ask(["verify", FILE, SHEET]) === record.output);
+        const { drawing, values, order, ending } = parts, isOwn = record.words[0] === "recheck";
+        verdict.claim = claimOf(order, ending);
+        if (OF_SHEET.has(record.words[0])) {
+            this.find("the sheet is the one of the SHA-256 that the page names", await this.isNamed(sheet, 1));
         } else if (record.sheetHash) {
             this.find("the sheet is the one of the SHA-256 that the page names", await this.sha256(sheet) === record.sheetHash);
+        }
+        if (record.words[0] === "verify") {
+            this.find("the program's answer is the one that the page shows", await this.ask(["verify", FILE, SHEET]) === record.output);
         }
         if (drawing) {
             const answer = (await this.ask(["verify", FILE, SHEET])).trim(), found = LAWFUL.exec(answer);
@@ -144,10 +159,18 @@ class Judging {
             verdict.drawing = ending[0] === "none" ? "none" : "unjudged";
         }
         if (this.hints) {
-            const answer = (await this.ask(["recheck", FILE, SHEET, HINTS])).trim();
-            const settled = ending[0] === "none" ? "certified 0" : ending[0] === "best" ? `certified ${order.length}` : `certified ${ending[1]}`;
+            if (isOwn) {
+                this.find("the hinted lines are those of the SHA-256 that the page names", await this.isNamed(this.hints, 2));
+            }
+            const printed = await this.ask(["recheck", FILE, SHEET, HINTS]), answer = printed.trim();
+            if (isOwn) {
+                this.find("the program's answer is the one that the page shows", printed === record.output);
+            }
+            const settled = `certified ${ending[0] === "none" ? 0 : settledBy(order, ending)}`;
             verdict.best = answer === settled ? "certified" : "refused";
-            this.find(`the hinted lines certify what the sheet claims${answer === settled ? "" : `: ${answer}`}`, answer === settled);
+            if (!isOwn) {
+                this.find(`the hinted lines certify what the sheet claims${answer === settled ? "" : `: ${answer}`}`, answer === settled);
+            }
         }
     }
 }
@@ -164,9 +187,27 @@ export function judgePage(record, hints, engine, sha256) {
     return new Judging(record, hints, engine, sha256).judge();
 }
 
+/**
+ * in how many criteria a sheet claims that no drawing is better
+ * @param {string[]} order @param {string[]} ending
+ */
+const settledBy = (order, ending) => ending[0] === "best" ? order.length : Number(ending[1] ?? 0);
+
+/**
+ * What a sheet's ending claims of all drawings.
+ * @param {string[]} order @param {string[]} ending
+ */
+function claimOf(order, ending) {
+    const settled = settledBy(order, ending);
+    if (ending[0] === "none") {
+        return "no drawing keeps the laws on this grid";
+    }
+    return settled ? `none better in ${order.slice(0, settled).join(", ")}` : "";
+}
+
 /** how each verdict reads */
-const DRAWING = { lawful: "lawful: checked here", unlawful: "not lawful: checked here", none: "no drawing, it says", unjudged: "" };
-const BEST = { certified: "none better: certified here", refused: "its hints don't certify it", unjudged: "none better: not certified here" };
+const DRAWING = { lawful: "lawful: checked here", unlawful: "not lawful: checked here", none: "", unjudged: "" };
+const BEST = { certified: "certified here", refused: "its hints don't certify it", unjudged: "not certified here" };
 const MAKER = new Map(Object.entries({
     proved: "made by a program whose proofs passed: as its maker says", unproved: "made by a program without proofs: as its maker says",
 }));
@@ -177,9 +218,9 @@ const UNKNOWN = "made by a program of which nothing is known";
  * @param {RunRecord} record
  * @param {Verdict} verdict
  */
-export function inWords(record, { drawing, best, findings }) {
+export function inWords(record, { drawing, claim, best, findings }) {
     const wrong = findings.filter((it) => !it.isRight).map((it) => it.what);
-    const settles = drawing === "lawful" || drawing === "none" || drawing === "unlawful";
-    const parts = [DRAWING[drawing], settles ? drawing === "none" && best === "unjudged" ? "that there is none: not certified here" : BEST[best] : "", MAKER.get(record.build?.state) ?? UNKNOWN].filter(Boolean);
+    const claimed = claim ? `${claim}: ${BEST[best]}` : "the search stopped, and claims nothing more";
+    const parts = [DRAWING[drawing], claimed, MAKER.get(record.build?.state) ?? UNKNOWN].filter(Boolean);
     return wrong.length ? `don't use this page: it isn't so that ${wrong.join("; that ")}` : parts.join(" · ");
 }

@@ -122,7 +122,7 @@ export async function recorded(line, ended, known, around) {
         record.graphs.push(ran.status === 0 ? textOf(ran.output) : null);
     }
     if (line.command === "front") record.drawings = await drawingsOf(line, output, around.ask);
-    if (inputs[0]?.content) record.notShown = notShown(inputs[0].content, line, linesOf(ended.output));
+    if (inputs[0]?.content) record.notShown = notShown(inputs[0].content, line, linesOf(ended.output), true);
     if (output.startsWith("railplan ")) record.sheetHash = await around.sha256(encoder.encode(sheetPart(output)));
     return run;
 }

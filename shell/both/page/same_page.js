@@ -113,7 +113,7 @@ export function otherParts(carried, own) {
  */
 function hasOwnNotes(record) {
     const content = record.inputs[0]?.content, lines = linesOf(new TextEncoder().encode(record.output));
-    return !content || JSON.stringify(notShown(content, read(record.words), lines)) === JSON.stringify(record.notShown);
+    return !content || JSON.stringify(notShown(content, read(record.words), lines, true)) === JSON.stringify(record.notShown);
 }
 
 /**

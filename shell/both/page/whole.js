@@ -21,7 +21,7 @@ function row(entry, link) {
     const to = entry.kind === "piece of track" ? entry.facts.find(([term]) => term === "to") : undefined;
     const [legs, upper] = entry.side.split(" ");
     const side = upper ? `, legs ${edgeOf(legs)}, ${upper} diverges` : legs && `, km ${legs === "east" ? "rising" : "falling"}`;
-    const said = to ? `piece to ${to[1].split(", km ", 1)[0]}` : entry.kind + side;
+    const said = to ? `piece to ${to[1].split(", km ", 1)[0]}` : [entry.kind + side, entry.note].filter(Boolean).join(", ");
     return element("tr", { "data-key": entry.key, id: link, tabindex: -1 }, element("td", { class: "number" }, entry.km),
         element("td", {}, element("bdi", {}, entry.name)), element("td", {}, element("bdi", {}, entry.id)),
             element("td", {}, said));
@@ -98,6 +98,10 @@ function left(page) {
         names("Names that are shortened above", [...page.short.values()].map(([short, whole]) =>
             [bdi(short), " ", element("b", {}, bdi(whole))])),
         names("Names that have no room above", [...page.leftOut].map((it) => [bdi(it)])),
+        names("Track sections", page.objects?.lacksSections
+            ? [["They aren't listed, as a joint or detector has no known place."]] : []),
+        names("Objects that aren't drawn", page.objects?.notDrawn().map(([entry, why]) =>
+            [`${entry.kind} `, bdi(entry.name || entry.id), entry.km && `, km ${entry.km}`, `: ${why}`]) ?? []),
         page.sheet ? element("details", {}, element("summary", {}, "The sheet, as a text"), element("pre", {}, page.sheet))
             : null);
 }

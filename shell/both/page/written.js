@@ -122,7 +122,7 @@ export function withHints(text, hints) {
 export function pageText(page, paper, { script, data, picture, carried, hashOf, ...texts }) {
     const styles = stylesOf(texts, paper);
     return document(element("html", { lang: "en" }, element("head", {}, element("meta", { charset: "utf-8" }),
-        element("meta", { "http-equiv": "Content-Security-Policy", content: policy(styles, script, hashOf, carried !== null) }),
+        element("meta", { "http-equiv": "Content-Security-Policy", content: policy(styles, script, hashOf, Boolean(carried?.program)) }),
         element("meta", { name: "viewport", content: "width=device-width, initial-scale=1" }),
         element("title", {}, `${titleOf(page)}: ${page.subject}`), element("style", {}, styles[0]),
         element("style", { class: "drawing" }, styles[1])),
