@@ -88,7 +88,7 @@ class Bytes {
 
 /**
  * a value of an attribute: blanks are blanks, and references are what they stand for
- * @param {string} raw @returns {string | null} null where a reference stands for nothing
+ * @param {string} raw @returns {string | null} null where a reference means nothing
  */
 function valueOf(raw) {
     const value = raw.replace(/\r\n|[\t\r\n]/g, " ");

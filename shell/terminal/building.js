@@ -223,7 +223,8 @@ export async function buildQuick(clone, signal, prove) {
     const { Otherwise, kitOf: known } = await import("../engine/kit.js");
     try {
         known(rt);
-    } catch {
+    } catch (error) {
+        say(`the kit here isn't built as railplan knows it (${why(error)}), so no program is built without proofs and kept`);
         return null;
     }
     return oneAtATime(clone, "quick.lock", signal, async () => {

@@ -1,8 +1,9 @@
 /** `railplan folder IN OUT`: draws each station of a folder, several side by side, and makes one page of them. */
-import { accessSync, constants, lstatSync, readdirSync } from "node:fs";
+import { accessSync, constants, lstatSync, readFileSync, readdirSync } from "node:fs";
 import { basename, extname, join } from "node:path";
 import { FolderRecord, ENDINGS, RECORDS, SMALL, fileName } from "../both/folder_record.js";
 import { oneTwice } from "../both/file_kinds.js";
+import { LISTING, readListing } from "../both/line/listing.js";
 import * as index from "../both/page/folder_index.js";
 import { bar } from "../both/searched.js";
 import { read } from "../both/words.js";
@@ -66,8 +67,17 @@ export function stations(folder) {
 
 /** @param {string} folder @returns {string} that files aren't drawn, as their names don't end as those of railML files */
 function passedOver(folder) {
-    const found = filesIn(folder).filter((it) => !isRead(it) && !it.startsWith("."));
+    const found = filesIn(folder).filter((it) => !isRead(it) && !it.startsWith(".") && it !== LISTING);
     return found.length ? `passed over, as they don't end in .xml or .railml: ${some(found)}` : "";
+}
+
+/** @param {string} folder @returns {import("../both/line/listing.js").Listed[]} the stations of a line in their order, where they are listed there */
+function listingIn(folder) {
+    try {
+        return readListing(readFileSync(path(join(folder, LISTING)), "utf-8"));
+    } catch {
+        return [];
+    }
 }
 
 /** @param {string[]} names @returns {string} the first of some names, and how many more there are */
@@ -311,7 +321,7 @@ export async function run(asking, given) {
     }
     const records = names.map((name) => recordIn(out, name) ?? new FolderRecord(name));
     try {
-        writeWhole(join(out, "index.html"), index.text(`Stations of ${basename(from) || from}`, records));
+        writeWhole(join(out, "index.html"), index.text(`Stations of ${basename(from) || from}`, records, listingIn(from)));
     } catch (error) {
         end(6, `${join(out, "index.html")} couldn't be written: ${why(error)}`);
     }

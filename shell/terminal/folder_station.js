@@ -1,6 +1,6 @@
 /** One station of a folder: it is drawn on a grid and then on larger ones, and what came of it is kept in a record. */
 import { createHash } from "node:crypto";
-import { existsSync, mkdtempSync, readFileSync, readdirSync, rmSync, statSync, writeFileSync } from "node:fs";
+import { existsSync, mkdtempSync, readFileSync, rmSync, statSync, writeFileSync } from "node:fs";
 import { tmpdir } from "node:os";
 import { join } from "node:path";
 import { fileURLToPath } from "node:url";
@@ -16,6 +16,7 @@ import { read } from "../both/words.js";
 import { packed } from "../engine/packed.js";
 import { path } from "./bytes.js";
 import { Refused, remove, stateOf, writeWhole } from "./files.js";
+import { sha256Of, sumOfModules } from "./hash.js";
 import { drawPage } from "./page_command.js";
 import { SEEN } from "./seen_files.js";
 
@@ -38,13 +39,7 @@ let sumOfShell = "";
 /** @returns {string} */
 function shellSum() {
     if (!sumOfShell) {
-        const found = createHash("sha256"), top = fileURLToPath(new URL("..", import.meta.url));
-        for (const folder of ["both", "both/messages", "both/page", "page", "terminal"]) {
-            const names = existsSync(join(top, folder)) ? readdirSync(join(top, folder)).sort() : [];
-            names.filter((/** @type {string} */ it) => /\.(js|css)$/.test(it))
-                .forEach((/** @type {string} */ it) => found.update(readFileSync(join(top, folder, it))));
-        }
-        sumOfShell = found.digest("hex");
+        sumOfShell = sumOfModules(fileURLToPath(new URL("..", import.meta.url)), ["both", "page", "terminal", "engine"]);
     }
     return sumOfShell;
 }
@@ -55,7 +50,7 @@ function shellSum() {
  * @returns {string}
  */
 function keyOf(data, { options, context }, certifies) {
-    const known = JSON.stringify([options, certifies, context.build.sha256, shellSum(), VERSION]);
+    const known = JSON.stringify([options, certifies, context.build.sha256, context.wasm && sha256Of(context.wasm), shellSum(), VERSION]);
     return createHash("sha256").update(data).update(`\0${known}`).digest("hex");
 }
 
@@ -181,8 +176,8 @@ class Drawing {
     async record(key) {
         const began = performance.now(), asked = await this.program("graph", this.station);
         const graph = asked.status ? [] : linesOf(asked.output);
-        const { ran, words, grid } = await this.draw(graph), { options, certifies } = this.setting;
-        const record = new FolderRecord(this.name, key), hasSheet = note(record, ran.status, linesOf(ran.output), grid, options);
+        const { ran, words, grid } = await this.draw(graph), { options, certifies, context: { build } } = this.setting;
+        const record = new FolderRecord(this.name, key, { program: `${build.state} ${build.sha256}` }), hasSheet = note(record, ran.status, linesOf(ran.output), grid, options);
         if (hasSheet) {
             writeWhole(this.place("sheet"), ran.output);
             record.certified = certifies ? await this.certify() : "";

@@ -14,7 +14,7 @@ import { ignoredOf, listen } from "./signals.js";
 /** @typedef {import("../both/words.js").Line} Line */
 
 const IGNORED = "--ignored=";
-const TOLD = ["draw", "signals", "redraw", "explain"];
+const SEARCHED = ["draw", "signals", "redraw", "explain", "graph"];
 const JUDGES = ["verify", "check", "trim", "recheck"];
 
 /**
@@ -24,7 +24,7 @@ const JUDGES = ["verify", "check", "trim", "recheck"];
  * @param {import("../both/messages/seen.js").Seen} [seen] what is seen of the run's files
  */
 export async function tell(line, ran, context, seen) {
-    if (ran.status || TOLD.includes(line.command) || JUDGES.includes(line.command) && isTerminal()) {
+    if (ran.status || SEARCHED.includes(line.command) || JUDGES.includes(line.command) && isTerminal()) {
         const telling = await import("./tell.js");
         await telling.tell(line, ran, context?.engine ?? null, context?.signal, seen);
     }
@@ -119,6 +119,10 @@ async function refuseLacking(line) {
 async function runWords(asking, line) {
     if (line.pages.size && !fault(line.words)) {
         (await import("./page_command.js")).refuse(line);
+    }
+    if (line.pages.has("--html")) {
+        // what pages need is looked for before a program is built
+        (await import("./bundle.js")).scriptOf(asking.clone.top);
     }
     const context = await contextFor(asking, line);
     if (line.pages.size) {

@@ -1,5 +1,5 @@
 /**
- * `release OUT`: of a clone whose gate passed, what users get: an archive that runs wherever Node is, a Debian package, the
+ * `release OUT`: of a clone whose gate passed, what users get: an archive for Node on any system, a Debian package, the
  * desk, what was proved, and the sums of all. Made again from the same commit it has the same bytes.
  */
 import { spawnSync } from "node:child_process";

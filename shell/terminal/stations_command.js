@@ -3,11 +3,12 @@
  */
 import { mkdirSync, readdirSync } from "node:fs";
 import { join } from "node:path";
+import { LISTING, listingText } from "../both/line/listing.js";
 import { judgedFile, wholeOf } from "../both/line/judged.js";
+import { mendedLine } from "../both/line/mended.js";
 import { micrometres } from "../both/line/network.js";
 import { cutLine } from "../both/line/stations.js";
 import { unread } from "../both/messages/telling.js";
-import { mended, STRUCTURAL } from "../both/prepare.js";
 import { quoted } from "../both/quoted.js";
 import { read } from "../both/railml.js";
 import { OWN } from "../both/words.js";
@@ -63,7 +64,7 @@ function readLine(name) {
     } catch {
         end(5, unread(name, SEEN, called()));
     }
-    const it = mended(name, data, called(), { without: STRUCTURAL });
+    const it = mendedLine(name, data, called());
     if (it.unfit) {
         say(it.unfit);
         end(1, "nothing is written");
@@ -84,15 +85,28 @@ function readLine(name) {
 function refuseThere(out, files) {
     try {
         mkdirSync(out, { recursive: true });
-        const there = new Set(readdirSync(out)), found = files.find((it) => there.has(`${it.name}.xml`));
+        const there = new Set(readdirSync(out)), found = [...files.map((it) => `${it.name}.xml`), LISTING].find((it) => there.has(it));
         if (found) {
-            end(2, `${join(out, `${found.name}.xml`)} is there already. Name an empty folder`);
+            end(2, `${join(out, found)} is there already. Name an empty folder`);
         }
     } catch (error) {
         if (error instanceof Error && "code" in error) {
             end(6, `${out}: ${why(error)}`);
         }
         throw error;
+    }
+}
+
+/**
+ * Writes the list of the stations in their order, by which the index of a folder has them.
+ * @param {string} out
+ * @param {StationFile[]} files those that are written
+ */
+function writeListing(out, files) {
+    try {
+        writeWhole(join(out, LISTING), listingText(files.map((it) => it.listed)));
+    } catch (error) {
+        end(6, `${join(out, LISTING)} couldn't be written: ${why(error)}`);
     }
 }
 
@@ -118,7 +132,7 @@ export async function run({ engine, signal }, line) {
         return 0;
     }
     refuseThere(out, files);
-    const whole = wholeOf(document);
+    const whole = wholeOf(document), written = new Set();
     let refused = 0;
     for (const file of files) {
         const { bytes, reason, wasStopped } = await judgedFile(engine, whole, file, signal), name = join(out, `${file.name}.xml`);
@@ -135,8 +149,10 @@ export async function run({ engine, signal }, line) {
         } catch (error) {
             end(6, `${name} couldn't be written: ${why(error)}`);
         }
+        written.add(file.name);
         say(`${name}: ${file.title}, ${file.points.length} switches and crossings${file.notes.length ? `; ${file.notes.join("; ")}` : ""}`);
     }
+    writeListing(out, files.filter((it) => written.has(it.name)));
     said.forEach((text) => say(text));
     say(`${files.length - refused} of ${files.length} files are written. ${called()} folder ${quoted(out)} DRAWN draws them all`);
     const isAsked = part.range !== null || part.tracks !== undefined;

@@ -156,7 +156,8 @@ test("files are looked at again behind a build", (it) => {
 });
 
 test("what a build takes is said before it begins", (it) => {
-    const clone = new InClone(it), [first, second] = clone.launch(["graph", "one.xml"])[2].split("\n");
+    const clone = new InClone(it), [kit, first, second] = clone.launch(["graph", "one.xml"])[2].split("\n");
+    assert.match(kit, /^railplan: the kit here isn't built as railplan knows it \(the kit has no bin\/rtlib\.py\), so no program is built without proofs/);
     assert.match(first, /^railplan: proving and building the program: from nothing that takes most of an hour on four processors, /);
     assert.match(first, /, and here are [1-9]\d*$/);
     assert.ok(second.endsWith("/railplan --unproved graph one.xml"), second);

@@ -8,9 +8,11 @@ import { setTimeout as pause } from "node:timers/promises";
 import { InClone, PLACE, until } from "./clones.js";
 import { FolderRecord, readRecord } from "../both/folder_record.js";
 import { text as pageOf, worst } from "../both/page/folder_index.js";
+import { list, look } from "../terminal/built.js";
 import { processors } from "../terminal/building.js";
 import { Shown, stations } from "../terminal/folder.js";
 import { grids } from "../both/folder_grids.js";
+import { listingText } from "../both/line/listing.js";
 import { readFolderWords } from "../terminal/folder_words.js";
 
 // a program that answers by the name of the file: it says what it was asked for
@@ -130,7 +132,25 @@ test("each station has its files, and the page has all, faults first", (it) => {
     assert.ok(page.includes('<a href="a.html"><img src="small/a.svg"') && page.includes("columns 0 to 40, rows 0 to 8"));
     assert.ok(!existsSync(join(clone.top, "out/small/refused.svg")));
     assert.equal(page.split(">1, 2, 3, 4<").length, 3);
+    assert.match(page, /<p>Drawn by a program [^<]*proved[^<]*\(SHA-256 <code>[0-9a-f]{64}<\/code>\)\.<\/p>/);
     assert.deepEqual(clone.record("a").values, [1, 2, 3, 4]);
+});
+
+test("the stations of a line are in its order, with the open line between them", (it) => {
+    const clone = new Folders(it, "b", "refused", "a", "c");
+    clone.write("in/stations.csv", listingText([
+        { name: "b", title: "Bheim, \"West\"", from: 1.2, to: 2.5, leads: ["Aheim"] },
+        { name: "a", title: "Aheim", from: 4.75, to: 5, leads: ["Bheim, \"West\""] },
+        { name: "refused", title: "Cheim", from: 9, to: 9.5, leads: [] }]));
+    const [, , err] = clone.folder();
+    assert.doesNotMatch(err, /passed over/);
+    const page = clone.page(), order = ['<a href="b.html">b<', 'Bheim, "West" – Aheim: open line, 2.3 km<', '<a href="a.html">a<',
+        "Aheim – Cheim: no track leads from the one to the other<", ">refused<", '<a href="c.html">c<'];
+    const places = order.map((text) => page.indexOf(text));
+    assert.ok(places.every((place, at) => place > (places[at - 1] ?? 0)), `${places}`);
+    clone.write("in/stations.csv", "file,station\n");
+    clone.folder();
+    assert.ok(clone.page().indexOf(">refused<") < clone.page().indexOf('<a href="a.html">a<'), "what is no such list counts for nothing");
 });
 
 test("larger grids are tried", (it) => {
@@ -169,8 +189,10 @@ test("what has not changed is not drawn again", (it) => {
     assert.deepEqual([drawn(), drawn("--least", "2")], [1, 3]);
     clone.script(PLACE, `${ANSWERING}# other\n`);
     assert.equal(drawn(), 3);
-    clone.write("shell/both/page/signs.js", `${clone.text("shell/both/page/signs.js")}// other\n`);
-    assert.equal(drawn(), 3);
+    for (const module of ["both/page/signs.js", "both/mending/hands.js", "engine/packed.js"]) {
+        clone.write(`shell/${module}`, `${clone.text(`shell/${module}`)}// other\n`);
+        assert.equal(drawn(), 3, module);
+    }
 });
 
 test("faults are said in the order of the stations", () => {
@@ -226,6 +248,20 @@ test("certificates", (it) => {
     clone.drawn();
     assert.match(clone.folder()[2], /2 with a certificate/);
     assert.deepEqual([clone.drawn(), clone.made().includes("a.hints")], [[], true]);
+});
+
+test("a page with a certificate carries the hinted lines and the program, and is made again when that is another one", async (it) => {
+    const clone = new Folders(it, "a"), hasHints = () => clone.text("out/a.html").includes('class="hints">"H4');
+    clone.folder("--certify");
+    assert.ok(!hasHints() && !clone.text("out/a.html").includes('class="program">"H4'));
+    for (const bytes of ["wasm", "another"]) {
+        clone.drawn();
+        clone.write("out/wasm/proved/railplan.wasm", bytes);
+        await list(clone.clone.wasm, await look(clone.clone), "kit-1");
+        clone.folder("--certify");
+        assert.ok(hasHints() && clone.text("out/a.html").includes('class="program">"H4'));
+        assert.equal(clone.drawn().length, 1);
+    }
 });
 
 test("a certificate that is refused", (it) => {

@@ -3,10 +3,12 @@ import assert from "node:assert/strict";
 import { test } from "node:test";
 import { kinds } from "../../cases/real/kinds.js";
 import { differing, elsewhere, forksOfFile } from "../both/line/judged.js";
+import { mendedLine } from "../both/line/mended.js";
 import { cutLine } from "../both/line/stations.js";
 import { mileage, points, read } from "../both/railml.js";
 import { Walked } from "../both/surroundings.js";
 import { TrackGraph } from "../both/track_graph.js";
+import { otherInFile } from "../both/mending/judge.js";
 import { randomLine } from "./random_line.js";
 
 const SEEDS = Array.from({ length: 60 }, (_, at) => at + 1);
@@ -90,4 +92,23 @@ test("a station's title is its operational point's, its file's name has no sign 
     assert.deepEqual(files.map((it) => it.title).slice(0, 2), ["Station <0>", "Station <1>"]);
     assert.deepEqual(files.map((it) => it.name).slice(0, 2), ["S_0", "S_1"]);
     assert.ok(files[0].text.includes('name="to Station &lt;1&gt;"'), files[0].text);
+});
+
+test("tracks that are cut at each switch are joined before a line is cut, and each switch is in one file", () => {
+    for (const name of ["cut-at-switches-end", "cut-at-switches-begin"]) {
+        const found = kinds().find((it) => it.name === name);
+        assert.ok(found, kinds().map((it) => it.name).join(" "));
+        const it = mendedLine("line.xml", found.data, "railplan"), document = read(it.data), { files, isWhole } = cutLine(document, { range: null });
+        assert.ok(isWhole && it.changes.length > 0 && files.length > 0, name);
+        assert.deepEqual(files.flatMap((file) => file.points).sort(), document.tracks().flatMap(points).map((point) => point.id).sort());
+    }
+});
+
+test("a line is mended in its texts alone where a switch would be another one", () => {
+    const found = kinds().find((it) => it.name === "cut-at-switches-end");
+    const turned = new TextDecoder().decode(found?.data);
+    const it = mendedLine("line.xml", new TextEncoder().encode(turned), "railplan");
+    assert.equal(otherInFile(it), "");
+    it.source = documentOf(turned.replace('course="left"', 'course="right"'));
+    assert.notEqual(otherInFile(it), "");
 });

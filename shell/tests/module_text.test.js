@@ -12,8 +12,9 @@ const TEXT = [
 ].join("\n");
 
 test("for this machine frames and marks of a tool go, and every check stays", () => {
-    const lines = changed(TEXT, "native").split("\n");
+    const lines = changed(TEXT, "native", true).split("\n");
     assert.equal(lines.filter((it) => it.includes("memset")).length, 1);
+    assert.equal(changed(TEXT, "native", false).split("\n").filter((it) => it.includes("memset")).length, 2, "the proved program's own stay");
     assert.ok(lines.includes("  br i1 %ok, label %go, label %stop"));
     assert.ok(lines.includes('attributes #0 = { nounwind "target-cpu"="x86-64-v2" }'), lines.join("\n"));
     assert.ok(lines.includes("attributes #1 = { nounwind }"));
@@ -21,7 +22,7 @@ test("for this machine frames and marks of a tool go, and every check stays", ()
 });
 
 test("for WebAssembly the machine is another", () => {
-    const lines = changed(TEXT, "wasm").split("\n");
+    const lines = changed(TEXT, "wasm", false).split("\n");
     assert.equal(lines[1], 'target triple = "wasm64-unknown-unknown"');
     assert.match(lines[0], /^target datalayout = "e-m:e-p:64:64/);
     assert.ok(lines.includes("attributes #0 = { nounwind }"), lines.join("\n"));

@@ -43,10 +43,42 @@ const wordsOf = async (changed, lines = hints) => inWords(changed, await judgePa
 
 test("a sound page is said to be what it is, and no more", async () => {
     assert.equal(await wordsOf(record()),
-        "lawful: checked here · none better: certified here · made by a program whose proofs passed: as its maker says");
+        "lawful: checked here · none better in height, bends, diagonal, width: certified here · made by a program whose proofs passed: as its maker says");
     assert.equal(await wordsOf(record(), null),
-        "lawful: checked here · none better: not certified here · made by a program whose proofs passed: as its maker says");
+        "lawful: checked here · none better in height, bends, diagonal, width: not certified here · made by a program whose proofs passed: as its maker says");
     assert.match(await wordsOf({ ...record(), build: { state: "unproved", sha256: "" } }), / · made by a program without proofs: as its maker says$/);
+});
+
+/**
+ * what is said of a page whose sheet ends so, where its hints certify what that claims
+ * @param {string} ending @param {string} certified what recheck answers
+ */
+async function saidWhereEnded(ending, certified) {
+    const ended = sheet.replace("end best", ending), changed = { ...record(), output: ended, sheetHash: sum(ended) };
+    /** @type {import("../both/engine.js").Engine} */
+    const judge = { kind: "native", run: async (job) => {
+        const answers = { graph, verify: "lawful 2 2 3 7\n", recheck: `${certified}\n` };
+        const output = new TextEncoder().encode(answers[/** @type {"graph" | "verify" | "recheck"} */ (job.words[0])]);
+        return { status: 0, output, files: new Map(), seconds: 0, wasStopped: false };
+    } };
+    return inWords(changed, await judgePage(changed, hints, judge, sha256)).replace(/ · made by.*/, "");
+}
+
+test("of a search that stopped no more is said than it settled", async () => {
+    assert.equal(await saidWhereEnded("end conflicts 0", "certified 0"), "lawful: checked here · the search stopped, and claims nothing more");
+    assert.equal(await saidWhereEnded("end conflicts 2", "certified 2"), "lawful: checked here · none better in height, bends: certified here");
+    assert.equal(await saidWhereEnded("end room 1", "certified 1"), "lawful: checked here · none better in height: certified here");
+    assert.match(await saidWhereEnded("end conflicts 2", "certified 1"), /^don't use this page: .* certify what the sheet claims: certified 1$/);
+    assert.match(await saidWhereEnded("end best", "certified 2"), /^don't use this page: .* certify what the sheet claims: certified 2$/);
+});
+
+test("where no drawing is lawful, that is what is certified", async () => {
+    const none = "railplan 2\ngrid 40 1 1\norder height bends diagonal width\nend none\n", changed = { ...record(), output: none, sheetHash: sum(none) };
+    /** @type {import("../both/engine.js").Engine} */
+    const judge = { kind: "native", run: async (job) => ({ status: 0, files: new Map(), seconds: 0, wasStopped: false,
+        output: new TextEncoder().encode(job.words[0] === "graph" ? graph : "certified 0\n") }) };
+    assert.match(inWords(changed, await judgePage(changed, hints, judge, sha256)), /^no drawing keeps the laws on this grid: certified here · /);
+    assert.match(inWords(changed, await judgePage(changed, null, judge, sha256)), /^no drawing keeps the laws on this grid: not certified here · /);
 });
 
 test("each change is seen", async () => {
@@ -65,6 +97,18 @@ test("each change is seen", async () => {
         assert.match(await wordsOf({ ...record(), ...change }), /^don't use this page: it isn't so that /, name);
     }
     assert.match(await wordsOf(record(), new TextEncoder().encode("others")), /certify what the sheet claims: check NotImplied line 3$/);
+});
+
+test("a page of hinted lines rechecks them, and says so where they certify nothing", async () => {
+    const sheetBytes = new TextEncoder().encode(sheet);
+    const of = (/** @type {string} */ output) => ({ ...record(), words: ["recheck", "a", "b", "c"], output, sheetHash: "", inputs: [
+        record().inputs[0], ...[sheetBytes, hints].map((content) => ({ facts: { sha256: sum(content) }, content }))] });
+    assert.match(await wordsOf(of("certified 4\n")), /^lawful: checked here · none better in height, bends, diagonal, width: certified here · /);
+    assert.match(await wordsOf(of("certified 3\n")), /^don't use this page: it isn't so that the program's answer is the one/);
+    const others = new TextEncoder().encode("others"), refused = of("check NotImplied line 3\n");
+    refused.inputs[2] = { facts: { sha256: sum(others) }, content: others };
+    assert.match(await wordsOf(refused, others), /^lawful: checked here · none better in .*: its hints don't certify it · /);
+    assert.match(await wordsOf(of("certified 4\n"), others), /^don't use this page: it isn't so that the hinted lines are those of the SHA-256/);
 });
 
 test("values that the drawing hasn't are seen where the program takes the sheet", async () => {

@@ -87,7 +87,7 @@ test("a page and the output", () => {
 
 test("the build is the program's", () => {
     start(["--html", "p.html", "--unproved", "draw", "a.xml"]);
-    assert.ok(file().includes("d".repeat(64)) && file().includes("after all its proofs had passed"));
+    assert.ok(file().includes("d".repeat(64)) && file().includes("All proofs of the program had passed"));
     assert.ok(file().includes("<span>--unproved</span> draw a.xml"));
 });
 

@@ -49,7 +49,7 @@ test("no page claims a proof that isn't known", () => {
         assert.match(text, /Whether the program's proofs passed isn't known here\./);
         assert.doesNotMatch(text, /is proved|are proved|proofs had passed/);
     }
-    for (const [build, said] of /** @type {const} */ ([[PROVED, "after all its proofs had passed"],
+    for (const [build, said] of /** @type {const} */ ([[PROVED, "All proofs of the program had passed"],
         [{ state: "unproved", sha256: "b".repeat(64) }, "a first look"]])) {
         const text = textsOf(make(sample("verify_lawful", { build })));
         assert.ok(text.includes(said) && text.includes(build.sha256));
@@ -176,7 +176,7 @@ test("what the drawing doesn't show", () => {
             said);
     const slip = changed(STATION, ["<connections>", '<connections><crossing id="k" type="doubleSwitchCrossing"/>']);
     assert.ok(fact(pageOf(["draw", STATION], SHEET, { files: slip }), "What the drawing doesn't show")
-        .includes("k is a double slip in the file; it is drawn as a crossing, without its slips"));
+        .includes("k is a double slip in the file; its sign says so, and the ways over its slips aren't drawn"));
     const plain = pageOf(["draw", "examples/one.xml"], stored("examples/one.sheet"));
     assert.ok(!plain.facts.some(([title]) => title === "What the drawing doesn't show"));
 });

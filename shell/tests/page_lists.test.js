@@ -45,7 +45,7 @@ test("the table has each object, and no cell is a formula", () => {
     const rows = make(example()).objects?.csv().split("\r\n") ?? [];
     assert.equal(rows.length, 1 + 16 + 1);
     assert.deepEqual([rows[0], rows.find((it) => it.includes(",W3,"))],
-        ["km,kind,name,id,track,column,row,side", "12.520,switch,,W3,,3,1,east upper"]);
+        ["km,kind,name,id,track,column,row,side,note", "12.520,switch,,W3,,3,1,east upper,"]);
     assert.deepEqual(["=1+1", "-5.500", "-x", "@a", "W1"].map(safe), ["'=1+1", "-5.500", "'-x", "'@a", "W1"]);
     assert.match(make(sample("signals", { files: new Map() })).objects?.csv() ?? "", /^km,/);
 });

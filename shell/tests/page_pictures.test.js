@@ -255,7 +255,7 @@ test("signals on signs and lines are noted", () => {
     const scene = run.scene(drawing, run.station(), { signals });
     const columns = layout([scene], new Map(), 1);
     const plan = new StripPlan(scene, columns, columns.strips[0], new Set());
-    plan.lay();
+    plan.laySigns();
     assert.deepEqual(plan.clashes, []);
     const [x, y] = plan.at(signals[0].point);
     plan.seeClash(7, [x, y + 5, x + 15, y + 13], true);

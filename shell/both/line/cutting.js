@@ -15,7 +15,7 @@ import { elementText, escaped, tagText } from "./writing.js";
 /** @typedef {{near: Element, side: "one" | "other"}} Cut the node that stays, and the piece's side that goes */
 
 const METRE = 1e6;
-/** from a station up to this length pieces stay whole, so that no cut stands beside a switch */
+/** from a station up to this length pieces stay whole, so that no cut is beside a switch */
 const BESIDE = 50 * METRE;
 /** a border of two tracks within this length is where a track ends */
 const NEAR_BORDER = 3000 * METRE;
@@ -84,6 +84,8 @@ export class Cutting {
         this.cut = new Map();
         /** @type {Set<string>} */
         this.notes = new Set();
+        /** @type {Set<string>} the titles of the stations to which tracks lead */
+        this.leads = new Set();
         /** @type {Map<string, number>} */
         this.ids = new Map();
         /**
@@ -335,8 +337,16 @@ export class Cutting {
      */
     openText(name, attributes, to) {
         const named = to ? new Map(attributes).set("name", `to ${to}`) : attributes;
+        this.leadTo(to);
         const id = this.freshId(`${attributes.get("id") ?? name}.open`);
         return `<${name}${tagText(named)}><openEnd id="${escaped(id)}"/></${name}>`;
+    }
+
+    /** @param {string} title a station to which a track leads, or "" */
+    leadTo(title) {
+        if (title) {
+            this.leads.add(title);
+        }
     }
 
     /** short open tracks in place of joins to switches that are in other files */
@@ -367,6 +377,7 @@ export class Cutting {
         const leadsUp = (connection.attributes.get("orientation") === "outgoing") === isRising;
         const to = far !== undefined && far !== at ? Math.round(at + (far - at) / 2) : at + (leadsUp ? 1 : -1) * BESIDE;
         const title = this.stationOf.get(other)?.title ?? "", id = this.freshId(`${connection.id}.track`);
+        this.leadTo(title);
         this.origins.set(id, [connection.id, partner.id]);
         this.notes.add(`the join ${connection.id} of ${it.id} with ${other.id} is a short open track`);
         const open = `<openEnd id="${escaped(this.freshId(`${id}.open`))}"/>`;

@@ -42,7 +42,7 @@ class Joined {
     }
 
     /**
-     * The thing that stands for all of a set.
+     * The thing that represents all of a set.
      * @param {Element} it
      */
     root(it) {

@@ -10,7 +10,7 @@ import { Walked } from "../surroundings.js";
 import { TrackGraph } from "../track_graph.js";
 
 /** @typedef {import("../page/texts.js").Graph} Graph */
-/** @typedef {import("./stations.js").StationFile} StationFile */
+/** @typedef {Omit<import("./stations.js").StationFile, "listed">} StationFile */
 /** @typedef {{track: string, node: string}} Leg a track, or a join's connection, and the node to which it leads */
 /**
  * @typedef {{way: "east" | "west", upper: Leg, lower: Leg, toe: Leg | null, mileage: number}} Fork two tracks on one side of a

@@ -2,15 +2,16 @@
 import { Cutting } from "./cutting.js";
 import { listed, stationsOf } from "./grouping.js";
 import { escaped } from "./writing.js";
-import { Network } from "./network.js";
+import { Network, mileageOf } from "./network.js";
 import { signals } from "../railml.js";
 
+/** @typedef {import("./listing.js").Listed} Listed */
 /** @typedef {import("../railml.js").Document} Document */
 /** @typedef {import("../railml.js").Element} Element */
 /**
  * A station's file: its name without an ending, its title, its text, the ids of its switches and crossings, of what each of its
- * tracks was made, and what was cut.
- * @typedef {{name: string, title: string, text: string, points: string[], origins: Map<string, string[]>, notes: string[]}}
+ * tracks was made, what was cut, and its place in the line.
+ * @typedef {{name: string, title: string, text: string, points: string[], origins: Map<string, string[]>, notes: string[], listed: Listed}}
  *     StationFile
  */
 
@@ -67,8 +68,11 @@ export function cutLine(document, asked) {
     const taken = new Set();
     const cuttings = stations.map((station) => new Cutting(network, station, stationOf));
     const files = cuttings.map((cutting) => {
-        const { name, title, points } = cutting.station, text = cutting.text();
-        return { name: fileName(name, taken), title, text, points: points.map((it) => it.id), origins: cutting.origins, notes: [...cutting.notes] };
+        const { name: wanted, title, points } = cutting.station, text = cutting.text(), name = fileName(wanted, taken);
+        const kilometres = points.map((it) => mileageOf(it)).filter((it) => it !== undefined).map((it) => Number(it) / 1e9);
+        const [from, to] = kilometres.length ? [Math.min(...kilometres), Math.max(...kilometres)] : [0, 0];
+        return { name, title, text, points: points.map((it) => it.id), origins: cutting.origins, notes: [...cutting.notes],
+            listed: { name, title, from, to, leads: [...cutting.leads] } };
     });
     const points = [...network.points(), ...network.left()], left = points.filter((it) => !stationOf.has(it)).map((it) => it.id);
     const others = inNoFile(network, cuttings), lost = lostSignals(network, files);
