@@ -10,6 +10,7 @@ from checking.numbers import with_tables
 COLUMNS = 120
 INDEX = TOP / "docs" / "made" / "index.md"
 CALLS = TOP / "docs" / "made" / "calls.md"
+SHELL = TOP / "docs" / "made" / "shell.md"
 GLOSSARY = TOP / "docs" / "made" / "glossary.md"
 
 
@@ -88,6 +89,27 @@ def calls_text():
     return "\n".join(lines) + "\n"
 
 
+# ---- the modules of the shell
+
+
+def shell_text():
+    """Each module of the shell with the first sentence of its head, folder by folder."""
+    lines = ["# The modules of the shell", "", "Folder by folder, each with the first sentence of its head. `docs/check --write` makes this page.", ""]
+    folders = {}
+    for path in sorted((TOP / "shell").rglob("*.js")):
+        if "tests" not in path.parts and "node_modules" not in path.parts:
+            folders.setdefault(path.parent, []).append(path)
+    for folder, paths in sorted(folders.items()):
+        lines += [f"## {folder.relative_to(TOP)}/", ""]
+        for path in paths:
+            head = re.search(r"/\*\*(.*?)\*/", read(path), re.S)
+            said = " ".join(line.strip().lstrip("*").strip() for line in head.group(1).splitlines()).strip() if head else "no head"
+            first = re.split(r"(?<=[.:])\s(?=[A-Z`]|$)", said)[0].rstrip(".:")
+            lines += textwrap.wrap(f"- `{path.name}`: {first}", COLUMNS, subsequent_indent="  ", break_long_words=False, break_on_hyphens=False)
+        lines.append("")
+    return "\n".join(lines[:-1]) + "\n"
+
+
 # ---- all of them
 
 
@@ -95,7 +117,7 @@ def made_pages():
     """The pages of which a part is made, and the pictures, each as it is to be."""
     found = {path: with_tables(read(path)) for path in DOCUMENTS if "<!-- made: " in read(path)}
     return {**found, INDEX: index_text(), GLOSSARY: glossary_text(), CALLS: calls_text(), theorem.PICTURE: theorem.picture(),
-            theorem.RESTS: theorem.rests_text(),
+            theorem.RESTS: theorem.rests_text(), theorem.ROWS_PAGE: theorem.rows_text(), SHELL: shell_text(),
             pictures.ROOMS: pictures.rooms_picture(), results.PLOT: results.peers_plot(), **guide.pictures()}
 
 

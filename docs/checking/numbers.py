@@ -221,9 +221,9 @@ def kinds_table():
 
 
 TABLES_MADE = {"kinds": kinds_table, "limits": limits_table, "options": options_table, "statuses": statuses_table,
-               "laws": laws_list, "rooms": rooms.table, "so_clause": theorem.clause_lines, "so_counts": theorem.count_lines,
-               "so_rows": theorem.row_lines, "so_statuses": theorem.status_lines, "so_types": theorem.type_lines,
-               "best_words": theorem.best_lines, "so_rest": theorem.rest_lines, "json_fields": shell.fields_table, **results.tables()}
+               "laws": laws_list, "rooms": rooms.table, "so_clause": theorem.clause_lines,
+               "so_three": theorem.three_lines, "headline": lambda: theorem.listing(theorem.ANSWER),
+               "best_words": lambda: theorem.listing(theorem.LAWS), "json_fields": shell.fields_table, **results.tables()}
 
 
 def with_tables(text):

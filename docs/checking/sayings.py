@@ -171,8 +171,8 @@ SAYINGS = [
     ("shell/terminal/install.js", 'line.words[1] ?? "~/.local"', [(README, "`./railplan install ~/.local` copies what it needs into `~/.local`")]),
     ("shell/both/page/columns.js", 'PAPERS = new Map([["A4", [297, 210]], ["A3", [420, 297]], ["A2", [594, 420]], ["A1", [841, 594]]]);', [("docs/guide.md", "A4 to A1 go as well")]),
     (".ci/run", "{ rt ci echo $? >out/gate.status times >&2 } | tee out/gate.log", [(README, "`.ci/run` is the gate. It runs `rt ci` (proofs, tests, edits that must fail)")]),
-    (".ci/run", "shell/check >&2 || status=1 cases/run $program >&2 || status=1 cases/real/run $program >&2 || status=1 "
-     "rm -f out/railplan.wasm out/desk.html cases/as_wasm >&2 || status=1 [ ! -e out/desk.html ] || bench/desk.py --short out/desk.html >&2 "
+    (".ci/run", "rm -f out/railplan.wasm out/desk.html cases/as_wasm >&2 || status=1 shell/check >&2 || status=1 "
+     "cases/run $program >&2 || status=1 cases/real/run $program >&2 || status=1 [ ! -e out/desk.html ] || bench/desk.py --short out/desk.html >&2 "
      "|| status=1 bench/hostile/run $program >&2 || status=1 mypy >&2 || status=1 python3 docs/check",
      [(README, "the types and tests of `shell/`, the runs of `cases/`, also with the program as WebAssembly, a desk in a browser, "
        "`bench/hostile`, the types of scripts, and `docs/check`")]),

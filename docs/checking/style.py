@@ -8,7 +8,8 @@ WORDS_NOT_USED = ("due", "told", "stands", "is put", "was put", "are put", "were
 MADE = TOP / "docs" / "made"
 MOST_BYTES = 175_000
 # pages with bounds of their own: words a sentence, lines, bytes
-OWN_BOUNDS = {TOP / "README.md": (15, 120, None), TOP / "docs/definitions.md": (None, None, 12_288), TOP / "crates/README.md": (None, None, 20_480)}
+OWN_BOUNDS = {TOP / "README.md": (15, 120, None), TOP / "docs/definitions.md": (None, None, 12_288), TOP / "crates/README.md": (None, None, 20_480),
+              TOP / "THEOREM.md": (None, None, 30_000)}
 
 
 def prose_of(text):
@@ -66,6 +67,15 @@ def comments_of(path, mark):
     return [(number, "\n".join(lines)) for number, lines in found]
 
 
+def shell_failures():
+    """The words that no remark, name or message of the shell has, each where it is; texts of stored runs are the program's."""
+    kinds, stored = (".js", ".c", ".html", ".css", ".md"), TOP / "shell" / "tests" / "pages" / "samples"
+    files = [path for path in sorted((TOP / "shell").rglob("*")) if path.suffix in kinds and stored not in path.parents]
+    words = re.compile(rf"(?<![a-zA-Z])({'|'.join(word.replace(' ', ' +') for word in WORDS_NOT_USED)})(?![a-zA-Z])", re.I)
+    return [f"{show(path)}:{number}: the word `{found.group()}`" for path in files for number, line in enumerate(read(path).splitlines(), 1)
+            for found in words.finditer(line)]
+
+
 def comment_failures():
     """The crates whose heads (`//!`) or `///` have sentences that are too long, and the words that they don't use."""
     found = []
@@ -81,7 +91,7 @@ def comment_failures():
 
 
 def all_failures():
-    found = too_much() + comment_failures()
+    found = too_much() + comment_failures() + shell_failures()
     for path in pages():
         text = read(path)
         most_words, most_lines, most_bytes = OWN_BOUNDS.get(path, (None, None, None))

@@ -1,5 +1,5 @@
-"""The parts of THEOREM.md that are made from the sources: the clause, its rows, the words of the best drawing, what the rest
-rests on, and the picture of the way from bytes to the best drawing."""
+"""The parts of THEOREM.md that are made from the sources: the clauses, three rows, what *best* and *certified* rest on, the laws; and
+docs/made/rows.md, which has all rows, the words of the best drawing whole, how much the rows rest on, and a picture of the way."""
 import re
 import textwrap
 from functools import cache
@@ -10,10 +10,24 @@ from checking.crates import TOP, crates, handed_on, head, imported_words, module
 PAGE = TOP / "THEOREM.md"
 PICTURE = TOP / "docs" / "made" / "theorem.svg"
 RESTS = TOP / "docs" / "made" / "rests.md"
+ROWS_PAGE = TOP / "docs" / "made" / "rows.md"
 RUN = TOP / "crates" / "schematic_main" / "src" / "running.rt"
 ROWS, BEST = ("schematic_main", "So"), ("plan_core", "Values", "IsBest")
 STATION = ("run_input", "Input", "HasStation")
 DRAW, CHECK, VERIFY, ASKS = (*ROWS, "DrawIsSo"), (*ROWS, "CheckIsSo"), (*ROWS, "VerifyIsSo"), ("schematic_main", "Run", "Asks")
+
+# what draw's answer, and with it its log, rest on first, and the laws with what a best drawing is
+ANSWER = [("run_draw_front", "Drawn", name) for name in ("IsDrawAnswer", "IsDrawn", "HasSearched")] + [
+    ("search_least", "Outcome", name) for name in ("IsOutcome", "IsSearched", "IsBestEnd", "IsNoneEnd", "IsUnfinishedEnd")] + [
+    ("refute_log", "Cause", "IsCause")] + [
+    ("refute_log", "Certified", name) for name in ("IsOutOfReach", "RefutesLess", "IsCertifiedLeast", "Certifies", "CertifiesNone")]
+LAWS = [("plan_core", "Values", name) for name in ("IsBest", "Better")] + [
+    ("plan_core", "Lawful", name) for name in ("Lawful", "Meets")] + [
+    ("plan_core", "Laws", name) for name in (
+        "IsOnGrid", "LineJoinsItsNodes", "Diverges", "SwitchIsAligned", "CrossingIsAligned", "PortsAreAligned", "NodesAreApart",
+        "AreCompared", "EdgeIsOver", "EdgesAreParted")]
+# the lines of a row that say nothing of its command alone
+GENERAL = re.compile(r"^\w+ [^=]*\b(?:Unread text = IsUnreadLine text|status text = ⊥)$")
 
 # the way from bytes to what a run prints: a definition, what it says in a few words, and its place in the picture
 WAY = [(("run_input", "Input", "HasRows"), "the bytes are read as rows", (0, 0)),
@@ -91,9 +105,25 @@ def spec_path(crate, module):
 def clause_lines():
     """The clause as it stands on the call."""
     text = read(RUN)
-    clause = re.search(r"^    // What a run that .*?\n(    ensures so \{.*?\}\n)(?=    //)", text, re.M | re.S)
+    clauses = re.search(r"^    // What a run that .*?\n    ensures so \{.*?\}\n    //.*?\n    ensures answer \{.*?\}\n(?=    //)", text, re.M | re.S)
     call = re.search(r"^pub fn run<.*?\n\) -> u8\n", text, re.M | re.S)
-    return ["```", *call.group(0).rstrip().splitlines(), *clause.group(0).rstrip().splitlines(), "```"]
+    return ["```", *call.group(0).rstrip().splitlines(), *clauses.group(0).rstrip().splitlines(), "```"]
+
+
+def defined(key):
+    """A definition with its remark."""
+    return [*(f"-- {line}" for line in textwrap.wrap(words()[key].remark, 116)), *words()[key].text.rstrip().splitlines()]
+
+
+def listing(keys):
+    """Definitions one behind the other, each with its remark."""
+    lines = [line for key in keys for line in ["", *defined(key)]]
+    return ["```", *lines[1:], "```"]
+
+
+def three_lines():
+    """The rows of draw, verify and check, without the lines that all rows have."""
+    return [line for line in listing([DRAW, VERIFY, CHECK]) if not GENERAL.match(line)]
 
 
 def row_lines():
@@ -138,12 +168,8 @@ def best_lines():
     for key in resting_on(BEST):
         files.setdefault(key[:2], []).append(key)
     for (crate, module), keys in sorted(files.items(), key=lambda file: min(order_of(file[0]))):
-        lines += ["", f"`crates/{crate}/specs/{module}.antt`", "", "```"]
         whole = [key for key in words() if key[:2] == (crate, module) and key in keys]
-        for key in whole:
-            remark = textwrap.wrap(words()[key].remark, 116)
-            lines += [*(f"-- {line}" for line in remark), *words()[key].text.rstrip().splitlines(), ""]
-        lines[-1] = "```"
+        lines += ["", f"`crates/{crate}/specs/{module}.antt`", "", *listing(whole)]
     return lines[1:]
 
 
@@ -161,18 +187,29 @@ def rest():
     return files
 
 
-def rest_lines():
-    """How much that is, and where it is listed."""
+def rows_text():
+    """All rows with what they rest on, and how much that is."""
     files = rest()
-    return [f"The rows rest on {sum(map(len, files.values()))} more definitions, in {len(files)} files. "
-            f"[`docs/made/{RESTS.name}`](docs/made/{RESTS.name}) names them,", "file by file, each file with what it defines."]
+    return "\n".join([
+        "# All rows of the theorem", "",
+        "`THEOREM.md` says what these are, and how to read them. `docs/check --write` makes this page.", "",
+        "*yes*: the command may end with this status. `CheckIsSo` is the row of `check` and of `recheck`.", "",
+        *status_lines(), "", "## How much there is to read", "", *count_lines(), "",
+        "Types of the code and definitions of the standard library aren't counted. Best is to read the rows of one command, then *The best",
+        "drawing*, then the files behind it that you doubt. An arrow goes from a definition to one that rests on it, where no longer way of",
+        "arrows leads there.", "",
+        f"![The definitions on the way from a file's bytes to what a run prints]({PICTURE.name})", "",
+        "## The rows", "", f"`crates/{ROWS[0]}/specs/{ROWS[1]}.antt`: the imports that give other names, and all definitions.", "", *row_lines(), "",
+        "## The best drawing", "", *best_lines(), "", "## Types of the code", "", *type_lines(), "", "## The rest", "",
+        f"The rows rest on {sum(map(len, files.values()))} more definitions, in {len(files)} files. [{RESTS.name}]({RESTS.name}) names them, file by "
+        "file,", "each file with what it defines.", ""])
 
 
 def rests_text():
     """What the rows rest on besides, file by file: what the file defines, and the names."""
     lines = ["# What else the rows of the theorem rest on", "",
              "File by file: what the file defines, and the names that the rows of `crates/schematic_main/specs/So.antt` need. Those that",
-             "`THEOREM.md` has whole aren't here. `docs/check --write` makes this page.", ""]
+             "`docs/made/rows.md` has whole aren't here. `docs/check --write` makes this page.", ""]
     for (crate, module), names in rest().items():
         said = re.split(r"(?<=\.) ", head(read(spec_path(crate, module)), "--"))[0]
         entry = f"- {said} (`crates/{crate}/specs/{module.replace('.', '/')}.antt`): {', '.join(f'`{name}`' for name in names)}"
@@ -225,4 +262,5 @@ def picture():
 
 def all_failures():
     """Definitions of the picture that aren't there."""
-    return [f"docs/checking/theorem.py: there is no {'.'.join(key)}" for key, *_ in WAY if key not in words()]
+    keys = [*(key for key, *_ in WAY), *ANSWER, *LAWS]
+    return [f"docs/checking/theorem.py: there is no {'.'.join(key)}" for key in keys if key not in words()]
