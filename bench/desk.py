@@ -24,6 +24,7 @@ from firefox import Firefox  # noqa: E402
 from made_stations import parallel  # noqa: E402
 
 TOP = Path(__file__).resolve().parent.parent
+MOST_KILOBYTES = 450
 SECONDS = 240
 EXAMPLE = TOP / "examples/station.xml"
 Check = tuple[str, bool]
@@ -72,6 +73,8 @@ class Desk:
         self.tab = tab
         tab.open(page)
         self.wait("document.body.dataset.ready")
+        # by the page's own clock, which begins when it is opened
+        self.ready = float(str(tab.run("performance.now()"))) / 1000
         self.tab.run(KEEP)
 
     def wait(self, what: str) -> None:
@@ -241,6 +244,22 @@ def narrow(desk: Desk) -> Iterator[Check]:
     yield "all is reached by the keyboard", {"Take the example", "draw", "graph", "--width", "Run"} <= set(reached)
 
 
+def certificate(desk: Desk) -> Iterator[Check]:
+    """a drawing with its certificate, whose page judges itself in its frame"""
+    desk.press("Take the example")
+    desk.press("draw")
+    desk.tab.run("document.querySelector('form input[name=\"--certify\"]').click()")
+    yield "the command line has the word", desk.text(".command") == "railplan --html station.html --certify draw station.xml"
+    desk.press("Run")
+    desk.answer()
+    yield "the log is trimmed and checked", desk.text(".certificate") == "Its log was trimmed, and what is left of it checked: certified 4."
+    carried = desk.saved(".html").decode()
+    yield "the page carries its certificate", '<script type="application/json" class="hints">' in carried
+    desk.take(("own.html", carried))
+    desk.wait("document.querySelector('#answer')?.textContent.includes('certified here')")
+    yield "the desk finds it certified", "none better in height, bends, diagonal, width: certified here" in desk.text("#answer")
+
+
 def stop(desk: Desk) -> Iterator[Check]:
     """a long search that is stopped"""
     desk.press("draw")
@@ -289,11 +308,15 @@ def main() -> int:
     parser.add_argument("--short", action="store_true", help="leave out the long searches")
     parser.add_argument("--firefox", action="store_true", help="drive firefox")
     words = parser.parse_args()
-    parts = (commands, page, fault, several, line, narrow, *(() if words.short else (stop, limits)))
-    failed = False
+    parts = (commands, page, fault, several, line, narrow, certificate, *(() if words.short else (stop, limits)))
     with ExitStack() as opened:
         tab: Tab | Firefox = opened.enter_context(Firefox()) if words.firefox else Tab(opened.enter_context(Browser()))
-        desk = Desk(tab, words.desk)
+        desk, kilobytes = Desk(tab, words.desk), words.desk.stat().st_size / 1024
+        print(f"ready after {desk.ready:.2f} s")
+        # a program without proofs is longer, since its checks aren't shown to be needless
+        is_proved = desk.text("#program").find("whose proofs passed") >= 0
+        failed = is_proved and kilobytes > MOST_KILOBYTES
+        print(f"{kilobytes:.0f} KB, at most {MOST_KILOBYTES} with the proved program: {'NO' if failed else 'yes'}")
         for part in parts:
             try:
                 for what, is_so in part(desk):

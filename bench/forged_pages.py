@@ -32,7 +32,7 @@ from measuring import TOP, read_words, reader_of_program, run  # noqa: E402
 
 SECONDS = 120
 SCRIPT = '<script type="application/json" class="{}">"{}"</script>'
-TRUE = "lawful: checked here · none better: certified here"
+TRUE = "lawful: checked here · none better in height, bends, diagonal, width: certified here"
 
 
 def unpacked(text: str) -> bytes:

@@ -9,7 +9,7 @@ import { runOverSystem } from "../terminal/system_files.js";
 
 /** @returns {import("../both/wasm_engine.js").Port} */
 function startThread() {
-    const thread = new Worker(new URL("./wasm_thread.js", import.meta.url));
+    const thread = new Worker(new URL("./wasm_thread.js", import.meta.url), { execArgv: [] });
     thread.unref();
     return {
         post: (asked) => {

@@ -3,13 +3,13 @@
  * It ends with 3 where the kit goes other ways than those that are known here.
  */
 import { writeFileSync } from "node:fs";
-import { dirname } from "node:path";
+import { dirname, resolve } from "node:path";
 import { fileURLToPath } from "node:url";
 import { deskOf } from "../terminal/browser_command.js";
 import { Otherwise, findRt, kitOf, nameOf } from "./kit.js";
 import { provedWasm } from "./quick_build.js";
 
-const top = dirname(dirname(dirname(fileURLToPath(import.meta.url)))), [, , out, desk] = process.argv;
+const top = dirname(dirname(dirname(fileURLToPath(import.meta.url)))), [, , name = "", desk] = process.argv, out = name && resolve(name);
 if (out) {
     try {
         const rt = findRt();

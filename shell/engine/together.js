@@ -30,10 +30,10 @@ export function partOf(name, text) {
     const needs = [], later = [...text.matchAll(LATER)].map((it) => it[1]);
     const inside = text.replace(IMPORT, (_, names, from) => {
         needs.push(from);
-        return names ? `const{${paired(names, (it, as) => `${it}:${as}`)}}=M["${from}"];` : "";
-    }).replace(LATER, (_, from) => `Promise.resolve().then(()=>M["${from}"])`)
+        return names ? `const{${paired(names, (it, as) => `${it}:${as}`)}}=MODULES["${from}"];` : "";
+    }).replace(LATER, (_, from) => `Promise.resolve().then(()=>MODULES["${from}"])`)
         .replace(EXPORT, (_, names, notices) => `${notices}return{${paired(names, (it, as) => `${as}:${it}`)}};`);
-    return { name, body: `M["${name}"]=(()=>{${inside.trimEnd()}})();`, needs, later };
+    return { name, body: `MODULES["${name}"]=(()=>{${inside.trimEnd()}})();`, needs, later };
 }
 
 /**
@@ -79,7 +79,7 @@ export function together(entries, words, notice, env) {
         const parts = new Map(readdirSync(room).sort().map((/** @type {string} */ name) => [name, partOf(name, readFileSync(join(room, name), "utf8"))]));
         const [page, desk] = entries.map((it) => inOrder(parts, basename(it))), own = basename(entries[0]);
         const common = page.filter((it) => it.name !== own), inBoth = new Set(common.map((it) => it.name));
-        const text = (/** @type {Part[]} */ rest) => `${notice}\n(()=>{const M={};${[...common, ...rest].map((it) => it.body).join("\n")}})();\n`;
+        const text = (/** @type {Part[]} */ rest) => `${notice}\n(()=>{const MODULES={};${[...common, ...rest].map((it) => it.body).join("\n")}})();\n`;
         return { texts: [text(page.filter((it) => it.name === own)), text(desk.filter((it) => !inBoth.has(it.name)))], why: "", isThere: true };
     } finally {
         rmSync(room, { recursive: true, force: true });

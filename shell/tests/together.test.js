@@ -7,8 +7,8 @@ import { partOf } from "../engine/together.js";
 
 const IS_THERE = { skip: spawnSync("esbuild", ["--version"]).status !== 0 && "esbuild isn't there" };
 
-/** @param {string} text @param {object} M the modules that are there by then @returns {any} what a module's function leaves among them */
-const left = (text, M) => new Function("M", `${partOf("own.js", text).body};return M["own.js"]`)(M);
+/** @param {string} text @param {object} there the modules that are there by then @returns {any} what a module's function leaves among them */
+const left = (text, there) => new Function("MODULES", `${partOf("own.js", text).body};return MODULES["own.js"]`)(there);
 
 test("a module becomes a function of those that it needs", async () => {
     const text = 'import{a as x,b}from"./one.js";import"./two.js";var y=x+b;async function z(){return(await import("./three.js")).c}export{y as d,z};\n';
@@ -16,6 +16,13 @@ test("a module becomes a function of those that it needs", async () => {
     assert.deepEqual([needs, later], [["one.js", "two.js"], ["three.js"]]);
     assert.equal(made.d, 3);
     assert.equal(await made.z(), 7);
+});
+
+test("no short name of a packed module is taken", () => {
+    const names = [..."abcdefghijklmnopqrstuvwxyzABCDEFGHIJKLMNOPQRSTUVWXYZ$_"];
+    for (const name of names) {
+        assert.equal(left(`import{a as ${name}}from"./one.js";var x1=${name};export{x1 as d};\n`, { "one.js": { a: 3 } }).d, 3, name);
+    }
 });
 
 test("notices behind a module stay, and a module without exports is one", () => {
