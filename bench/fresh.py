@@ -16,7 +16,7 @@ import time
 from pathlib import Path
 
 TOP = Path(__file__).resolve().parent.parent
-PACKAGES = "nodejs,git,esbuild,node-sax"
+PACKAGES = "nodejs,git,python3,esbuild,node-sax"
 KEPT = Path("/opt/rattle-kept")
 ENVIRONMENT = ["HOME=/root", "LC_ALL=C.UTF-8", "LANG=C.UTF-8"]
 
