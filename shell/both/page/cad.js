@@ -1,9 +1,8 @@
 /**
  * A drawing as DXF, for CAD programs: layers for tracks, nodes, names, signals and what else lies at tracks, in millimetres of
- * the
- * picture.
+ * the picture.
  *
- * It is the form of AutoCAD R12, which every such program reads: polylines, points with blocks, circles and texts.
+ * It is the form of AutoCAD's release 12, which every such program reads: polylines, points with blocks, circles and texts.
  */
 import { kilometres } from "../messages/law_words.js";
 import { MM, Strip, heightAt, neighbours } from "./columns.js";
