@@ -33,7 +33,8 @@ const CAPTION = "Not to scale: kilometres rise from left to right. Seen this way
 const OF_SIGNALS = " Signals are in order along their own piece of track alone. A kilometre of the axis is that of all that is "
     + "in its column.";
 const OF_OBJECTS = " What lies at a track is in order along its own piece of track.";
-const NO_LOG = "No log was kept. With --log NAME the search leaves one, which others can judge.";
+const NO_LOG = "No log is beside this page. If the page carries a certificate, the line below its title says so when it is opened. "
+    + "With --log NAME the search leaves its log, which others can judge; with --certify the page carries a certificate.";
 // of a paper's width: what a framed picture may have, and each of two side by side
 const FRAMED = 0.97;
 const HALF = 0.475;
