@@ -15,7 +15,7 @@ struct Log {
     verdicts: [bool; 3],
 }
 
-static LOGS: [Log; 15] = [
+static LOGS: [Log; 16] = [
     Log {
         room: 100,
         lines: &[
@@ -149,6 +149,22 @@ static LOGS: [Log; 15] = [
             ("f 1 2 3 0", "Accepted"),
             ("f 1 2 -3 0", "Accepted"),
             ("l 2 1 0", "Accepted"),
+        ],
+        verdicts: [false, false, false],
+    },
+    // A clause of four literals is counted down twice by lines that are refused. It is counted back each time, and the
+    // last line rests on it.
+    Log {
+        room: 100,
+        lines: &[
+            ("f 1 2 3 4 5 0", "Accepted"),
+            ("f 1 2 3 4 -5 0", "Accepted"),
+            ("f -4 6 0", "Accepted"),
+            ("f -4 -6 0", "Accepted"),
+            ("l 1 2 3 4 0", "Accepted"),
+            ("l 1 2 0", "NotImplied"),
+            ("l 3 2 0", "NotImplied"),
+            ("l 1 2 3 0", "Accepted"),
         ],
         verdicts: [false, false, false],
     },

@@ -1,7 +1,7 @@
 -- Formula lines at the end of a log that lacks them, and what is trimmed of it then.
 use Rattle.std.proofs.Common.{◌≡◌, ◌≤◌, ◌<◌, ℕ, zero, suc, ◌+◌, List, [], ◌∷◌, ◌++◌, length, map, take, drop, get_or, Bool, true, false, Some, None, refl, sym}
 use Rattle.std.proofs.Common.{◌∙◌, ap, subst, inl, inr, arith, append-nil, append_assoc, length-append}
-use Rattle.std.specs.Prelude.{All, Contains, Option, MatchBool, MatchOption, flat_map, slice_get, slice_index_or}
+use Rattle.std.specs.Prelude.{◌≢◌, All, Contains, Option, MatchBool, MatchOption, flat_map, slice_get, slice_index_or}
 use Rattle.std.proofs.lemmas.Grind.{flat_map-append}
 use Rattle.std.proofs.lemmas.List.{get_or_append_left, take-append-drop, take-append-le}
 use Rattle.std.proofs.lemmas.List.Elements.{All-nil, All-head}
@@ -103,6 +103,10 @@ none_refuted lines p c told derives none at =
         let to = All-head (λ (k : Literal). k.var ≤ 0) l ls named in
         omega (arith, from, to)
 
+-- some are wanted, and not none
+pub not_none : (wanted : List ℕ) → 1 ≤ length wanted → wanted ≢ []
+not_none wanted some none = let size = ap length none in omega (arith, some, size)
+
 -- one of those that are wanted
 some_wanted : (wanted : List ℕ) → 1 ≤ length wanted → (p : ℕ) × Contains wanted p
 some_wanted [] some = absurd (omega (arith, some))
@@ -128,7 +132,7 @@ readied_by_room e lines wanted true empty none room = record {
   front = (e.lines, ap (λ (ls : Lines). ls ++ e.lines) (sym none));
   within = λ some. absurd (some none);
   room = room;
-  completed = inr (empty, refl);
+  completed = inl (empty, refl);
 }
 readied_by_room e lines wanted false empty none room = no_room e lines room
 
@@ -157,23 +161,23 @@ derives_front lines more d = λ i line e.
 -- the lines derive with them exactly where they do without
 pub still_derives : (e : Expectation) (old new : Lines) (wanted : List ℕ) → MayBeTrimmed e old wanted new → Derives old → Derives new
 still_derives e old new wanted may d = elim may.completed [
-  | inl h ↦ subst Derives (sym h.added) (derives_formulas old h.missing d)
-  | inr h ↦ subst Derives (sym h.1) d
+  | inl h ↦ subst Derives (sym h.1) d
+  | inr h ↦ subst Derives (sym h.1.added) (derives_formulas old h.1.missing d)
 ]
 
 derived_before : (e : Expectation) (old new : Lines) (wanted : List ℕ) → MayBeTrimmed e old wanted new → Derives new → Derives old
 derived_before e old new wanted may d = elim may.completed [
-  | inl h ↦ derives_front old (map Formula h.missing) (subst Derives h.added d)
-  | inr h ↦ subst Derives h.1 d
+  | inl h ↦ subst Derives h.1 d
+  | inr h ↦ derives_front old (map Formula h.1.missing) (subst Derives h.1.added d)
 ]
 
 pub still_refuted : (e : Expectation) (old new : Lines) (wanted : List ℕ) → MayBeTrimmed e old wanted new → AreRefutedLines old wanted →
     AreRefutedLines new wanted
 still_refuted e old new wanted may refuted = elim may.completed [
-  | inl h ↦ λ p among.
+  | inl h ↦ subst (λ (ls : Lines). AreRefutedLines ls wanted) (sym h.1) refuted
+  | inr h ↦ λ p among.
       let r = refuted p among in
-      (r.0, subst (λ (ls : Lines). slice_get ls p ≡ Some (Refuted r.0)) (sym h.added) (at_front old (map Formula h.missing) p (Refuted r.0) r.1))
-  | inr h ↦ subst (λ (ls : Lines). AreRefutedLines ls wanted) (sym h.1) refuted
+      (r.0, subst (λ (ls : Lines). slice_get ls p ≡ Some (Refuted r.0)) (sym h.1.added) (at_front old (map Formula h.1.missing) p (Refuted r.0) r.1))
 ]
 
 -- ---- what is left of them
@@ -207,8 +211,7 @@ none_trimmed lines missing kept h =
 kept_so : (e : Expectation) (old new : Lines) (wanted : List ℕ) (kept : HintLines) → MayBeTrimmed e old wanted new → Derives new → IsTrimmed new wanted kept →
     IsKeptOf e old wanted kept
 kept_so e old new wanted kept may d trimmed = elim may.completed [
-  | inl h ↦ record { accepted = accepted; missing = h.missing; whole = h.whole; trimmed = subst (λ (ls : Lines). IsTrimmed ls wanted kept) h.added trimmed }
-  | inr h ↦
+  | inl h ↦
       let b = begun e old may.front in
       let none : IsTrimmed old [] kept = subst (λ (ls : Lines). IsTrimmed ls [] kept) h.1 (subst (λ (ns : List ℕ). IsTrimmed new ns kept) h.0 trimmed) in
       record {
@@ -217,6 +220,12 @@ kept_so e old new wanted kept may d trimmed = elim may.completed [
         whole = b.whole;
         trimmed = subst (λ (ns : List ℕ). IsTrimmed (old ++ map Formula b.missing) ns kept) (sym h.0) (none_trimmed old b.missing kept none);
       }
+  | inr h ↦ record {
+    accepted = accepted;
+    missing = h.1.missing;
+    whole = h.1.whole;
+    trimmed = subst (λ (ls : Lines). IsTrimmed ls wanted kept) h.1.added trimmed;
+  }
 ]
   where
     accepted : AreAccepted e old

@@ -1,5 +1,5 @@
 -- Words of lines in which hints are found.
-use Rattle.std.proofs.Common.{◌≡◌, ℕ, ◌+◌, ◌<◌, List, take, get_or, ap, arith, inl, inr, Some}
+use Rattle.std.proofs.Common.{◌≡◌, ℕ, ◌+◌, ◌<◌, List, take, get_or, ap, arith, Some}
 use Rattle.std.specs.Prelude.{slice_get}
 use Rattle.std.specs.List.{sum_by}
 use Rattle.std.proofs.lemmas.List.Sums.{sum_by_more, sum_by_more_le}
@@ -27,12 +27,10 @@ words_missed whole room lines i line e is over =
     omega (arith, is, over, same, part)
 
 -- lines that were completed, or left as they are, pass where these do
-pub passing : (e : Expectation) (old : Lines) (wanted : List ℕ) (new : Lines) → MayBeTrimmed e old wanted new → (AllowHints new → ⊥) → LinesPassLimits e old
+pub passing : (e : Expectation) (old : Lines) (wanted : List ℕ) (new : Lines) → MayBeTrimmed e old wanted new → (AllowHints new → ⊥) →
+    LinesPassLimits e old wanted
 passing e old wanted new may passes = record {
   tried = new;
-  which = elim may.completed [
-    | inl more ↦ inr more
-    | inr none ↦ inl none.1
-  ];
+  which = may.completed;
   passes = passes;
 }

@@ -164,12 +164,15 @@ trimmed_log y order claim log greatest r lines wanted is same counted are kept c
 
 -- ---- past the limits
 
-pub passing_log : (y : Layout) (order : List Criterion) (log : List ℕ) (greatest counted_of : Criterion → ℕ) (lines : Lines) → IsSpelledLog log lines →
-    ((c : Criterion) → greatest c ≡ limit_of y.graph y.grid c) → AreCounted greatest log counted_of → LinesPassLimits (expectation y order counted_of) lines →
-    LogPassesLimits y order log
-passing_log y order log greatest counted_of lines is same counted pass = record {
+pub passing_log : (y : Layout) (order : List Criterion) (claim : Claim) (log : List ℕ) (greatest counted_of : Criterion → ℕ) (lines : Lines)
+    (wanted : List ℕ) → IsSpelledLog log lines →
+    ((c : Criterion) → greatest c ≡ limit_of y.graph y.grid c) → AreCounted greatest log counted_of → AreWanted greatest lines order claim wanted →
+    LinesPassLimits (expectation y order counted_of) lines wanted → LogPassesLimits y order claim log
+passing_log y order claim log greatest counted_of lines wanted is same counted are pass = record {
   lines = lines;
   is_log = is;
+  wanted = wanted;
+  are_wanted = wanted_under greatest (limit_of y.graph y.grid) lines order claim wanted same are;
   cap = counted_of;
   caps_are = caps_of greatest (limit_of y.graph y.grid) counted_of log lines is same counted;
   pass = pass;

@@ -1,5 +1,5 @@
 -- How many variables and words a log may have in which hints are found.
-use Rattle.std.specs.Prelude.{◌≡◌, ◌≤◌, ◌⊎◌, ℕ, ⊤, ◌+◌, ◌-◌, ◌++◌, max, List, All, length, map, flat_map}
+use Rattle.std.specs.Prelude.{◌≡◌, ◌≢◌, ◌≤◌, ◌⊎◌, ℕ, ⊤, ◌+◌, ◌-◌, ◌++◌, max, List, [], All, length, map, flat_map}
 use Rattle.std.specs.List.{sum_by}
 use Rattle.plan_core.specs.declared.criterion.Criterion.{Criterion}
 use Rattle.plan_core.specs.Values.{limit_of}
@@ -11,8 +11,10 @@ use Rattle.refute_log.specs.Told.{Lines}
 use Rattle.refute_log.specs.Log.{given}
 use Rattle.refute_log.specs.Expected.{caps}
 use Rattle.drawing_cnf.specs.Layout.{Layout}
+use Rattle.log_check.specs.declared.claim.Claim.{Claim}
 use Rattle.log_check.specs.Expectation.{Expectation, expectation}
 use Rattle.log_trim.specs.TrimmedLog.{IsSpelledLog}
+use Rattle.log_trim.specs.Wanted.{AreWanted}
 
 -- the line's clause has no greater variable
 abbrev pub IsLineWithin : ℕ → LogLine → Type 0
@@ -38,16 +40,23 @@ pub record IsCompleted (e : Expectation) (old new : Lines) : Type 0 where
   pub whole : flat_map given e.lines ≡ flat_map given old ++ missing
   pub added : new ≡ old ++ map Formula missing
 
--- the lines, or these with the missing Formula lines at their end, have too many variables or words
-pub record LinesPassLimits (e : Expectation) (lines : Lines) : Type 0 where
+-- the lines in which hints are looked for: those of before where no line is wanted, else with the missing Formula lines
+abbrev pub AreTried : Expectation → (old : Lines) → (wanted : List ℕ) → (new : Lines) → Type 0
+AreTried e old wanted new = ((wanted ≡ []) × (new ≡ old)) ⊎ ((wanted ≢ []) × IsCompleted e old new)
+
+-- these have too many variables or words
+pub record LinesPassLimits (e : Expectation) (lines : Lines) (wanted : List ℕ) : Type 0 where
   pub tried : Lines
-  pub which : (tried ≡ lines) ⊎ IsCompleted e lines tried
+  pub which : AreTried e lines wanted tried
   pub passes : AllowHints tried → ⊥
 
--- so do the log's lines, as they are or with those that are missing of what is expected for their caps
-pub record LogPassesLimits (y : Layout) (order : List Criterion) (log : List ℕ) : Type 0 where
+-- the log's lines have too many variables or words, where Refuted ones are wanted with those that are missing of what
+-- is expected for their caps
+pub record LogPassesLimits (y : Layout) (order : List Criterion) (claim : Claim) (log : List ℕ) : Type 0 where
   pub lines : Lines
   pub is_log : IsSpelledLog log lines
+  pub wanted : List ℕ
+  pub are_wanted : AreWanted (limit_of y.graph y.grid) lines order claim wanted
   pub cap : Criterion → ℕ
   pub caps_are : (c : Criterion) → cap c ≡ caps (limit_of y.graph y.grid) lines c
-  pub pass : LinesPassLimits (expectation y order cap) lines
+  pub pass : LinesPassLimits (expectation y order cap) lines wanted

@@ -81,7 +81,7 @@ fn kept_of(
     ensures kept { let e = expectation (layout g.now t.now grid.now) order.now (value_of caps.now) in
         IfOk result (λ r. MatchOption r (AreAccepted e lines.old → ⊥) (IsKeptOf e lines.old wanted.now)) }
     ensures limits { let e = expectation (layout g.now t.now grid.now) order.now (value_of caps.now) in
-        IsErrOf result TrimFault.Limits → LinesPassLimits e lines.old }
+        IsErrOf result TrimFault.Limits → LinesPassLimits e lines.old wanted.now }
 {
     if !fit_for(alloc, g, t, grid, order, caps, lines, wanted)? {
         return Ok(None);
@@ -92,8 +92,9 @@ fn kept_of(
 
 /// What is left of the text of a log, if that certifies the claim on the lawful drawings of a graph on a grid, in an
 /// order of criteria. That is the Refuted lines by which it does, and those Learnt lines on which they rest, with their
-/// hints. None where it doesn't certify the claim. `Limits` comes where its lines, with the missing Formula lines, have
-/// more variables or words than hints are found in.
+/// hints. None where it doesn't certify the claim. `Limits` comes where its lines have more variables or words than
+/// hints are found in: as they are where no Refuted line is wanted, else with the missing Formula lines. It may come
+/// for a log that doesn't derive too.
 pub fn trim_log(
     alloc: Global,
     g: &PortGraph,
@@ -109,7 +110,8 @@ pub fn trim_log(
     ensures left { let y = layout g.now t.now grid.now in
         IfOk result (λ r. MatchOption r (CertifiesWhole y order.now claim.now log.now → ⊥)
         (λ left. CertifiesWhole y order.now claim.now log.now × IsTrimmedLog y order.now claim.now log.now left)) }
-    ensures limits { IsErrOf result TrimFault.Limits → LogPassesLimits (layout g.now t.now grid.now) order.now log.now }
+    ensures limits { IsErrOf result TrimFault.Limits →
+        LogPassesLimits (layout g.now t.now grid.now) order.now claim.now log.now }
 {
     let greatest = greatest_values(g, grid);
     let caps = caps_in(alloc, log, &greatest)?;

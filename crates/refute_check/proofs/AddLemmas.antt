@@ -88,15 +88,15 @@ shorts_push (d ∷ ds) c l = ap (λ (rs : List Rest). shorts_in d l ++ rs) (shor
     ∙ sym (append_assoc (shorts_in d l) (shorts_from ds l) (shorts_in c l))
 
 -- what a list gains, by whether the clause has the literal and is short
-gained : (shorts : List Rest) (longer : List ℕ) (rest : Rest) (n : ℕ) (h s : Bool) →
-    cond h (cond s (entries (shorts ++ rest ∷ []) longer) (entries shorts (longer ++ n ∷ []))) (entries shorts longer) ≡ entries
-    (shorts ++ cond h (cond s (rest ∷ []) []) []) (longer ++ cond (cond s false h) (n ∷ []) [])
-gained shorts longer rest n true true = ap (entries (shorts ++ rest ∷ [])) (sym (append-nil longer))
-gained shorts longer rest n true false = ap (λ (rs : List Rest). entries rs (longer ++ n ∷ [])) (sym (append-nil shorts))
-gained shorts longer rest n false true = ap (λ (rs : List Rest). entries rs longer) (sym (append-nil shorts))
-    ∙ ap (entries (shorts ++ [])) (sym (append-nil longer))
-gained shorts longer rest n false false = ap (λ (rs : List Rest). entries rs longer) (sym (append-nil shorts))
-    ∙ ap (entries (shorts ++ [])) (sym (append-nil longer))
+gained : (shorts : List Rest) (counted : List ℕ) (rest : Rest) (n : ℕ) (h s : Bool) →
+    cond h (cond s (entries (shorts ++ rest ∷ []) counted) (entries shorts (counted ++ n ∷ []))) (entries shorts counted) ≡ entries
+    (shorts ++ cond h (cond s (rest ∷ []) []) []) (counted ++ cond (cond s false h) (n ∷ []) [])
+gained shorts counted rest n true true = ap (entries (shorts ++ rest ∷ [])) (sym (append-nil counted))
+gained shorts counted rest n true false = ap (λ (rs : List Rest). entries rs (counted ++ n ∷ [])) (sym (append-nil shorts))
+gained shorts counted rest n false true = ap (λ (rs : List Rest). entries rs counted) (sym (append-nil shorts))
+    ∙ ap (entries (shorts ++ [])) (sym (append-nil counted))
+gained shorts counted rest n false false = ap (λ (rs : List Rest). entries rs counted) (sym (append-nil shorts))
+    ∙ ap (entries (shorts ++ [])) (sym (append-nil counted))
 
 occurrences_push : (vars : ℕ) (clauses : Clauses) (c : List Literal) (old new : List Entries) → AreOccurrences vars clauses old →
     Lists c (length clauses) c old new → AreOccurrences vars (clauses ++ c ∷ []) new
@@ -139,8 +139,8 @@ same_count vars truth trail (k ∷ c) t =
 pub listed : (vars : ℕ) (clauses : Clauses) (c : List Literal) (n : ℕ) (old new : Tables) → AreSettled vars clauses old →
     Lists c (length clauses) c old.occurrences.items new.occurrences.items → n + false_count (marked old.truth.items) c ≡ length c →
     new.counts.items ≡ old.counts.items ++ n ∷ [] → new.truth.items ≡ old.truth.items → new.trail.items ≡ old.trail.items →
-    new.taken.items ≡ old.taken.items → IsListed vars (clauses ++ c ∷ []) c new
-listed vars clauses c n old new s lists count counts truth trail taken = record {
+    new.noted.items ≡ old.noted.items → IsListed vars (clauses ++ c ∷ []) c new
+listed vars clauses c n old new s lists count counts truth trail noted = record {
   among = Contains-push clauses c;
   occurrences = occurrences_push vars clauses c old.occurrences.items new.occurrences.items s.occurrences lists;
   counted =
@@ -165,7 +165,7 @@ listed vars clauses c n old new s lists count counts truth trail taken = record 
   quiet = rw trail (All-push (λ d. (d ≡ c) ⊎ IsQuiet (has (take (length old.trail.items) old.trail.items)) (has old.trail.items) d) clauses c
       (All-weaker (IsQuiet (has (take (length old.trail.items) old.trail.items)) (has old.trail.items))
       (λ d. (d ≡ c) ⊎ IsQuiet (has (take (length old.trail.items) old.trail.items)) (has old.trail.items) d) (λ d q. inr q) clauses s.quiet) (inl refl));
-  untaken = taken ∙ s.untaken;
+  unnoted = noted ∙ s.unnoted;
 }
 
 -- the clause that was added is looked at
@@ -181,7 +181,7 @@ settled_quiet vars clauses c t s q = record {
   reasoned = s.reasoned;
   quiet = all_of clauses c (IsQuiet (has (take (length t.trail.items) t.trail.items)) (has t.trail.items)) s.quiet
       (subst (λ (ls : List Literal). IsQuiet (has ls) (has t.trail.items) c) (sym (take_all (length t.trail.items) t.trail.items (omega arith))) q);
-  untaken = s.untaken;
+  unnoted = s.unnoted;
 }
 
 pub settled_falsified : (vars : ℕ) (clauses : Clauses) (c : List Literal) (t : Tables) → IsListed vars clauses c t → All (IsFalse (marked t.truth.items)) c →
@@ -289,8 +289,8 @@ two_empty (x ∷ xs) (suc i) = two_empty xs i
 
 pub var_added : (vars : ℕ) (clauses : Clauses) (old new : Tables) → AllThere vars clauses → AreSettled vars clauses old →
     new.occurrences.items ≡ old.occurrences.items ++ no_entries ∷ no_entries ∷ [] → new.truth.items ≡ old.truth.items ++ false ∷ false ∷ [] →
-    new.trail.items ≡ old.trail.items → new.counts.items ≡ old.counts.items → new.taken.items ≡ old.taken.items → AreSettled (vars + 1) clauses new
-var_added vars clauses old new there s occurrences truth trail counts taken = record {
+    new.trail.items ≡ old.trail.items → new.counts.items ≡ old.counts.items → new.noted.items ≡ old.noted.items → AreSettled (vars + 1) clauses new
+var_added vars clauses old new there s occurrences truth trail counts noted = record {
   occurrences = rw occurrences (record {
     size = let o = s.occurrences in omega (arith, length-append old.occurrences.items (no_entries ∷ no_entries ∷ []), o.size);
     each = λ l within. two_empty old.occurrences.items (word_of l) ∙ by_place l (low_or_high (word_of l) (length old.occurrences.items));
@@ -309,7 +309,7 @@ var_added vars clauses old new there s occurrences truth trail counts taken = re
   within = rw trail s.within;
   reasoned = rw trail s.reasoned;
   quiet = rw trail s.quiet;
-  untaken = taken ∙ s.untaken;
+  unnoted = noted ∙ s.unnoted;
 }
   where
     table : IsTrail vars old.truth.items old.trail.items
@@ -327,8 +327,8 @@ var_added vars clauses old new there s occurrences truth trail counts taken = re
 pub settled_unit : (vars : ℕ) (clauses : Clauses) (c : List Literal) (l : Literal) (old new : Tables) (front : ℕ) → IsListed vars clauses c old →
     IsUnsetUnit (has old.trail.items) c l → new.occurrences.items ≡ old.occurrences.items →
     IsCountedTo vars clauses new.truth.items new.trail.items new.counts.items front → Grows clauses (old.trail.items ++ l ∷ []) new.trail.items →
-    front ≡ length new.trail.items → AreQuiet clauses new.trail.items (length new.trail.items) → new.taken.items ≡ [] → AreSettled vars clauses new
-settled_unit vars clauses c l old new front s u same counted g all quiet untaken =
+    front ≡ length new.trail.items → AreQuiet clauses new.trail.items (length new.trail.items) → new.noted.items ≡ [] → AreSettled vars clauses new
+settled_unit vars clauses c l old new front s u same counted g all quiet unnoted =
     let whole = grows_more clauses old.trail.items (old.trail.items ++ l ∷ []) new.trail.items (grows_unit clauses old.trail.items c l s.among u.unit) g in
     record {
       occurrences = rw same s.occurrences;
@@ -336,7 +336,7 @@ settled_unit vars clauses c l old new front s u same counted g all quiet untaken
       within = grown_within clauses old.trail.items new.trail.items s.within whole;
       reasoned = grown_reasoned clauses old.trail.items new.trail.items s.reasoned whole;
       quiet = quiet;
-      untaken = untaken;
+      unnoted = unnoted;
     }
 
 pub falsified_unit : (vars : ℕ) (clauses : Clauses) (c : List Literal) (l : Literal) (old : Tables) (new : List Literal) → IsListed vars clauses c old →

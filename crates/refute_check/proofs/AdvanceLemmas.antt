@@ -11,7 +11,7 @@ use Rattle.cnf_core.proofs.PropagationLemmas.{negate-negate, has_from_contains}
 use Rattle.cnf_core.proofs.TrailLemmas.{there_get, has_front, same_literal_or, word_below, front_includes, front_lacks, next_front}
 use Rattle.cnf_core.specs.Trail.{IsTrail, Grows}
 use Rattle.refute_check.specs.Entries.{Entries, entries, no_entries, is_short, rest_of, shorts_from, places_from}
-use Rattle.refute_check.specs.Tables.{CountedUp, AreCounts, AreOccurrences, IsCountedTo, IsQuiet, AreQuiet, IsQuietNow, AreQuietNow, IsRestQuiet, TakesMore}
+use Rattle.refute_check.specs.Tables.{CountedUp, AreCounts, AreOccurrences, IsCountedTo, IsQuiet, AreQuiet, IsQuietNow, AreQuietNow, IsRestQuiet, NotesMore}
 use Rattle.cnf_core.proofs.GrowthLemmas.{grows_none, grows_more}
 use Rattle.refute_check.proofs.GrowthLemmas.{quiet_more}
 use Rattle.refute_check.proofs.FalseCountLemmas.{counts_down, named_by, one_taken}
@@ -136,28 +136,28 @@ pub record Propagated (vars : ℕ) (clauses : Clauses) (old : List Literal) (fir
   pub counted : IsCountedTo vars clauses truth new counts front
   pub quiet : AreQuiet clauses new front
   pub grows : Grows clauses old new
-  pub taken : TakesMore clauses start first more counts
+  pub noted : NotesMore clauses start first more counts
   pub on : from ≤ front
 
-pub propagated_none : (vars : ℕ) (clauses : Clauses) (trail : List Literal) (truth : List Bool) (counts taken : List ℕ) (from : ℕ) →
+pub propagated_none : (vars : ℕ) (clauses : Clauses) (trail : List Literal) (truth : List Bool) (counts noted : List ℕ) (from : ℕ) →
     IsCountedTo vars clauses truth trail counts from → AreQuiet clauses trail from →
-    Propagated vars clauses trail counts taken truth trail counts taken from from
-propagated_none vars clauses trail truth counts taken from counted quiet = record {
+    Propagated vars clauses trail counts noted truth trail counts noted from from
+propagated_none vars clauses trail truth counts noted from counted quiet = record {
   counted = counted;
   quiet = quiet;
   grows = grows_none clauses trail;
-  taken = λ _ t. t;
+  noted = λ _ t. t;
   on = omega arith;
 }
 
-pub propagated_more : (vars : ℕ) (clauses : Clauses) (old mid new : List Literal) (truth then : List Bool) (first taken counts more now most : List ℕ)
-    (from front : ℕ) → Propagated vars clauses old first taken truth mid counts more from front → IsCountedTo vars clauses then new now (front + 1) →
-    AreQuiet clauses new (front + 1) → Grows clauses mid new → TakesMore clauses more counts most now →
-    Propagated vars clauses old first taken then new now most from (front + 1)
-propagated_more vars clauses old mid new truth then first taken counts more now most from front p counted quiet g t = record {
+pub propagated_more : (vars : ℕ) (clauses : Clauses) (old mid new : List Literal) (truth then : List Bool) (first noted counts more now most : List ℕ)
+    (from front : ℕ) → Propagated vars clauses old first noted truth mid counts more from front → IsCountedTo vars clauses then new now (front + 1) →
+    AreQuiet clauses new (front + 1) → Grows clauses mid new → NotesMore clauses more counts most now →
+    Propagated vars clauses old first noted then new now most from (front + 1)
+propagated_more vars clauses old mid new truth then first noted counts more now most from front p counted quiet g t = record {
   counted = counted;
   quiet = quiet;
   grows = grows_more clauses old mid new p.grows g;
-  taken = λ before h. t before (p.taken before h);
+  noted = λ before h. t before (p.noted before h);
   on = let le = p.on in omega arith;
 }

@@ -252,6 +252,10 @@ answer_refused old new line (Err NotImplied) a = λ _. a.1
 answer_refused old new line (Err NotNew) a = λ _. a.1
 answer_refused old new line (Err Memory) a = λ ne. absurd (ne refl)
 
+pub answer_stays : (old new : CheckedFacts) (line : LogLine) (r : Result Unit LineFault) → IsAnswer old new line r → r ≡ Err Memory →
+    new.facts.refuted ≡ old.facts.refuted
+answer_stays old new line r a e = subst (λ (x : Result Unit LineFault). IsAnswer old new line x) e a
+
 -- an accepted Learnt line has all literals of no clause that was there
 finite_line : (clauses : Clauses) (line : LogLine) → SaysMore clauses line → IncludesNone clauses line
 finite_line clauses (Formula c) h = tt

@@ -15,7 +15,7 @@ use Rattle.plan_core.proofs.TruthFacts.{same_when}
 use Rattle.cnf_core.specs.Trail.{weight}
 use Rattle.cnf_core.specs.Times.{times}
 use Rattle.refute_check.specs.Entries.{is_short, is_counted, places_from}
-use Rattle.refute_check.specs.Tables.{CountedUp, IsLong, false_count, AreCounts}
+use Rattle.refute_check.specs.Tables.{CountedUp, IsCounted, false_count, AreCounts}
 use Rattle.refute_check.proofs.CountLemmas.{times_at}
 
 abbrev one_at : ℕ → ℕ → ℕ
@@ -185,8 +185,9 @@ all_named clauses l = All-from_get_or (IsNamed clauses l) (places_from 0 clauses
     let within : n < length clauses = places_there clauses l i 0 low in
     named_at clauses l n within (named_long clauses l n within (omega (arith, times_at (places_from 0 clauses l) i low))))
 
-pub places_long : (clauses : Clauses) (l : Literal) → All (IsLong clauses) (places_from 0 clauses l)
-places_long clauses l = All-weaker (IsNamed clauses l) (IsLong clauses) (λ n h. record { within = h.within; long = h.long }) (places_from 0 clauses l)
+pub places_counted : (clauses : Clauses) (l : Literal) → All (IsCounted clauses) (places_from 0 clauses l)
+places_counted clauses l =
+    All-weaker (IsNamed clauses l) (IsCounted clauses) (λ n h. record { within = h.within; not_short = h.long }) (places_from 0 clauses l)
     (all_named clauses l)
 
 -- what counting down needs and leaves

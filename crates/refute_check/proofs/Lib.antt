@@ -2,7 +2,7 @@ pub mod CountLemmas
 pub mod ScanLemmas
 pub mod GrowthLemmas
 pub mod FalseCountLemmas
-pub mod TakenLemmas
+pub mod NotedLemmas
 pub mod ShortLemmas
 pub mod AdvanceLemmas
 pub mod UndoLemmas

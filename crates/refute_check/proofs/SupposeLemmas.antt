@@ -9,12 +9,12 @@ use Rattle.cnf_core.specs.Propagation.{IsIn, Includes, IsUnit, IsClosed, Closure
 use Rattle.cnf_core.proofs.PropagationLemmas.{negate-negate, has_from_contains, closure_start, closure_again, closure_any}
 use Rattle.refute_check.specs.declared.tables.Tables.{Tables}
 use Rattle.cnf_core.specs.Trail.{IsTrail, Grows}
-use Rattle.refute_check.specs.Tables.{IsCountedTo, AreCounts, AreQuiet, IsQuiet, Assumes, HasTrueLiteral, CountedUp, TakesMore}
+use Rattle.refute_check.specs.Tables.{IsCountedTo, AreCounts, AreQuiet, IsQuiet, Assumes, HasTrueLiteral, CountedUp, NotesMore}
 use Rattle.refute_check.specs.Settled.{AreSettled}
 use Rattle.refute_check.proofs.ScanLemmas.{IsFalse}
 use Rattle.refute_check.proofs.GrowthLemmas.{quiet_more}
 use Rattle.refute_check.proofs.AdvanceLemmas.{same_front}
-use Rattle.refute_check.proofs.TakenLemmas.{taken_before, given_back}
+use Rattle.refute_check.proofs.NotedLemmas.{noted_before, given_back}
 
 -- with the assumptions, and before propagation
 pub assumed_counted : (vars : ℕ) (clauses : Clauses) (truth then : List Bool) (old mid : List Literal) (counts : List ℕ) (lits : List Literal) →
@@ -94,16 +94,16 @@ pub written_back : (n : ℕ) (xs : List Bool) (ys : List Bool) → length xs ≡
 written_back n xs ys e = take_at xs ys n e
 
 -- the tables after assumptions were taken back
-pub settled_again : (vars : ℕ) (clauses : Clauses) (old new : Tables) (mid : List Literal) (counts taken : List ℕ) (level : ℕ) →
+pub settled_again : (vars : ℕ) (clauses : Clauses) (old new : Tables) (mid : List Literal) (counts noted : List ℕ) (level : ℕ) →
     level ≡ length old.trail.items → AreSettled vars clauses old → new.occurrences.items ≡ old.occurrences.items →
-    IsTrail vars new.truth.items new.trail.items → TakesMore clauses old.taken.items old.counts.items taken counts → length counts ≡ length clauses →
-    CountedUp taken counts new.counts.items → length new.counts.items ≡ length counts → new.taken.items ≡ [] → new.trail.items ≡ take level mid →
+    IsTrail vars new.truth.items new.trail.items → NotesMore clauses old.noted.items old.counts.items noted counts → length counts ≡ length clauses →
+    CountedUp noted counts new.counts.items → length new.counts.items ≡ length counts → new.noted.items ≡ [] → new.trail.items ≡ take level mid →
     take (length old.trail.items) mid ≡ old.trail.items → AreSettled vars clauses new
-settled_again vars clauses old new mid counts taken level e s same table more size up long untaken rest front =
+settled_again vars clauses old new mid counts noted level e s same table more size up long unnoted rest front =
     let is : old.trail.items ≡ new.trail.items = sym (rest ∙ ap (λ n. take n mid) e ∙ front) in
     let k = s.counted in
-    let right = given_back clauses (has (take (length old.trail.items) old.trail.items)) taken counts old.counts.items new.counts.items
-    (taken_before clauses old.taken.items old.counts.items taken counts s.untaken more) k.right up long size in
+    let right = given_back clauses (has (take (length old.trail.items) old.trail.items)) noted counts old.counts.items new.counts.items
+    (noted_before clauses old.noted.items old.counts.items noted counts s.unnoted more) k.right up long size in
     record {
       occurrences = rw same s.occurrences;
       counted = record {
@@ -114,5 +114,5 @@ settled_again vars clauses old new mid counts taken level e s same table more si
       within = subst (λ (ls : List Literal). (l : Literal) → IsIn (has ls) l → Closure clauses nothing l) is s.within;
       reasoned = subst (λ (ls : List Literal). (l : Literal) → IsIn (has ls) l → HasReason clauses (has ls) l) is s.reasoned;
       quiet = subst (λ (ls : List Literal). AreQuiet clauses ls (length ls)) is s.quiet;
-      untaken = untaken;
+      unnoted = unnoted;
     }

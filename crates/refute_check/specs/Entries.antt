@@ -6,13 +6,13 @@ use Rattle.cnf_core.specs.Lit.{Literal, same_literal, has}
 use Rattle.cnf_core.specs.Clause.{Clauses}
 use Rattle.refute_check.specs.declared.places.Rest.{Rest}
 
--- the lists of one literal: of a clause of two or three literals the others, and the numbers of the longer ones
+-- the lists of one literal: of a clause of two or three literals the others, and the numbers of those that are counted
 pub record Entries : Type 0 where
   pub shorts : List Rest
-  pub longer : List ℕ
+  pub counted : List ℕ
 
 abbrev pub entries : List Rest → List ℕ → Entries
-entries shorts longer = record { shorts = shorts; longer = longer }
+entries shorts counted = record { shorts = shorts; counted = counted }
 
 abbrev pub no_entries : Entries
 no_entries = entries [] []
@@ -69,5 +69,5 @@ places_from n (c ∷ cs) l = cond (is_counted c l) (n ∷ places_from (n + 1) cs
 
 -- the lists of l with a clause of this number that has it
 abbrev pub with_entry : ℕ → List Literal → Literal → Entries → Entries
-with_entry n c l old = cond (is_short c) (entries (old.shorts ++ rest_of c l ∷ []) old.longer)
-    (entries old.shorts (old.longer ++ n ∷ []))
+with_entry n c l old = cond (is_short c) (entries (old.shorts ++ rest_of c l ∷ []) old.counted)
+    (entries old.shorts (old.counted ++ n ∷ []))

@@ -91,7 +91,7 @@ pub record IsOld (kept : CheckedFacts) (line : LogLine) : Type 0 where
   pub implied : IsImplied kept.facts.clauses line
   pub known : IsKnown kept.facts.clauses line
 
--- the one answer that is due, and what it leaves; after want of memory nothing is said
+-- the one answer that is due, and what it leaves; after want of memory that is the Refuted lines
 abbrev pub IsAnswer : CheckedFacts → CheckedFacts → LogLine → Result Unit LineFault → Type 0
 IsAnswer old new line (Ok u) = Accepts old new line
 IsAnswer old new line (Err NewVar) = NamesNew old.facts line × (new ≡ old)
@@ -99,7 +99,7 @@ IsAnswer old new line (Err WrongQuery) = AnswersWrongly old line × (new ≡ old
 IsAnswer old new line (Err Room) = PassesRoom old line × (new ≡ old)
 IsAnswer old new line (Err NotImplied) = IsUnproved old line × (new ≡ old)
 IsAnswer old new line (Err NotNew) = IsOld old line × (new ≡ old)
-IsAnswer old new line (Err Memory) = ⊤
+IsAnswer old new line (Err Memory) = new.facts.refuted ≡ old.facts.refuted
 
 -- the same with one more clause, of the variables up to vars
 abbrev pub with_clause : CheckedFacts → List Literal → ℕ → CheckedFacts

@@ -15,7 +15,7 @@ pub record AreSettled (vars : ℕ) (clauses : Clauses) (t : Tables) : Type 0 whe
   pub within : (l : Literal) → IsIn (has t.trail.items) l → Closure clauses nothing l
   pub reasoned : (l : Literal) → IsIn (has t.trail.items) l → HasReason clauses (has t.trail.items) l
   pub quiet : AreQuiet clauses t.trail.items (length t.trail.items)
-  pub untaken : t.taken.items ≡ []
+  pub unnoted : t.noted.items ≡ []
 
 -- the tables know the clause, and it alone wasn't looked at
 pub record IsListed (vars : ℕ) (clauses : Clauses) (c : List Literal) (t : Tables) : Type 0 where
@@ -26,4 +26,4 @@ pub record IsListed (vars : ℕ) (clauses : Clauses) (c : List Literal) (t : Tab
   pub reasoned : (l : Literal) → IsIn (has t.trail.items) l → HasReason clauses (has t.trail.items) l
   pub quiet : All (λ d. (d ≡ c) ⊎ IsQuiet (has (take (length t.trail.items) t.trail.items)) (has t.trail.items) d)
       clauses
-  pub untaken : t.taken.items ≡ []
+  pub unnoted : t.noted.items ≡ []

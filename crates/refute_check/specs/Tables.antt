@@ -16,20 +16,20 @@ use Rattle.refute_check.specs.Entries.{is_short, shorts_from, places_from}
 abbrev pub CountedUp : List ℕ → List ℕ → List ℕ → Type 0
 CountedUp ns old new = (n : ℕ) → slice_index new n ≡ slice_index old n + times ns n
 
--- a clause with this number is counted
-pub record IsLong (clauses : Clauses) (n : ℕ) : Type 0 where
+-- the clause with this number is counted: it has neither two nor three literals
+pub record IsCounted (clauses : Clauses) (n : ℕ) : Type 0 where
   pub within : n < length clauses
-  pub long : is_short (slice_index_or clauses n []) ≡ false
+  pub not_short : is_short (slice_index_or clauses n []) ≡ false
 
--- from the counts of before one was taken for each time that a number is listed, and these are such clauses' numbers
-pub record AreTaken (clauses : Clauses) (taken counts before : List ℕ) : Type 0 where
-  pub up : CountedUp taken counts before
-  pub long : All (IsLong clauses) taken
+-- from the counts of before one was taken for each time that a number is noted, and the numbers are of counted clauses
+pub record AreNoted (clauses : Clauses) (noted counts before : List ℕ) : Type 0 where
+  pub up : CountedUp noted counts before
+  pub counted : All (IsCounted clauses) noted
 
--- the second list has what was taken from any counts, where the first one has
-abbrev pub TakesMore : Clauses → List ℕ → List ℕ → List ℕ → List ℕ → Type 0
-TakesMore clauses taken counts more now = (before : List ℕ) → AreTaken clauses taken counts before
-    → AreTaken clauses more now before
+-- whatever counts the first list, given back, leads to from the old counts, the second leads to from the new ones
+abbrev pub NotesMore : Clauses → List ℕ → List ℕ → List ℕ → List ℕ → Type 0
+NotesMore clauses noted counts more now = (before : List ℕ) → AreNoted clauses noted counts before
+    → AreNoted clauses more now before
 
 -- how many literals of the clause are false in the set
 abbrev pub false_count : LiteralSet → List Literal → ℕ
@@ -70,13 +70,13 @@ pub record IsCountedTo (vars : ℕ) (clauses : Clauses) (truth : List Bool) (tra
 abbrev pub AreQuiet : Clauses → List Literal → ℕ → Type 0
 AreQuiet clauses trail front = All (IsQuiet (has (take front trail)) (has trail)) clauses
 
--- whatever part of the old trail is counted, the clause is quiet there, where no more than so many of its literals
--- aren't false
+-- whatever part of the old trail is counted, the clause is quiet there, where at least so many of its literals aren't
+-- false: if three of four are false there and the number is 1, the fourth is on the new trail
 abbrev pub IsQuietNow : List Literal → ℕ → List Literal → List Literal → Type 0
 IsQuietNow clause count old new = (done : LiteralSet) → Includes (has old) done → count + false_count done clause
     ≤ length clause → IsQuiet done (has new) clause
 
--- the counts are those from which one was taken then
+-- so are the clauses of these numbers, each by its count of before less the one that is taken now
 abbrev pub AreQuietNow : Clauses → List ℕ → List ℕ → List Literal → List Literal → Type 0
 AreQuietNow clauses numbers counts old new = All (λ n. IsQuietNow (slice_index_or clauses n [])
     (slice_index counts n - 1) old new) numbers

@@ -7,7 +7,7 @@ ghost use Rattle.cnf_core.specs.Propagation.{Falsifies, Falsified, nothing};
 ghost use Rattle.cnf_core.specs.Trail.{IsTrail, marked, Grows};
 ghost use Rattle.refute_check.specs.Entries.{is_short, other_of, rest_of, with_entry};
 ghost use Rattle.refute_check.specs.Tables.{AreOccurrences, false_count, Lists, IsUnsetUnit, IsCountedTo, AreQuiet};
-ghost use Rattle.refute_check.specs.Tables.{TakesMore};
+ghost use Rattle.refute_check.specs.Tables.{NotesMore};
 ghost use Rattle.refute_check.specs.Settled.{AreSettled, IsListed};
 
 use crate::places::{Places, Rest};
@@ -79,7 +79,7 @@ fn list_at(places: &mut Places, lits: &[Lit], l: Lit, number: u32) -> Result<(),
     if is_short(lits) {
         places.push_short(rest_of(lits, l))
     } else {
-        places.push_longer(number)
+        places.push_counted(number)
     }
 }
 
@@ -149,7 +149,7 @@ impl Tables {
         ensures falsified { IfOk result (λ found. found ≡ true → Falsifies formula.now.clauses nothing) }
     {
         let reached = self.mark_and_propagate(formula, l)?;
-        self.taken.clear();
+        self.noted.clear();
         Ok(reached.0)
     }
 
@@ -168,8 +168,8 @@ impl Tables {
         requires not_true { marked self.old.truth.items l ≡ false }
         requires not_false { marked self.old.truth.items (negate l) ≡ false }
         ensures same { OnOk result (self.new.occurrences.items ≡ self.old.occurrences.items) }
-        ensures taken { OnOk result (TakesMore formula.now.clauses self.old.taken.items self.old.counts.items
-            self.new.taken.items self.new.counts.items) }
+        ensures noted { OnOk result (NotesMore formula.now.clauses self.old.noted.items self.old.counts.items
+            self.new.noted.items self.new.counts.items) }
         ensures on { IfOk result (λ r. length self.old.trail.items ≤ r.1) }
         ensures counted { IfOk result (λ r. IsCountedTo formula.now.vars formula.now.clauses self.new.truth.items
             self.new.trail.items self.new.counts.items r.1) }
@@ -185,7 +185,7 @@ impl Tables {
             formula,
             &self.occurrences,
             &mut self.counts,
-            &mut self.taken,
+            &mut self.noted,
             &mut self.truth,
             &mut self.trail,
             level,

@@ -14,16 +14,16 @@ fn lists_at<'a>(occurrences: &'a [Places], trail: &[Lit], at: usize) -> Option<&
 /// Reads how long the lists at a place are.
 fn read_lengths(occurrences: &[Places], trail: &[Lit], at: usize) -> usize {
     match lists_at(occurrences, trail, at) {
-        Some(lists) => lists.shorts().len() ^ lists.longer().len(),
+        Some(lists) => lists.shorts().len() ^ lists.counted().len(),
         None => 0,
     }
 }
 
-/// Reads how the list of longer clauses begins and ends.
-fn read_longer(lists: &Places) -> usize {
-    let longer = lists.longer();
-    match longer.first() {
-        Some(number) => match longer.last() {
+/// Reads how the list of counted clauses begins and ends.
+fn read_counted(lists: &Places) -> usize {
+    let counted = lists.counted();
+    match counted.first() {
+        Some(number) => match counted.last() {
             Some(other) => (*number ^ *other) as usize,
             None => 0,
         },
@@ -46,7 +46,7 @@ fn read_shorts(lists: &Places) -> usize {
 /// Reads how the lists at a place begin and end.
 fn read_lists(occurrences: &[Places], trail: &[Lit], at: usize) -> usize {
     match lists_at(occurrences, trail, at) {
-        Some(lists) => read_shorts(lists) ^ read_longer(lists),
+        Some(lists) => read_shorts(lists) ^ read_counted(lists),
         None => 0,
     }
 }

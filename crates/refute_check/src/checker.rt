@@ -73,6 +73,7 @@ impl Checker {
         requires there { AreThere self.old.facts.greatest lits.now }
         requires distinct { AreDistinct lits.now }
         ensures same { OnOk result (self.new ≡ self.old) }
+        ensures refuted { self.new.facts.refuted ≡ self.old.facts.refuted }
         ensures yes { IfOk result (λ b. b ≡ true → Rup self.old.facts.clauses lits.now) }
         ensures no { IfOk result (λ b. b ≡ false → Rup self.old.facts.clauses lits.now → ⊥) }
     {
@@ -94,6 +95,7 @@ impl Checker {
         requires there { AreThere self.old.facts.greatest others.now }
         requires distinct { AreDistinct (first ∷ others.now) }
         ensures same { OnOk result (self.new ≡ self.old) }
+        ensures refuted { self.new.facts.refuted ≡ self.old.facts.refuted }
         ensures novelty { IfOk result (IsNovelty self.old.facts.clauses first others.now) }
         ensures greatest { IfOk result (λ n. n ≡ Novelty.New → self.old.facts.greatest ≤ greatest_var
             self.old.facts.clauses) }
@@ -128,7 +130,8 @@ impl Checker {
         requires limit { vars ≤ VARS }
         requires small { length lits.now < 2 ^ 32 }
         requires named { vars ≤ max self.old.facts.greatest (greatest_in lits.now) }
-        ensures { OnOk result (self.new ≡ with_clause self.old lits.now vars) }
+        ensures kept { OnOk result (self.new ≡ with_clause self.old lits.now vars) }
+        ensures refuted { self.new.facts.refuted ≡ self.old.facts.refuted }
     {
         let standing = self.standing;
         self.standing = Standing::Lost;
@@ -149,6 +152,7 @@ impl Checker {
         requires there { AreThere self.old.facts.greatest lits.now }
         requires distinct { AreDistinct lits.now }
         ensures same { OnOk result (self.new ≡ self.old) }
+        ensures refuted { self.new.facts.refuted ≡ self.old.facts.refuted }
         ensures novelty { IfOk result (HasNovelty self.old.facts.clauses lits.now) }
     {
         let first = lits[0];
@@ -248,7 +252,7 @@ impl Checker {
 
     /// Accepts the line where it may come after the lines that were accepted before and there is room for it. A refused
     /// line isn't kept. Where several causes hold, it answers the first in the order of `LineFault`. After `Memory` it
-    /// answers so to every line.
+    /// answers so to every line, and has the Refuted lines of before.
     pub fn feed(&mut self, line: &LogLine) -> Result<(), LineFault>
         requires { IsWellFormed line.now }
         ensures ok { OnOk result (Accepts self.old self.new line.now) }
@@ -260,6 +264,7 @@ impl Checker {
         ensures refused { IfErr result (λ e. (e ≡ LineFault.Memory → ⊥) → self.new ≡ self.old) }
         ensures finite { OnOk result (IncludesNone self.old.facts.clauses line.now) }
         ensures loses { IsErrOf result LineFault.Memory → self.new.lost ≡ true }
+        ensures stays { IsErrOf result LineFault.Memory → self.new.facts.refuted ≡ self.old.facts.refuted }
         ensures lost { self.old.lost ≡ true → IsErrOf result LineFault.Memory }
     {
         if let Standing::Lost = self.standing {

@@ -3,10 +3,10 @@
 //! `Checker` takes lines one by one and accepts exactly those that may come after the accepted ones: each follows by
 //! unit propagation, and a learnt one is new. `specs/Log` of `refute_log` says which lines may come and which logs
 //! derive, `specs/Kept` what a checker keeps and why it refuses a line. It propagates over lists of clauses by literal:
-//! clauses of two and three literals are looked at whole, in longer ones it counts the literals that aren't false
-//! (`specs/Entries`, `specs/Tables`, `specs/Settled`, `specs/Standing`). It shares definitions and laws with the
-//! solver, and no code. `are_timely` asks what needs no propagation (`specs/Timely`): which variables lines name, which
-//! query they answer.
+//! clauses of two and three literals are looked at whole, in the others it counts the literals that aren't false
+//! (`specs/Entries`, `specs/Tables`, `specs/Settled`, `specs/Standing`). Numbers of clauses count from 0 here, in
+//! `hint_log` from 1. It shares definitions and laws with the solver, and no code. `are_timely` asks what needs no
+//! propagation (`specs/Timely`): which variables lines name, which query they answer.
 //!
 //! `none_certified` asks an accepted log for a Refuted line without literals. `first_lacking` (`lacking`) asks it for
 //! the first place of an order whose value it doesn't certify, by the bounds of its Bound lines (`ToldBound::of`).

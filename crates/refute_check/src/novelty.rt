@@ -4,7 +4,7 @@ ghost use Rattle.cnf_core.specs.Lit.{has, negate};
 ghost use Rattle.cnf_core.specs.Clause.{AreThere, AreDistinct, IsThere};
 ghost use Rattle.cnf_core.specs.Propagation.{negations, IsClosure};
 ghost use Rattle.cnf_core.specs.Trail.{marked};
-ghost use Rattle.refute_check.specs.Tables.{IsCountedTo, AreOccurrences, AreQuiet, AreExplained, TakesMore};
+ghost use Rattle.refute_check.specs.Tables.{IsCountedTo, AreOccurrences, AreQuiet, AreExplained, NotesMore};
 ghost use Rattle.refute_check.specs.Settled.{AreSettled};
 ghost use Rattle.refute_check.specs.Novelty.{IsNovelty};
 
@@ -43,8 +43,8 @@ impl Tables {
         requires not_false { marked self.old.truth.items (negate first) ≡ false }
         ensures counted { IfOk result (λ r. IsCountedTo formula.now.vars formula.now.clauses self.new.truth.items
             self.new.trail.items self.new.counts.items r.1) }
-        ensures taken { OnOk result (TakesMore formula.now.clauses self.old.taken.items self.old.counts.items
-            self.new.taken.items self.new.counts.items) }
+        ensures noted { OnOk result (NotesMore formula.now.clauses self.old.noted.items self.old.counts.items
+            self.new.noted.items self.new.counts.items) }
         ensures on { IfOk result (λ r. length self.old.trail.items ≤ r.1) }
         ensures front { OnOk result (take (length self.old.trail.items) self.new.trail.items ≡ self.old.trail.items) }
         ensures same { OnOk result (self.new.occurrences.items ≡ self.old.occurrences.items) }
@@ -71,8 +71,8 @@ impl Tables {
         requires distinct { AreDistinct (first ∷ others.now) }
         ensures counted { IfOk result (λ r. IsCountedTo formula.now.vars formula.now.clauses self.new.truth.items
             self.new.trail.items self.new.counts.items r.1) }
-        ensures taken { OnOk result (TakesMore formula.now.clauses self.old.taken.items self.old.counts.items
-            self.new.taken.items self.new.counts.items) }
+        ensures noted { OnOk result (NotesMore formula.now.clauses self.old.noted.items self.old.counts.items
+            self.new.noted.items self.new.counts.items) }
         ensures on { IfOk result (λ r. length self.old.trail.items ≤ r.1) }
         ensures front { OnOk result (take (length self.old.trail.items) self.new.trail.items ≡ self.old.trail.items) }
         ensures same { OnOk result (self.new.occurrences.items ≡ self.old.occurrences.items) }

@@ -15,11 +15,11 @@ pub(crate) struct Rest {
 }
 
 /// The clauses that have one literal, in the order in which they came: those of two and of three
-/// literals whole, of the longer ones the numbers.
+/// literals whole, of the others, which are counted, the numbers.
 #[derive(Drop)]
 pub(crate) struct Places {
     shorts: Vec<Rest>,
-    longer: Vec<u32>,
+    counted: Vec<u32>,
 }
 
 impl Model for Places {
@@ -27,7 +27,7 @@ impl Model for Places {
 
     ghost Value = { Entries };
 
-    ghost view = { λ p. entries p.shorts.items p.longer.items };
+    ghost view = { λ p. entries p.shorts.items p.counted.items };
 }
 
 impl Places {
@@ -37,23 +37,23 @@ impl Places {
     {
         Places {
             shorts: Vec::new(alloc),
-            longer: Vec::new(alloc),
+            counted: Vec::new(alloc),
         }
     }
 
     /// One more clause of two or three literals has it.
     pub(crate) fn push_short(&mut self, rest: Rest) -> Result<(), OutOfMemory>
-        ensures { OnOk result (self.new ≡ entries (self.old.shorts ++ rest ∷ []) self.old.longer) }
+        ensures { OnOk result (self.new ≡ entries (self.old.shorts ++ rest ∷ []) self.old.counted) }
     {
         self.shorts.push(rest)?;
         Ok(())
     }
 
-    /// One more of the longer clauses has it.
-    pub(crate) fn push_longer(&mut self, number: u32) -> Result<(), OutOfMemory>
-        ensures { OnOk result (self.new ≡ entries self.old.shorts (self.old.longer ++ number ∷ [])) }
+    /// One more of the counted clauses has it, that of this number.
+    pub(crate) fn push_counted(&mut self, number: u32) -> Result<(), OutOfMemory>
+        ensures { OnOk result (self.new ≡ entries self.old.shorts (self.old.counted ++ number ∷ [])) }
     {
-        self.longer.push(number)?;
+        self.counted.push(number)?;
         Ok(())
     }
 
@@ -64,10 +64,10 @@ impl Places {
         &self.shorts
     }
 
-    /// The numbers of all longer ones.
-    pub(crate) fn longer(&self) -> &[u32]
-        ensures { result.now ≡ self.now.longer }
+    /// The numbers of all counted ones.
+    pub(crate) fn counted(&self) -> &[u32]
+        ensures { result.now ≡ self.now.counted }
     {
-        &self.longer
+        &self.counted
     }
 }

@@ -1,9 +1,10 @@
-// Unit propagation by counts of the literals that aren't false.
+// Unit propagation. Clauses of two and of three literals are looked at whole. The others are counted, those of one
+// literal too: a count is of the literals that aren't false yet.
 ghost use Rattle.std.specs.Prelude.{◌≡◌, ◌≤◌, ◌<◌, ◌+◌, ◌*◌, true, false, length, All, OnOk, IfOk, slice_index, take};
 ghost use Rattle.cnf_core.specs.Lit.{has};
 ghost use Rattle.cnf_core.specs.Propagation.{Falsified};
 ghost use Rattle.cnf_core.specs.Trail.{IsTrail, Grows};
-ghost use Rattle.refute_check.specs.Tables.{IsCountedTo, AreOccurrences, AreQuiet, TakesMore};
+ghost use Rattle.refute_check.specs.Tables.{IsCountedTo, AreOccurrences, AreQuiet, NotesMore};
 
 use crate::ahead::read_behind;
 use crate::looks::{count_each, look_beside_each};
@@ -11,14 +12,14 @@ use crate::places::Places;
 use cnf_core::{Formula, Lit};
 use plan_core::OutOfMemory;
 
-/// Looks at the clauses in which the trail's literal at `front` is false, the short ones first. Counts it in the longer
-/// ones, unless all literals of a short one are false, and adds their numbers to `taken`. The answer is whether all
+/// Looks at the clauses in which the trail's literal at `front` is false, the short ones first. Unless all literals of
+/// a short one are false, counts it in the counted ones, and adds their numbers to `noted`. The answer is whether all
 /// literals of some clause are false, and how far the trail is counted then.
 fn advance(
     formula: &Formula,
     occurrences: &[Places],
     counts: &mut [u32],
-    taken: &mut Vec<u32>,
+    noted: &mut Vec<u32>,
     truth: &mut [bool],
     trail: &mut Vec<Lit>,
     front: usize,
@@ -29,7 +30,7 @@ fn advance(
     requires there { front < length trail.old.items }
     ensures counted { IfOk result (λ r. IsCountedTo formula.now.vars formula.now.clauses truth.new trail.new.items
         counts.new r.1) }
-    ensures taken { OnOk result (TakesMore formula.now.clauses taken.old.items counts.old taken.new.items counts.new) }
+    ensures noted { OnOk result (NotesMore formula.now.clauses noted.old.items counts.old noted.new.items counts.new) }
     ensures on { IfOk result (λ r. front ≤ r.1) }
     ensures grows { OnOk result (Grows formula.now.clauses trail.old.items trail.new.items) }
     ensures falsified { IfOk result (λ r. r.0 ≡ true → Falsified formula.now.clauses (has trail.new.items)) }
@@ -42,20 +43,20 @@ fn advance(
     if look_beside_each(formula, l, places.shorts(), truth, trail)? {
         return Ok((true, front));
     }
-    let longer = places.longer();
-    let found = count_each(formula, longer, counts, truth, trail)?;
-    taken.extend_from_slice(longer)?;
+    let counted = places.counted();
+    let found = count_each(formula, counted, counts, truth, trail)?;
+    noted.extend_from_slice(counted)?;
     Ok((found, front + 1))
 }
 
 /// Counts the trail's literals from `front` on, and marks what follows, until no more does or all
 /// literals of some clause are false. The answer is whether they are, and how far the trail is
-/// counted. From which clauses' counts one was taken goes into `taken`, what is read ahead into `ahead`.
+/// counted. From which clauses' counts one was taken goes into `noted`, what is read ahead into `ahead`.
 pub(crate) fn propagate(
     formula: &Formula,
     occurrences: &[Places],
     counts: &mut [u32],
-    taken: &mut Vec<u32>,
+    noted: &mut Vec<u32>,
     truth: &mut [bool],
     trail: &mut Vec<Lit>,
     from: usize,
@@ -66,7 +67,7 @@ pub(crate) fn propagate(
     requires quiet { AreQuiet formula.now.clauses trail.old.items from }
     ensures counted { IfOk result (λ r. IsCountedTo formula.now.vars formula.now.clauses truth.new trail.new.items
         counts.new r.1) }
-    ensures taken { OnOk result (TakesMore formula.now.clauses taken.old.items counts.old taken.new.items counts.new) }
+    ensures noted { OnOk result (NotesMore formula.now.clauses noted.old.items counts.old noted.new.items counts.new) }
     ensures on { IfOk result (λ r. from ≤ r.1) }
     ensures grows { OnOk result (Grows formula.now.clauses trail.old.items trail.new.items) }
     ensures falsified { IfOk result (λ r. r.0 ≡ true → Falsified formula.now.clauses (has trail.new.items)) }
@@ -77,7 +78,7 @@ pub(crate) fn propagate(
     let mut front = from;
     while front < trail.len() {
         *ahead ^= read_behind(occurrences, trail, front);
-        let (found, next) = advance(formula, occurrences, counts, taken, truth, trail, front)?;
+        let (found, next) = advance(formula, occurrences, counts, noted, truth, trail, front)?;
         if found {
             return Ok((true, next));
         }

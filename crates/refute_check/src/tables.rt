@@ -6,7 +6,7 @@ ghost use Rattle.cnf_core.specs.Clause.{AreThere, AreDistinct};
 ghost use Rattle.cnf_core.specs.Times.{times};
 ghost use Rattle.cnf_core.specs.Trail.{IsTrail};
 ghost use Rattle.cnf_core.specs.Propagation.{Falsifies, Rup, negations, IsClosure};
-ghost use Rattle.refute_check.specs.Tables.{IsCountedTo, AreOccurrences, AreQuiet, AreExplained, CountedUp, TakesMore};
+ghost use Rattle.refute_check.specs.Tables.{IsCountedTo, AreOccurrences, AreQuiet, AreExplained, CountedUp, NotesMore};
 ghost use Rattle.refute_check.specs.Settled.{AreSettled};
 
 use crate::assume::assume_false;
@@ -24,13 +24,13 @@ pub(crate) struct Tables {
     pub(crate) occurrences: Vec<Places>,
     /// By clause of one literal or of more than three, how many of its literals are not false.
     pub(crate) counts: Vec<u32>,
-    /// The numbers of the clauses from whose counts one was taken since the last line, as often as it was.
-    pub(crate) taken: Vec<u32>,
+    /// The numbers of the clauses from whose counts one was taken since the last line, once for each time.
+    pub(crate) noted: Vec<u32>,
     /// By a literal's word, whether it is true.
     pub(crate) truth: Vec<bool>,
     /// The literals that are true, in the order in which they became so.
     pub(crate) trail: Vec<Lit>,
-    /// What was read ahead, which says nothing.
+    /// What was read ahead. It says nothing, and keeps the compiler from leaving the reads out.
     pub(crate) ahead: usize,
 }
 
@@ -48,7 +48,7 @@ impl Tables {
         Ok(Tables {
             occurrences,
             counts: Vec::new(alloc),
-            taken: Vec::new(alloc),
+            noted: Vec::new(alloc),
             truth,
             trail: Vec::new(alloc),
             ahead: 0,
@@ -67,8 +67,8 @@ impl Tables {
         requires distinct { AreDistinct lits.now }
         ensures counted { IfOk result (λ r. IsCountedTo formula.now.vars formula.now.clauses self.new.truth.items
             self.new.trail.items self.new.counts.items r.1) }
-        ensures taken { OnOk result (TakesMore formula.now.clauses self.old.taken.items self.old.counts.items
-            self.new.taken.items self.new.counts.items) }
+        ensures noted { OnOk result (NotesMore formula.now.clauses self.old.noted.items self.old.counts.items
+            self.new.noted.items self.new.counts.items) }
         ensures on { IfOk result (λ r. length self.old.trail.items ≤ r.1) }
         ensures front { OnOk result (take (length self.old.trail.items) self.new.trail.items ≡ self.old.trail.items) }
         ensures same { OnOk result (self.new.occurrences.items ≡ self.old.occurrences.items) }
@@ -90,7 +90,7 @@ impl Tables {
             formula,
             &self.occurrences,
             &mut self.counts,
-            &mut self.taken,
+            &mut self.noted,
             &mut self.truth,
             &mut self.trail,
             level,
@@ -102,19 +102,19 @@ impl Tables {
     /// Takes the trail back to its first `level` literals, and gives the counts back what was taken from them.
     pub(crate) fn take_back(&mut self, vars: u32, level: usize)
         requires trail { IsTrail vars self.old.truth.items self.old.trail.items }
-        requires there { All (λ n. n < length self.old.counts.items) self.old.taken.items }
-        requires small { All (λ n. slice_index self.old.counts.items n + times self.old.taken.items n < 2 ^ 32)
-            self.old.taken.items }
+        requires there { All (λ n. n < length self.old.counts.items) self.old.noted.items }
+        requires small { All (λ n. slice_index self.old.counts.items n + times self.old.noted.items n < 2 ^ 32)
+            self.old.noted.items }
         ensures trail { IsTrail vars self.new.truth.items self.new.trail.items }
         ensures rest { self.new.trail.items ≡ take level self.old.trail.items }
-        ensures counts { CountedUp self.old.taken.items self.old.counts.items self.new.counts.items }
+        ensures counts { CountedUp self.old.noted.items self.old.counts.items self.new.counts.items }
         ensures size { length self.new.counts.items ≡ length self.old.counts.items }
-        ensures untaken { self.new.taken.items ≡ [] }
+        ensures unnoted { self.new.noted.items ≡ [] }
         ensures same { self.new.occurrences.items ≡ self.old.occurrences.items }
     {
         undo(
             &mut self.counts,
-            &mut self.taken,
+            &mut self.noted,
             &mut self.truth,
             &mut self.trail,
             vars,

@@ -23,22 +23,22 @@ fn unmark_behind(truth: &mut [bool], trail: &mut Vec<Lit>, vars: u32, level: usi
 /// them.
 pub(crate) fn undo(
     counts: &mut [u32],
-    taken: &mut Vec<u32>,
+    noted: &mut Vec<u32>,
     truth: &mut [bool],
     trail: &mut Vec<Lit>,
     vars: u32,
     level: usize,
 )
     requires trail { IsTrail vars truth.old trail.old.items }
-    requires there { All (λ n. n < length counts.old) taken.old.items }
-    requires small { All (λ n. slice_index counts.old n + times taken.old.items n < 2 ^ 32) taken.old.items }
+    requires there { All (λ n. n < length counts.old) noted.old.items }
+    requires small { All (λ n. slice_index counts.old n + times noted.old.items n < 2 ^ 32) noted.old.items }
     ensures trail { IsTrail vars truth.new trail.new.items }
     ensures rest { trail.new.items ≡ take level trail.old.items }
-    ensures counts { CountedUp taken.old.items counts.old counts.new }
+    ensures counts { CountedUp noted.old.items counts.old counts.new }
     ensures size { length counts.new ≡ length counts.old }
-    ensures untaken { taken.new.items ≡ [] }
+    ensures unnoted { noted.new.items ≡ [] }
 {
     unmark_behind(truth, trail, vars, level);
-    count_up(taken, counts);
-    taken.clear();
+    count_up(noted, counts);
+    noted.clear();
 }

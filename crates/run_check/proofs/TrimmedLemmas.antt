@@ -26,10 +26,10 @@ use Rattle.run_input.proofs.ThreeFilesLemmas.{read_three}
 use Rattle.run_check.specs.CheckLine.{claim_of}
 use Rattle.run_check.specs.Checked.{IsSheetAnswer}
 use Rattle.run_check.specs.CertifiedSheet.{CertifiesSheet}
-use Rattle.run_check.proofs.CheckedLemmas.{certified_whole}
+use Rattle.run_check.proofs.CheckedLemmas.{certified_whole, certified_answer}
 use Rattle.run_check.specs.declared.trimming.Finding.{Finding}
 use Rattle.run_check.specs.declared.trimming.Finding.TheVariants.{Answered, Left, PastLimits}
-use Rattle.run_check.specs.Trimmed.{LeavesLines, TellsLeft, AreTrimmed, IsTrimAnswer}
+use Rattle.run_check.specs.Trimmed.{PassesFor, LeavesLines, FilesPassLimits, TellsLeft, TellsNoRoom, AreTrimmed, IsTrimAnswer}
 use Rattle.run_check.proofs.WrittenLemmas.{tells_later}
 use Rattle.run_check.specs.Finding.{IsClaimFinding, IsSheetFinding, IsFinding}
 
@@ -48,10 +48,11 @@ trimmed_for g o said inside claim log r same is h = subst (λ (k : Claim). IsTri
     (subst (λ (s : Sheet). IsTrimmedFor g o s claim log r) same h)
 
 -- a log past the limits is so for the sheet whose parts these are
-pub passes_for : {T : Type 0} (g : Graph) (o : EdgeOrder) (said inside : Sheet) (log : List ℕ) (fault : TrimFault) → inside ≡ said → fault ≡ Limits →
-    (IsErrOf {T = T} (Err fault) Limits → LogPassesLimits (layout g o inside.grid) inside.order log) → LogPassesLimits (layout g o said.grid) said.order log
-passes_for g o said inside log fault same is limits = subst (λ (s : Sheet). LogPassesLimits (layout g o s.grid) s.order log) same
-    (limits (ap (λ (e : TrimFault). Err e) is))
+pub passes_for : {T : Type 0} (g : Graph) (o : EdgeOrder) (said inside : Sheet) (claim : Claim) (log : List ℕ) (fault : TrimFault) → inside ≡ said →
+    claim ≡ claim_of said.order said.found said.ending → fault ≡ Limits →
+    (IsErrOf {T = T} (Err fault) Limits → LogPassesLimits (layout g o inside.grid) inside.order claim log) → PassesFor g o said log
+passes_for g o said inside claim log fault same is limit passes = subst (λ (k : Claim). LogPassesLimits (layout g o said.grid) said.order k log) is
+    (subst (λ (s : Sheet). LogPassesLimits (layout g o s.grid) s.order claim log) same (passes (ap (λ (e : TrimFault). Err e) limit)))
 
 -- check ends with another status than 0 where the log doesn't certify the claim
 pub lacking_not_done : (g : Graph) (o : EdgeOrder) (said : Sheet) (log : List ℕ) (status : Status) (text : List ℕ) →
@@ -91,9 +92,7 @@ file_finding file sheet log g o PastLimits has h = record {
   order = o;
   said = h.said;
   station = has;
-  is_text = h.is_text;
-  text = h.claim.text;
-  checked = h.claim.checked;
+  certifies = (certified_answer g o sheet log h.claim.text h.said h.is_text h.claim.checked).0;
   passes = h.claim.passes;
 }
 
@@ -115,4 +114,10 @@ pub left_trim : (input sheet log hints bytes said lines : List ℕ) (old mid new
     IsTrimAnswer input sheet log hints (between old new) status text
 left_trim input sheet log hints bytes said lines old mid new r status text files read same leaves told =
     read_three input sheet (log_input 3 log) (between old new) (AreTrimmed hints (between old new)) bytes said lines status text files read
-    (inr (r, leaves, tells_later r hints old mid new status text same told))
+    (inr (inl (r, leaves, tells_later r hints old mid new status text same told)))
+
+pub no_room_trim : (input sheet log hints bytes said lines : List ℕ) (met : Met) (status : Status) (text : List ℕ) →
+    AreThreeFiles input sheet (log_input 3 log) met.before.contents bytes said lines → HasRead met 3 → FilesPassLimits bytes said lines →
+    TellsNoRoom status text → IsTrimAnswer input sheet log hints met status text
+no_room_trim input sheet log hints bytes said lines met status text files read passes told =
+    read_three input sheet (log_input 3 log) met (AreTrimmed hints met) bytes said lines status text files read (inr (inr (passes, told)))

@@ -4,21 +4,19 @@ use Rattle.plan_core.specs.Graph.{Graph}
 use Rattle.track_order.specs.Order.{EdgeOrder}
 use Rattle.plan_text.specs.SheetText.{Sheet}
 use Rattle.plan_text.specs.SheetFaults.{IsSheetText}
-use Rattle.drawing_cnf.specs.Layout.{layout}
 use Rattle.log_trim.specs.declared.trimming.TrimmedLog.{TrimmedLog}
-use Rattle.log_trim.specs.HintRoom.{LogPassesLimits}
 use Rattle.run_input.specs.declared.status.Status.TheVariants.{Done}
 use Rattle.run_check.specs.Checked.{IsSheetAnswer, IsClaimJudged, IsChecked}
 use Rattle.run_check.specs.CertifiedSheet.{CertifiesSheet}
 use Rattle.run_check.specs.declared.trimming.Finding.{Finding}
 use Rattle.run_check.specs.declared.trimming.Finding.TheVariants.{Answered, Left, PastLimits}
-use Rattle.run_check.specs.Trimmed.{IsLeftFor, LeavesLines, FilesPassLimits}
+use Rattle.run_check.specs.Trimmed.{IsLeftFor, PassesFor, LeavesLines, FilesPassLimits}
 
 -- check answers 0 to a sheet and a log, and that has more variables or words than hints are found in
 pub record ClaimPassesLimits (g : Graph) (o : EdgeOrder) (said : Sheet) (log : List ℕ) : Type 0 where
   pub text : List ℕ
   pub checked : IsSheetAnswer g o said log Done text
-  pub passes : LogPassesLimits (layout g o said.grid) said.order log
+  pub passes : PassesFor g o said log
 
 -- a sheet and a log: the answer of check, which isn't 0, or what is left
 abbrev pub IsClaimFinding : Graph → EdgeOrder → Sheet → List ℕ → Finding → Type 0

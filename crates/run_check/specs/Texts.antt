@@ -28,6 +28,10 @@ left_text r = hints_text r.caps r.kept
 abbrev pub trimmed_line : TrimmedLog → List ℕ
 trimmed_line r = line_text (codes "trimmed") (decimal r.learnt ∷ decimal (length (flat_map clauses_learnt r.kept)) ∷ [])
 
+-- there is no room to find hints in the log
+abbrev pub no_room_line : List ℕ
+no_room_line = line_text (codes "trim") (codes "Room" ∷ [])
+
 -- ---- recheck
 
 -- the line of a fault of a hinted log's text

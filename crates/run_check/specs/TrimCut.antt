@@ -2,10 +2,9 @@
 use Rattle.run_input.specs.declared.reply.Cut.{Cut}
 use Rattle.run_input.specs.declared.reply.Cut.TheVariants as cuts
 use Rattle.run_check.specs.declared.trim_cut.TrimCut.{TrimCut}
-use Rattle.run_check.specs.declared.trim_cut.TrimCut.TheVariants.{Unwritten, Limits, Memory}
+use Rattle.run_check.specs.declared.trim_cut.TrimCut.TheVariants.{Unwritten, Memory}
 
--- why the run has no answer: a log past the limits is answered as want of memory
+-- why the run has no answer
 abbrev pub cut_of_trim : TrimCut → Cut
 cut_of_trim Unwritten = cuts.Unwritten
-cut_of_trim Limits = cuts.Memory
 cut_of_trim Memory = cuts.Memory

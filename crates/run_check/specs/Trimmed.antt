@@ -1,29 +1,33 @@
 -- What trim answers and leaves: what check answers, or hinted lines where that ends with 0.
-use Rattle.std.specs.Prelude.{◌≡◌, ◌≢◌, ◌⊎◌, ℕ, false, List, ◌++◌, Some}
+use Rattle.std.specs.Prelude.{◌≡◌, ◌≢◌, ◌⊎◌, ℕ, List, ◌++◌, Some}
 use Rattle.outside_io.specs.Contents.{WhereTold}
 use Rattle.plan_core.specs.Graph.{Graph}
 use Rattle.track_order.specs.Order.{EdgeOrder}
 use Rattle.plan_text.specs.SheetText.{Sheet}
-use Rattle.plan_text.specs.SheetFaults.{IsSheetText}
 use Rattle.drawing_cnf.specs.Layout.{layout}
 use Rattle.log_trim.specs.declared.trimming.TrimmedLog.{TrimmedLog}
 use Rattle.log_trim.specs.TrimmedLog.{IsTrimmedLog}
 use Rattle.log_trim.specs.HintRoom.{LogPassesLimits}
 use Rattle.run_input.specs.declared.status.Status.{Status}
-use Rattle.run_input.specs.declared.status.Status.TheVariants.{Done}
+use Rattle.run_input.specs.declared.status.Status.TheVariants.{Done, Unfinished}
 use Rattle.run_input.specs.Input.{HasStation}
 use Rattle.run_input.specs.Met.{Met, HasRead}
 use Rattle.run_input.specs.Answer.{log_input}
 use Rattle.run_input.specs.ThreeFiles.{IsAnswerToThree, AreThreeFiles}
 use Rattle.run_check.specs.CheckLine.{claim_of}
-use Rattle.run_check.specs.Checked.{IsChecked, IsSheetAnswer}
+use Rattle.run_check.specs.Checked.{IsChecked}
 use Rattle.run_check.specs.CertifiedSheet.{CertifiesSheet}
-use Rattle.run_check.specs.Texts.{left_text, trimmed_line}
+use Rattle.run_check.specs.Texts.{left_text, trimmed_line, no_room_line}
 
 -- what is left of a log for what a sheet claims of a station
 abbrev pub IsLeftFor : Graph → EdgeOrder → Sheet → (log : List ℕ) → TrimmedLog → Type 0
 IsLeftFor g o said log r =
     IsTrimmedLog (layout g o said.grid) said.order (claim_of said.order said.found said.ending) log r
+
+-- for this the log has more variables or words than hints are found in
+abbrev pub PassesFor : Graph → EdgeOrder → Sheet → (log : List ℕ) → Type 0
+PassesFor g o said log =
+    LogPassesLimits (layout g o said.grid) said.order (claim_of said.order said.found said.ending) log
 
 -- the bytes are those of a file with a station, of a sheet and of a log that certifies what the sheet claims, and this
 -- is left of it
@@ -41,11 +45,28 @@ pub record TellsLeft (r : TrimmedLog) (hints : List ℕ) (met : Met) (status : S
   pub line_is : text ≡ trimmed_line r
   pub written : WhereTold met.before.contents met.after.contents (λ _ after. after hints ≡ Some (left_text r))
 
--- where check would end with other than 0 this is its answer; and else the lines that are left are written
+-- the bytes are those of a file with a station, of a sheet and of a log to which check answers 0, and the log has more
+-- variables or words than hints are found in
+pub record FilesPassLimits (file sheet log : List ℕ) : Type 0 where
+  pub graph : Graph
+  pub order : EdgeOrder
+  pub said : Sheet
+  pub station : HasStation file graph order
+  pub certifies : CertifiesSheet graph order sheet log said
+  pub passes : PassesFor graph order said log
+
+-- the answer says that there is no room to find hints
+pub record TellsNoRoom (status : Status) (text : List ℕ) : Type 0 where
+  pub status_is : status ≡ Unfinished
+  pub line_is : text ≡ no_room_line
+
+-- where check would end with other than 0 this is its answer; else the lines that are left are written, or the log is
+-- too large to find hints in, and that is said
 abbrev pub AreTrimmed : (hints : List ℕ) → Met → (file sheet log : List ℕ) → Status → List ℕ → Type 0
 AreTrimmed hints met file sheet log status text =
     (IsChecked file sheet log status text × (status ≢ Done))
     ⊎ ((r : TrimmedLog) × LeavesLines file sheet log r × TellsLeft r hints met status text)
+    ⊎ (FilesPassLimits file sheet log × TellsNoRoom status text)
 
 -- what trim answers to the files of three names
 abbrev pub IsTrimAnswer : (input sheet log hints : List ℕ) → Met → Status → List ℕ → Type 0
@@ -64,27 +85,6 @@ pub record HasReadLeft (input sheet log : List ℕ) (met : Met) (r : TrimmedLog)
 -- there is something to trim: check would end with 0
 abbrev pub HasReadCertified : (input sheet log : List ℕ) → Met → Type 0
 HasReadCertified input sheet log met = (r : TrimmedLog) × HasReadLeft input sheet log met r
-
--- the bytes are those of a file with a station, of a sheet and of a log to which check answers 0, and the log has more
--- variables or words than hints are found in
-pub record FilesPassLimits (file sheet log : List ℕ) : Type 0 where
-  pub graph : Graph
-  pub order : EdgeOrder
-  pub said : Sheet
-  pub station : HasStation file graph order
-  pub is_text : IsSheetText graph false sheet said
-  pub text : List ℕ
-  pub checked : IsSheetAnswer graph order said log Done text
-  pub passes : LogPassesLimits (layout graph order said.grid) said.order log
-
--- the three files were read, and no other, and they have such bytes
-pub record HasReadPastLimits (input sheet log : List ℕ) (met : Met) : Type 0 where
-  pub read : HasRead met 3
-  pub bytes : List ℕ
-  pub said : List ℕ
-  pub lines : List ℕ
-  pub files : AreThreeFiles input sheet (log_input 3 log) met.before.contents bytes said lines
-  pub passes : FilesPassLimits bytes said lines
 
 -- the bytes begin the text of what is left
 pub record BeginsLeft (r : TrimmedLog) (bytes : List ℕ) : Type 0 where

@@ -11,8 +11,6 @@ use run_input::Cut;
 pub enum TrimCut {
     /// The hinted lines couldn't be written.
     Unwritten,
-    /// `check` would end with 0, and the log has more variables or words than hints are found in.
-    Limits,
     /// Memory couldn't be had.
     Memory,
 }
@@ -31,7 +29,7 @@ impl From<TrimCut> for Cut {
     fn from(cut: TrimCut) -> Self {
         match cut {
             TrimCut::Unwritten => Cut::Unwritten,
-            TrimCut::Limits | TrimCut::Memory => Cut::Memory,
+            TrimCut::Memory => Cut::Memory,
         }
     }
 }

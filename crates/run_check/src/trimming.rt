@@ -11,12 +11,12 @@ ghost use Rattle.log_trim.specs.HintRoom.{LogPassesLimits};
 ghost use Rattle.run_input.specs.Status.{IsAnswered, IsRefused};
 ghost use Rattle.run_input.specs.Met.{between, ReadsInputs, IsUnwritten, LeftSo, HasLeft};
 ghost use Rattle.run_check.specs.CheckLine.{claim_of as claim_in};
-ghost use Rattle.run_check.specs.Trimmed.{IsTrimAnswer, HasReadCertified, HasReadPastLimits, IsLeftByTrim, BeginsLeft};
-ghost use Rattle.run_check.specs.Trimmed.{TellsLeft};
+ghost use Rattle.run_check.specs.Trimmed.{IsTrimAnswer, HasReadCertified, IsLeftByTrim, BeginsLeft, TellsLeft};
+ghost use Rattle.run_check.specs.Trimmed.{TellsNoRoom};
 ghost use Rattle.run_check.specs.Finding.{IsClaimFinding, IsSheetFinding, IsFinding};
 
 use crate::trim_cut::TrimCut;
-use crate::writing::{text_of, trimmed_line};
+use crate::writing::{no_room_line, text_of, trimmed_line};
 use crate::{broken_sheet, check_claim, claim_of};
 use log_trim::{TrimFault, TrimmedLog, trim_log};
 use outside_io::{FileFault, Files, write_file};
@@ -54,7 +54,8 @@ fn refused_claim(
     requires claim { IsClaimOf sheet.now.order (claim_in sheet.now.order sheet.now.found sheet.now.ending) }
     requires short { length log.now ≤ MAX_LOG_BYTES }
     requires fault { fault ≡ TrimFault.Limits →
-        LogPassesLimits (layout station.now.graph station.now.order sheet.now.grid) sheet.now.order log.now }
+        LogPassesLimits (layout station.now.graph station.now.order sheet.now.grid) sheet.now.order
+        (claim_in sheet.now.order sheet.now.found sheet.now.ending) log.now }
     ensures { IfOk result (IsClaimFinding station.now.graph station.now.order sheet.now log.now) }
 {
     let checked = check_claim(alloc, station, sheet, log)?;
@@ -140,7 +141,17 @@ fn judge(alloc: Global, bytes: &[u8], sheet: &[u8], log: &[u8]) -> Result<Findin
     }
 }
 
-// ---- the file
+// ---- the answer
+
+/// Answers that there is no room to find hints.
+fn no_room(alloc: Global) -> Result<Reply, OutOfMemory>
+    ensures { IfOk result (λ r. TellsNoRoom r.status r.text.items) }
+{
+    Ok(Reply {
+        status: Status::Unfinished,
+        text: no_room_line(alloc)?,
+    })
+}
 
 /// Leaves the text under the name, and answers with the counts of the lines.
 fn write_left<F: Files>(
@@ -154,7 +165,6 @@ fn write_left<F: Files>(
     ensures leaves { WhereTold (F.at files.old).contents (F.at files.new).contents
         (LeftSo (λ name bytes. (hints.now ≡ name) × BeginsLeft left.now bytes)) }
     ensures unrefused { IsOkAnd result (λ r. IsRefused r.status) → ⊥ }
-    ensures limits { IsErrOf result TrimCut.Limits → ⊥ }
     ensures cause { IsErrOf result TrimCut.Unwritten → Rose (F.at files.old).write_faults
         (F.at files.new).write_faults }
     ensures read_faults { (F.at files.new).read_faults ≡ (F.at files.old).read_faults }
@@ -173,8 +183,8 @@ fn write_left<F: Files>(
 }
 
 /// What `trim` answers: where `check` would end with other than 0, what that answers; and else it leaves the hinted
-/// lines that certify what the sheet claims under the name `hints`. `Limits` comes only where `check` would end with 0,
-/// and the log has too many variables or words to find hints; then no file is written.
+/// lines that certify what the sheet claims under the name `hints`. Of a log that has more variables or words than
+/// hints are found in it answers that there is no room, and writes no file.
 pub fn trim<F: Files>(
     alloc: Global,
     input: &Text,
@@ -193,9 +203,6 @@ pub fn trim<F: Files>(
     ensures leaves { let met = between (F.at files.old) (F.at files.new) in
         HasLeft met (λ name bytes. (IsOkAnd result (λ r. IsRefused r.status) → ⊥)
         × IsLeftByTrim input.now sheet.now log.now hints.now met name bytes) }
-    ensures limits { IsErrOf result TrimCut.Limits →
-        HasReadPastLimits input.now sheet.now log.now (between (F.at files.old) (F.at files.new)) }
-    ensures limits_unwritten { IsErrOf result TrimCut.Limits → IsUnwritten (between (F.at files.old) (F.at files.new)) }
     ensures cause { IsErrOf result TrimCut.Unwritten → Rose (F.at files.old).write_faults
         (F.at files.new).write_faults }
     ensures later { (F.at files.old).read_faults ≤ (F.at files.new).read_faults }
@@ -203,7 +210,10 @@ pub fn trim<F: Files>(
     match read_all(alloc, input, sheet, log, MAX_LOG_BYTES, files) {
         Ok(texts) => match judge(alloc, &texts.first, &texts.second, &texts.third)? {
             Finding::Answered(reply) => Ok(reply),
-            Finding::PastLimits => Err(TrimCut::Limits),
+            Finding::PastLimits => {
+                let reply = no_room(alloc)?;
+                Ok(reply)
+            }
             Finding::Left(left) => write_left(alloc, &left, hints, files),
         },
         Err(InputRefusal::Fault(fault)) => Ok(fault_reply(alloc, fault)?),

@@ -4,8 +4,8 @@ ghost use Rattle.hint_log.specs.Checked.{clauses_learnt};
 ghost use Rattle.hint_log.specs.HintedLines.{HintLines};
 ghost use Rattle.hint_log.specs.HintText.{ended_hint};
 ghost use Rattle.log_check.specs.declared.hint_verdict.HintsVerdict.TheVariants as verdicts;
-ghost use Rattle.run_check.specs.Texts.{left_text, trimmed_line, hints_fault_line, hints_line, hint_refusal_status};
-ghost use Rattle.run_check.specs.Texts.{TellsHints};
+ghost use Rattle.run_check.specs.Texts.{left_text, trimmed_line, no_room_line, hints_fault_line, hints_line};
+ghost use Rattle.run_check.specs.Texts.{hint_refusal_status, TellsHints};
 
 use crate::{certified_line, lacking_line};
 use hint_log::{HintLine, HintList, HintsWhat, write_caps, write_hint};
@@ -58,6 +58,16 @@ pub(crate) fn trimmed_line(alloc: Global, left: &TrimmedLog) -> Result<Vec<u8>, 
     let mut line = Vec::from_slice(alloc, b"trimmed")?;
     push_place_field(&mut line, left.learnt)?;
     push_place_field(&mut line, count_kept(&left.kept))?;
+    push_text(&mut line, b"\n")?;
+    Ok(line)
+}
+
+/// The line that says that there is no room to find hints in a log.
+pub(crate) fn no_room_line(alloc: Global) -> Result<Vec<u8>, OutOfMemory>
+    ensures { IfOk result (λ v. v.items ≡ no_room_line) }
+{
+    let mut line = Vec::from_slice(alloc, b"trim")?;
+    push_field(&mut line, b"Room")?;
     push_text(&mut line, b"\n")?;
     Ok(line)
 }

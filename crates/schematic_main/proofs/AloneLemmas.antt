@@ -49,7 +49,6 @@ lost_unwritten (Err cut) P May Same err unwritten (inr nothing) = unwritten noth
 
 pub cut_unwritten : (cut : TrimCut) → cut_of_trim cut ≡ cuts.Unwritten → cut ≡ trims.Unwritten
 cut_unwritten trims.Unwritten is = refl
-cut_unwritten trims.Limits is = absurd (cc)
 cut_unwritten trims.Memory is = absurd (cc)
 
 -- ---- a run that is refused wrote no file, whatever the command is

@@ -184,7 +184,8 @@ on_checked P file sheet log status text owed = on_file P (λ g o. IsClaimJudged 
 on_trimmed : (P : Status → Type 0) (hints : List ℕ) (met : Met) (file sheet log : List ℕ) (status : Status) (text : List ℕ) → OfOwed P →
     AreTrimmed hints met file sheet log status text → P status
 on_trimmed P hints met file sheet log status text owed (inl (checked, other)) = on_checked P file sheet log status text owed checked
-on_trimmed P hints met file sheet log status text owed (inr (r, leaves, told)) = subst P (sym told.status_is) owed.done
+on_trimmed P hints met file sheet log status text owed (inr (inl (r, leaves, told))) = subst P (sym told.status_is) owed.done
+on_trimmed P hints met file sheet log status text owed (inr (inr (passes, told))) = subst P (sym told.status_is) owed.unfinished
 
 on_hints : (P : Status → Type 0) (verdict : HintsVerdict) → OfOwed P → P (hints_status verdict)
 on_hints P hint_verdicts.Certified owed = owed.done
@@ -424,7 +425,8 @@ trimmed_status : (hints : List ℕ) (met : Met) (file sheet : List ℕ) (lines :
 trimmed_status hints met file sheet lines status text sound drawn formed (inl (checked, other)) =
     let found = sound_judged (λ g o. IsClaimJudged g o sheet (log_text lines)) file status text sound checked in
     checked_status found.0 found.1 sheet lines status text (drawn found.0 (found.1, found.2)) formed found.3
-trimmed_status hints met file sheet lines status text sound drawn formed (inr (r, leaves, told)) = inl told.status_is
+trimmed_status hints met file sheet lines status text sound drawn formed (inr (inl (r, leaves, told))) = inl told.status_is
+trimmed_status hints met file sheet lines status text sound drawn formed (inr (inr (passes, told))) = inr (inl told.status_is)
 
 -- hinted lines without a fault are judged to a verdict on lines
 hints_judged_status : (verdict : HintsVerdict) (Judged : HintsVerdict → Type 0) →

@@ -11,7 +11,7 @@ use Rattle.plan_text.specs.SheetText.{Sheet}
 use Rattle.plan_text.proofs.ShortSheet.{short_sheet}
 use Rattle.log_trim.specs.declared.trimming.TrimmedLog.{TrimmedLog}
 use Rattle.run_input.specs.declared.status.Status.{Status}
-use Rattle.run_input.specs.declared.status.Status.TheVariants.{Done}
+use Rattle.run_input.specs.declared.status.Status.TheVariants.{Done, Unfinished}
 use Rattle.run_input.specs.Met.{Met}
 use Rattle.run_input.specs.Answer.{text_input, log_input, IsAnswerAfter, IsAnswerOn}
 use Rattle.run_check.specs.Texts.{left_text}
@@ -85,7 +85,8 @@ left_by input sheet log hints met line owes =
     let kept = answered_with_0 (log_input 3 log) 2 met (IsAnswerAfter 3 met (AreTrimmed hints met file.bytes said.bytes)) line said.answer in
     elim kept.answer.1 [
       | inl other ↦ absurd (other.1 refl)
-      | inr (r, leaves, told) ↦ record {
+      | inr (inr (passes, told)) ↦ absurd (let e : Done ≡ Unfinished = told.status_is in cc)
+      | inr (inl (r, leaves, told)) ↦ record {
         left = r;
         read = record {
           read = kept.answer.0;

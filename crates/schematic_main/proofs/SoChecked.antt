@@ -195,7 +195,7 @@ as_check input sheet third files Done text other h = absurd (other refl)
 as_check input sheet third files Refused text other h = h
 as_check input sheet third files WordsRefused text other h = h
 as_check input sheet third files NoDrawing text other h = h
-as_check input sheet third files Unfinished text other h = h
+as_check input sheet third files Unfinished text other h = inl h
 as_check input sheet third files Unread text other h = h
 as_check input sheet third files Unwritten text other h = h
 as_check input sheet third files NoMemory text other h = h
@@ -215,7 +215,7 @@ trimmed_so : (input sheet log_name hints : List ℕ) (met : Met) (file said log 
 trimmed_so input sheet log_name hints met file said log status text is is_sheet is_log (inl (checked, other)) =
     as_check input sheet log_name met.before.contents status text other (checked_so input sheet log_name met.before.contents file said log status text is
     is_sheet is_log checked)
-trimmed_so input sheet log_name hints met file said log status text is is_sheet is_log (inr (r, leaves, told)) =
+trimmed_so input sheet log_name hints met file said log status text is is_sheet is_log (inr (inl (r, leaves, told))) =
     let g = leaves.graph in
     let o = leaves.order in
     let s = leaves.said in
@@ -236,6 +236,23 @@ trimmed_so input sheet log_name hints met file said log status text is is_sheet 
         ),
       ),
     )
+trimmed_so input sheet log_name hints met file said log status text is is_sheet is_log (inr (inr (passes, told))) =
+    let g = passes.graph in
+    let o = passes.order in
+    let s = passes.said in
+    let c = passes.certifies in
+    let P : Status → Type 0 = λ s. TrimIsSo input sheet log_name met.before.contents s text in
+    subst P (sym told.status_is)
+    (inr (
+      g,
+      o,
+      (file, is, passes.station),
+      (
+        s,
+        (said, is_sheet, c.is_text),
+        (c.lawful, claim_so g o s.grid s.order s.found s.ending c.lawful (certified_so file said log g o s passes.station c), told.line_is),
+      ),
+    ))
 
 pub trim_so : (input sheet log hints : List ℕ) (met : Met) (status : Status) (text : List ℕ) →
     IsAnswerOn (text_input 1 input) 0 met (λ bytes. IsAnswerOn (text_input 2 sheet) 1 met

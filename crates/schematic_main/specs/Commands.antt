@@ -135,7 +135,7 @@ MayWrite command met = (outputs_of command ≢ []) × MaySearch command met
 abbrev pub MayTell : Command → Met → Type 0
 MayTell command met = TellsTrace command × MaySearch command met
 
--- with these statuses it answers and writes no file: where it is refused, and trim where check would end with 4 or 8
+-- with these statuses it answers and writes no file: where it is refused, and trim where it ends with 4 or 8
 abbrev pub AnswersAlone : Command → Status → Type 0
 AnswersAlone (Draw input grid order budget svg log) status = IsRefused status
 AnswersAlone (PrintGraph input) status = IsRefused status

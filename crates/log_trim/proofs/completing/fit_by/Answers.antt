@@ -1,10 +1,10 @@
-use Rattle.std.proofs.Common.{◌≡◌, ◌∙◌, ap, inl, inr, refl, length, rules}
+use Rattle.std.proofs.Common.{◌≡◌, ◌≤◌, ◌∙◌, ap, inl, inr, refl, length, rules}
 use Rattle.std.specs.Prelude.{flat_map}
 use Rattle.std.proofs.lemmas.List.{nil_from_length}
 use Rattle.cnf_core.specs.Formula.{Cnf}
 use Rattle.refute_log.specs.Log.{given}
 use Rattle.log_check.specs.Expectation.{expectation}
-use Rattle.log_trim.proofs.CompletingLemmas.{fewer, completed}
+use Rattle.log_trim.proofs.CompletingLemmas.{fewer, completed, not_none}
 use Rattle.log_trim.proofs.completing.fit_by.Goals as goal
 
 pub returns-then-not-begin_expected : goal.returns-then-not-begin_expected
@@ -21,11 +21,15 @@ returns-in_ok-complete c = λ y order cap is fits.
     let e = expectation y order cap in
     let begins = c.if-not-begin_expected.ensures y order cap is in
     let are : c.formula.result.now.clauses ≡ flat_map given e.lines = ap (λ (f : Cnf). f.clauses) c.formula.ensures ∙ is.clauses in
+    let some : 1 ≤ length c.args.wanted.now = search rules in
     record {
       front = begins;
       within = λ some. fits;
       room = c.if-not-have_room.ensures;
-      completed = inl (completed e c.args.lines.now c.complete.new.lines c.formula.result.now.clauses begins are c.in_ok-complete.ensures);
+      completed = inr (
+        not_none c.args.wanted.now some,
+        completed e c.args.lines.now c.complete.new.lines c.formula.result.now.clauses begins are c.in_ok-complete.ensures,
+      );
     }
 
 pub returns-else-not-is_empty : goal.returns-else-not-is_empty
@@ -35,5 +39,5 @@ returns-else-not-is_empty c = λ y order cap is fits.
       front = c.if-not-begin_expected.ensures y order cap is;
       within = λ some. fits;
       room = c.if-not-have_room.ensures;
-      completed = inr (nil_from_length c.args.wanted.now none, refl);
+      completed = inl (nil_from_length c.args.wanted.now none, refl);
     }

@@ -69,5 +69,10 @@ pub returns-in_err-kept-clause-limits : goal.returns-in_err-kept-clause-limits
 returns-in_err-kept-clause-limits c = λ k.
     let is : IsSpelledLog c.args.log.now c.in-Some.lines = rw c.in-Some.is at c.in_ok-lines.ensures in
     let limits : IsErrOf c.kept_of.result Limits = search (rules, k) in
-    passing_log (layout c.args.g.now c.args.t.now c.args.grid.now) c.args.order.now c.args.log.now (value_of c.greatest_values-greatest.result)
-    (value_of c.in_ok-caps.caps) c.in-Some.lines is c.greatest_values-greatest.ensures c.in_ok-caps.ensures (c.kept_of.ensures.limits limits)
+    let greatest = value_of c.greatest_values-greatest.result in
+    let wanted = c.deref-2.result.now in
+    let found : AreWanted greatest c.in-Some.lines c.args.order.now c.args.claim.now c.in-Some-2.wanted.items = rw c.in-Some-2.is at c.in_ok-wanted.ensures in
+    let are : AreWanted greatest c.in-Some.lines c.args.order.now c.args.claim.now wanted =
+    subst (λ (ns : List ℕ). AreWanted greatest c.in-Some.lines c.args.order.now c.args.claim.now ns) (sym c.deref-2.ensures.value) found in
+    passing_log (layout c.args.g.now c.args.t.now c.args.grid.now) c.args.order.now c.args.claim.now c.args.log.now greatest
+    (value_of c.in_ok-caps.caps) c.in-Some.lines wanted is c.greatest_values-greatest.ensures c.in_ok-caps.ensures are (c.kept_of.ensures.limits limits)

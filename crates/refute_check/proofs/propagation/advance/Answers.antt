@@ -11,7 +11,7 @@ use Rattle.refute_check.specs.Entries.{Entries, IsShort, shorts_from}
 use Rattle.refute_check.specs.Tables.{CountedUp, AreQuietNow, IsRestQuiet}
 use Rattle.refute_check.proofs.AdvanceLemmas.{counted_next, counted_still, quiet_next, advance_places, negated_there, false_at}
 use Rattle.refute_check.proofs.FalseCountLemmas.{down_enough, places_there}
-use Rattle.refute_check.proofs.TakenLemmas.{takes_none, takes_places}
+use Rattle.refute_check.proofs.NotedLemmas.{notes_none, notes_places}
 use Rattle.refute_check.proofs.ShortLemmas.{shorts_are}
 use Rattle.refute_check.proofs.propagation.advance.Goals as goal
 use Rattle.refute_check.proofs.propagation.advance.Goals.{After-word}
@@ -40,14 +40,16 @@ look_beside_each-requires-clause-false_now c = false_at c.args.trail.now.items c
 
 pub count_each-requires-clause-there : goal.count_each-requires-clause-there
 count_each-requires-clause-there c =
-    let is = c.longer-longer.ensures ∙ ap (λ (e : Entries). e.longer) (advance_places c.args.formula.now.vars c.args.formula.now.clauses c.args.occurrences.now
+    let is = c.counted-counted.ensures ∙ ap (λ (e : Entries). e.counted) (advance_places c.args.formula.now.vars c.args.formula.now.clauses
+    c.args.occurrences.now
     c.args.trail.now.items c.args.front c.index.result.now c.negated-l.result c.word.result c.index-occurrences-word.result c.requires.occurrences
     c.requires.counted.table.there c.requires.there c.index.ensures c.negated-l.ensures c.word.ensures.value c.index-occurrences-word.is) in
     subst (λ (ns : List ℕ). All (λ n. n < length c.args.formula.now.clauses) ns) (sym is) (places_there c.args.formula.now.clauses (negate c.index.result.now))
 
 pub count_each-requires-clause-enough : goal.count_each-requires-clause-enough
 count_each-requires-clause-enough c =
-    let is = c.longer-longer.ensures ∙ ap (λ (e : Entries). e.longer) (advance_places c.args.formula.now.vars c.args.formula.now.clauses c.args.occurrences.now
+    let is = c.counted-counted.ensures ∙ ap (λ (e : Entries). e.counted) (advance_places c.args.formula.now.vars c.args.formula.now.clauses
+    c.args.occurrences.now
     c.args.trail.now.items c.args.front c.index.result.now c.negated-l.result c.word.result c.index-occurrences-word.result c.requires.occurrences
     c.requires.counted.table.there c.requires.there c.index.ensures c.negated-l.ensures c.word.ensures.value c.index-occurrences-word.is) in
     subst (λ (ns : List ℕ). All (λ n. times ns n ≤ get_or c.args.counts.now n 0) ns) (sym is)
@@ -68,7 +70,8 @@ returns-clause-grows c = grows_more c.args.formula.now.clauses c.args.trail.now.
 
 pub returns-clause-counted : goal.returns-clause-counted
 returns-clause-counted c =
-    let is = c.longer-longer.ensures ∙ ap (λ (e : Entries). e.longer) (advance_places c.args.formula.now.vars c.args.formula.now.clauses c.args.occurrences.now
+    let is = c.counted-counted.ensures ∙ ap (λ (e : Entries). e.counted) (advance_places c.args.formula.now.vars c.args.formula.now.clauses
+    c.args.occurrences.now
     c.args.trail.now.items c.args.front c.index.result.now c.negated-l.result c.word.result c.index-occurrences-word.result c.requires.occurrences
     c.requires.counted.table.there c.requires.there c.index.ensures c.negated-l.ensures c.word.ensures.value c.index-occurrences-word.is) in
     counted_next c.args.formula.now.vars c.args.formula.now.clauses c.args.truth.now c.count_each.new.truth c.args.trail.now.items c.count_each.new.trail.items
@@ -86,7 +89,7 @@ returns-clause-quiet c = λ none.
     let shorts = c.shorts.ensures ∙ ap (λ (e : Entries). e.shorts) (advance_places c.args.formula.now.vars c.args.formula.now.clauses c.args.occurrences.now
     c.args.trail.now.items c.args.front c.index.result.now c.negated-l.result c.word.result c.index-occurrences-word.result c.requires.occurrences
     c.requires.counted.table.there c.requires.there c.index.ensures c.negated-l.ensures c.word.ensures.value c.index-occurrences-word.is) in
-    let longer = c.longer-longer.ensures ∙ ap (λ (e : Entries). e.longer) (advance_places c.args.formula.now.vars c.args.formula.now.clauses
+    let counted = c.counted-counted.ensures ∙ ap (λ (e : Entries). e.counted) (advance_places c.args.formula.now.vars c.args.formula.now.clauses
     c.args.occurrences.now
     c.args.trail.now.items c.args.front c.index.result.now c.negated-l.result c.word.result c.index-occurrences-word.result c.requires.occurrences
     c.requires.counted.table.there c.requires.there c.index.ensures c.negated-l.ensures c.word.ensures.value c.index-occurrences-word.is) in
@@ -95,7 +98,7 @@ returns-clause-quiet c = λ none.
     c.in_ok-look_beside_each.ensures.grows c.in_ok-found.ensures.grows c.requires.quiet c.requires.counted.right
     (subst (λ (k : Literal). All (IsRestQuiet k old mid) (shorts_from clauses (negate c.index.result.now))) c.negated-l.ensures
     (subst (λ (rs : List Rest). All (IsRestQuiet c.negated-l.result old mid) rs) shorts (c.in_ok-look_beside_each.ensures.quiet c.if-branch.false)))
-    (subst (λ (ns : List ℕ). AreQuietNow clauses ns c.args.counts.now mid new) longer (c.in_ok-found.ensures.quiet none))
+    (subst (λ (ns : List ℕ). AreQuietNow clauses ns c.args.counts.now mid new) counted (c.in_ok-found.ensures.quiet none))
 
 pub look_beside_each-requires-clause-trail : goal.look_beside_each-requires-clause-trail
 look_beside_each-requires-clause-trail c = c.requires.counted.table
@@ -124,14 +127,15 @@ returns-clause-falsified c = c.in_ok-found.ensures.falsified
 pub returns-clause-next : goal.returns-clause-next
 returns-clause-next c = λ _. refl
 
-pub returns-then-branch-clause-taken : goal.returns-then-branch-clause-taken
-returns-then-branch-clause-taken c = takes_none c.args.formula.now.clauses c.args.taken.now.items c.args.counts.now
+pub returns-then-branch-clause-noted : goal.returns-then-branch-clause-noted
+returns-then-branch-clause-noted c = notes_none c.args.formula.now.clauses c.args.noted.now.items c.args.counts.now
 
-pub returns-clause-taken : goal.returns-clause-taken
-returns-clause-taken c =
-    let is = c.longer-longer.ensures ∙ ap (λ (e : Entries). e.longer) (advance_places c.args.formula.now.vars c.args.formula.now.clauses c.args.occurrences.now
+pub returns-clause-noted : goal.returns-clause-noted
+returns-clause-noted c =
+    let is = c.counted-counted.ensures ∙ ap (λ (e : Entries). e.counted) (advance_places c.args.formula.now.vars c.args.formula.now.clauses
+    c.args.occurrences.now
     c.args.trail.now.items c.args.front c.index.result.now c.negated-l.result c.word.result c.index-occurrences-word.result c.requires.occurrences
     c.requires.counted.table.there c.requires.there c.index.ensures c.negated-l.ensures c.word.ensures.value c.index-occurrences-word.is) in
-    takes_places c.args.formula.now.clauses (negate c.index.result.now) c.args.taken.now.items c.extend_from_slice.new.self.items c.args.counts.now
-    c.count_each.new.counts (c.in_ok-extend_from_slice.ensures.items ∙ ap (λ (ns : List ℕ). c.args.taken.now.items ++ ns) is)
+    notes_places c.args.formula.now.clauses (negate c.index.result.now) c.args.noted.now.items c.extend_from_slice.new.self.items c.args.counts.now
+    c.count_each.new.counts (c.in_ok-extend_from_slice.ensures.items ∙ ap (λ (ns : List ℕ). c.args.noted.now.items ++ ns) is)
     (subst (λ (ns : List ℕ). CountedUp ns c.count_each.new.counts c.args.counts.now) is c.in_ok-found.ensures.counted)

@@ -7,16 +7,16 @@ use Rattle.refute_check.proofs.propagation.propagate.Goals as goal
 
 pub loop-front-init : goal.loop-front-init
 loop-front-init c = propagated_none c.args.formula.now.vars c.args.formula.now.clauses c.args.trail.now.items c.args.truth.now c.args.counts.now
-    c.args.taken.now.items c.args.from c.requires.counted c.requires.quiet
+    c.args.noted.now.items c.args.from c.requires.counted c.requires.quiet
 
 pub loop-front-preserved : goal.loop-front-preserved
 loop-front-preserved c =
     let next = c.in_ok-found.ensures.next c.if-found.false in
     rw next (propagated_more c.args.formula.now.vars c.args.formula.now.clauses c.args.trail.now.items c.loop-front.trail.items c.advance.new.trail.items
-    c.loop-front.truth c.advance.new.truth c.args.counts.now c.args.taken.now.items c.loop-front.counts c.loop-front.taken.items c.advance.new.counts
-    c.advance.new.taken.items c.args.from c.loop-front.front
+    c.loop-front.truth c.advance.new.truth c.args.counts.now c.args.noted.now.items c.loop-front.counts c.loop-front.noted.items c.advance.new.counts
+    c.advance.new.noted.items c.args.from c.loop-front.front
     c.loop-front.invariant (rw next at c.in_ok-found.ensures.counted) (c.in_ok-found.ensures.quiet c.if-found.false) c.in_ok-found.ensures.grows
-    c.in_ok-found.ensures.taken)
+    c.in_ok-found.ensures.noted)
 
 pub loop-front-smaller : goal.loop-front-smaller
 loop-front-smaller c =
@@ -57,8 +57,8 @@ returns-clause-grows c = c.loop-front.invariant.grows
 pub returns-clause-falsified : goal.returns-clause-falsified
 returns-clause-falsified c = λ e. absurd (false≢true e)
 
-pub returns-then-found-clause-taken : goal.returns-then-found-clause-taken
-returns-then-found-clause-taken c = λ before h. c.in_ok-found.ensures.taken before (let p = c.loop-front.invariant in p.taken before h)
+pub returns-then-found-clause-noted : goal.returns-then-found-clause-noted
+returns-then-found-clause-noted c = λ before h. c.in_ok-found.ensures.noted before (let p = c.loop-front.invariant in p.noted before h)
 
-pub returns-clause-taken : goal.returns-clause-taken
-returns-clause-taken c = c.loop-front.invariant.taken
+pub returns-clause-noted : goal.returns-clause-noted
+returns-clause-noted c = c.loop-front.invariant.noted

@@ -26,5 +26,5 @@ returns-in_ok-reply-in-Ok-None c =
     (c.in_ok-reply-in-Ok-None.ensures, lacking_not_done g o said c.args.log.now reply.status reply.text.items lacks c.in_ok-reply-in-Ok-None.ensures)
 
 pub refused_claim-requires-clause-fault : goal.refused_claim-requires-clause-fault
-refused_claim-requires-clause-fault c = λ is. passes_for c.args.station.now.graph c.args.station.now.order c.args.sheet.now _ c.args.log.now c.in-Err.fault
-    c.sheet.view_is is c.in-Err.ensures.limits
+refused_claim-requires-clause-fault c = λ is. passes_for c.args.station.now.graph c.args.station.now.order c.args.sheet.now _
+    c.claim_of-claim.result c.args.log.now c.in-Err.fault c.sheet.view_is c.claim_of-claim.ensures is c.in-Err.ensures.limits

@@ -8,9 +8,9 @@ use Rattle.run_input.specs.Answer.{log_input}
 use Rattle.run_input.proofs.AnswerLemmas.{leaves_same}
 use Rattle.run_input.proofs.ThreeFilesLemmas.{unread_answer}
 use Rattle.run_check.specs.declared.trimming.Finding.TheVariants.{Answered, Left, PastLimits}
-use Rattle.run_check.specs.Trimmed.{LeavesLines, HasReadLeft, AreTrimmed}
+use Rattle.run_check.specs.Trimmed.{LeavesLines, HasReadLeft, FilesPassLimits, AreTrimmed}
 use Rattle.run_check.specs.Finding.{IsFinding}
-use Rattle.run_check.proofs.TrimmedLemmas.{finding_of, answered_trim, left_trim}
+use Rattle.run_check.proofs.TrimmedLemmas.{finding_of, answered_trim, left_trim, no_room_trim}
 use Rattle.run_check.proofs.WrittenLemmas.{trim_leaves, never_other, never_unwritten}
 use Rattle.run_check.proofs.trimming.trim.Goals as goal
 
@@ -26,24 +26,26 @@ returns-in-Answered-clause-answer g c =
     (between (at c.args.files.now) (at c.read_all.new.files)) c.in-Answered.reply c.in-Ok.ensures.inputs c.in-Ok.ensures.reads
     found
 
-pub returns-in-PastLimits-clause-limits : goal.returns-in-PastLimits-clause-limits
-returns-in-PastLimits-clause-limits g c = λ k.
+pub returns-in-PastLimits-clause-answer : goal.returns-in-PastLimits-clause-answer
+returns-in-PastLimits-clause-answer g c =
+    let at = g.F.Files.at in
     let texts = c.in-Ok.texts in
-    record {
-      read = c.in-Ok.ensures.reads;
-      bytes = texts.first.items;
-      said = texts.second.items;
-      lines = texts.third.items;
-      files = c.in-Ok.ensures.inputs;
-      passes =
-          finding_of texts.first.items texts.second.items texts.third.items c.deref.result.now c.deref-in-Ok.result.now c.deref-in-Ok-2.result.now
-          c.in_ok-reply-in-Ok.field-0 PastLimits c.deref.ensures.value c.deref-in-Ok.ensures.value
-          c.deref-in-Ok-2.ensures.value c.in-PastLimits.is c.in_ok-reply-in-Ok.ensures;
-    }
+    let reply = c.in_ok-reply-in-PastLimits.reply in
+    let passes : FilesPassLimits texts.first.items texts.second.items texts.third.items =
+    finding_of texts.first.items texts.second.items texts.third.items c.deref.result.now c.deref-in-Ok.result.now c.deref-in-Ok-2.result.now
+    c.in_ok-reply-in-Ok.field-0 PastLimits c.deref.ensures.value c.deref-in-Ok.ensures.value
+    c.deref-in-Ok-2.ensures.value c.in-PastLimits.is c.in_ok-reply-in-Ok.ensures in
+    no_room_trim c.args.input.now c.args.sheet.now c.args.log.now c.args.hints.now texts.first.items texts.second.items texts.third.items
+    (between (at c.args.files.now) (at c.read_all.new.files)) reply.status reply.text.items c.in-Ok.ensures.inputs c.in-Ok.ensures.reads
+    passes c.in_ok-reply-in-PastLimits.ensures
 
 pub returns-in-PastLimits-clause-leaves : goal.returns-in-PastLimits-clause-leaves
-returns-in-PastLimits-clause-leaves g c = leaves_same _ (g.F.Files.at c.args.files.now).contents (g.F.Files.at c.read_all.new.files).contents
-    c.in-Ok.ensures.same
+returns-in-PastLimits-clause-leaves g c = leaves_same _ (g.F.Files.at c.args.files.now).contents
+    (g.F.Files.at c.read_all.new.files).contents c.in-Ok.ensures.same
+
+pub returns-in_err-reply-in-PastLimits-clause-leaves : goal.returns-in_err-reply-in-PastLimits-clause-leaves
+returns-in_err-reply-in-PastLimits-clause-leaves g c = leaves_same _ (g.F.Files.at c.args.files.now).contents
+    (g.F.Files.at c.read_all.new.files).contents c.in-Ok.ensures.same
 
 pub returns-in-Ok-clause-answer : goal.returns-in-Ok-clause-answer
 returns-in-Ok-clause-answer g c =

@@ -1,5 +1,5 @@
 use Rattle.refute_check.proofs.CheckerLemmas.{answer_ok, answer_new_var, answer_wrong_query, answer_room, answer_not_implied, answer_not_new, answer_refused}
-use Rattle.refute_check.proofs.CheckerLemmas.{answer_finite}
+use Rattle.refute_check.proofs.CheckerLemmas.{answer_finite, answer_stays}
 use Rattle.refute_check.proofs.checker.Checker.feed.Goals as goal
 
 pub returns-in_default-2-clause-ok : goal.returns-in_default-2-clause-ok
@@ -27,3 +27,6 @@ returns-in_default-2-clause-refused c = answer_refused c.args.self.now c.judge-j
 
 pub returns-in_default-2-clause-finite : goal.returns-in_default-2-clause-finite
 returns-in_default-2-clause-finite c = answer_finite c.args.self.now c.judge-judged.new.self c.args.line.now c.judge-judged.result c.judge-judged.ensures
+
+pub returns-in_default-2-clause-stays : goal.returns-in_default-2-clause-stays
+returns-in_default-2-clause-stays c = answer_stays c.args.self.now c.judge-judged.new.self c.args.line.now c.judge-judged.result c.judge-judged.ensures

@@ -16,4 +16,4 @@ keep-requires-clause-there c =
 pub returns : goal.returns
 returns c =
     formula_accepts c.args.self.now c.keep.new.self c.args.clause.now c.as_slice-lits.result.now c.greatest-most.result c.as_slice-lits.ensures.value
-    c.greatest-most.ensures c.if-most-gt-VARS.false (c.lacks_room.ensures.no c.if-lacks_room.false) c.in_ok-keep.ensures
+    c.greatest-most.ensures c.if-most-gt-VARS.false (c.lacks_room.ensures.no c.if-lacks_room.false) c.in_ok-keep.ensures.kept

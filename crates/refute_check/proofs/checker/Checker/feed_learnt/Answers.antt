@@ -60,4 +60,4 @@ returns-in_ok-keep-in-New c =
     let judged : HasNovelty c.args.self.now.facts.clauses c.as_slice-lits.result.now New = rw c.in-New.is at c.in_ok-novelty.ensures.novelty in
     learnt_accepts c.args.self.now c.args.self.now c.novelty_of.new.self c.keep.new.self c.args.clause.now c.as_slice-lits.result.now
     c.as_slice-lits.ensures.value refl c.in_ok-novelty.ensures.same named (c.lacks_room.ensures.no c.if-lacks_room.false) judged.0 judged.1
-    c.in_ok-keep-in-New.ensures
+    c.in_ok-keep-in-New.ensures.kept

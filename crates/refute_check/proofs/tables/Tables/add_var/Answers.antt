@@ -8,7 +8,7 @@ returns c =
     var_added c.args.formula.now.vars c.args.formula.now.clauses c.args.self.now (record {
       occurrences = c.push-2.new.self;
       counts = c.args.self.now.counts;
-      taken = c.args.self.now.taken;
+      noted = c.args.self.now.noted;
       truth = c.push-4.new.self;
       trail = c.args.self.now.trail;
       ahead = c.args.self.now.ahead;

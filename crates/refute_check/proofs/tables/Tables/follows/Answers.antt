@@ -5,7 +5,7 @@ use Rattle.cnf_core.proofs.PropagationLemmas.{closure_unfalsified}
 use Rattle.cnf_core.specs.Formula.{IsFormula}
 use Rattle.cnf_core.specs.Trail.{IsTrail}
 use Rattle.refute_check.proofs.SupposeLemmas.{settled_again}
-use Rattle.refute_check.proofs.TakenLemmas.{taken_before, taken_there, taken_small}
+use Rattle.refute_check.proofs.NotedLemmas.{noted_before, noted_there, noted_small}
 use Rattle.refute_check.proofs.tables.Tables.follows.Goals as goal
 
 pub take_back-requires-clause-trail : goal.take_back-requires-clause-trail
@@ -16,8 +16,8 @@ take_back-requires-clause-there c =
     let old = c.args.self.now in
     let mid = c.suppose.new.self in
     let clauses = c.args.formula.now.clauses in
-    taken_there clauses mid.taken.items mid.counts.items old.counts.items
-    (taken_before clauses old.taken.items old.counts.items mid.taken.items mid.counts.items c.requires.settled.untaken c.in_ok-falsified.ensures.taken)
+    noted_there clauses mid.noted.items mid.counts.items old.counts.items
+    (noted_before clauses old.noted.items old.counts.items mid.noted.items mid.counts.items c.requires.settled.unnoted c.in_ok-falsified.ensures.noted)
     c.in_ok-falsified.ensures.counted.right.size
 
 pub take_back-requires-clause-small : goal.take_back-requires-clause-small
@@ -28,8 +28,8 @@ take_back-requires-clause-small c =
     let f : IsFormula c.args.formula.now = c.vars.ensures.formula in
     let within = f.within_room in
     let limit = f.room_limit in
-    taken_small clauses (has (take (length old.trail.items) old.trail.items)) mid.taken.items mid.counts.items old.counts.items
-    (taken_before clauses old.taken.items old.counts.items mid.taken.items mid.counts.items c.requires.settled.untaken c.in_ok-falsified.ensures.taken)
+    noted_small clauses (has (take (length old.trail.items) old.trail.items)) mid.noted.items mid.counts.items old.counts.items
+    (noted_before clauses old.noted.items old.counts.items mid.noted.items mid.counts.items c.requires.settled.unnoted c.in_ok-falsified.ensures.noted)
     c.requires.settled.counted.right (omega (arith, within, limit))
 
 pub returns-clause-settled : goal.returns-clause-settled
@@ -39,9 +39,9 @@ returns-clause-settled c =
     let mid = c.suppose.new.self in
     let table = subst (λ n. IsTrail n new.truth.items new.trail.items) c.vars.ensures.value c.take_back.ensures.trail in
     settled_again c.args.formula.now.vars c.args.formula.now.clauses c.args.self.now c.take_back.new.self c.suppose.new.self.trail.items mid.counts.items
-    mid.taken.items c.len-level.result level c.requires.settled (c.take_back.ensures.same ∙ c.in_ok-falsified.ensures.same) table
-    c.in_ok-falsified.ensures.taken
-    c.in_ok-falsified.ensures.counted.right.size c.take_back.ensures.counts c.take_back.ensures.size c.take_back.ensures.untaken c.take_back.ensures.rest
+    mid.noted.items c.len-level.result level c.requires.settled (c.take_back.ensures.same ∙ c.in_ok-falsified.ensures.same) table
+    c.in_ok-falsified.ensures.noted
+    c.in_ok-falsified.ensures.counted.right.size c.take_back.ensures.counts c.take_back.ensures.size c.take_back.ensures.unnoted c.take_back.ensures.rest
     c.in_ok-falsified.ensures.front
 
 pub returns-clause-no : goal.returns-clause-no

@@ -14,7 +14,7 @@ returns c =
     listed c.args.formula.now.vars clauses c.args.lits.now c.count_open-count.result c.args.self.now (record {
       occurrences = c.list_clause.new.occurrences;
       counts = c.push.new.self;
-      taken = c.args.self.now.taken;
+      noted = c.args.self.now.noted;
       truth = c.args.self.now.truth;
       trail = c.args.self.now.trail;
       ahead = c.args.self.now.ahead;

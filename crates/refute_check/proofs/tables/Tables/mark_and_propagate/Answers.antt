@@ -2,7 +2,7 @@ use Rattle.std.proofs.Common.{◌≡◌, ◌∙◌, List, arith, length, subst, 
 use Rattle.cnf_core.specs.Lit.{Literal}
 use Rattle.cnf_core.specs.Trail.{IsTrail, Grows}
 use Rattle.refute_check.proofs.SupposeLemmas.{written_back}
-use Rattle.refute_check.proofs.TakenLemmas.{takes_written}
+use Rattle.refute_check.proofs.NotedLemmas.{notes_written}
 use Rattle.refute_check.proofs.AddLemmas.{unit_counted}
 use Rattle.refute_check.proofs.tables.Tables.mark_and_propagate.Goals as goal
 
@@ -41,9 +41,9 @@ returns-clause-all c = c.in_ok-reached.ensures.all
 pub returns-clause-quiet : goal.returns-clause-quiet
 returns-clause-quiet c = c.in_ok-reached.ensures.quiet
 
-pub returns-clause-taken : goal.returns-clause-taken
-returns-clause-taken c =
+pub returns-clause-noted : goal.returns-clause-noted
+returns-clause-noted c =
     let size : length c.propagate.new.counts ≡ c.args.self.now.counts.len = c.propagate.auto.counts ∙ c.deref_mut-2.ensures.len in
-    takes_written c.args.formula.now.clauses c.args.self.now.taken.items c.args.self.now.counts.items c.deref_mut-2.result.now c.propagate.new.taken.items
-    c.propagate.new.counts (drop (length c.propagate.new.counts) c.args.self.now.counts.items) c.args.self.now.counts.len c.in_ok-reached.ensures.taken
+    notes_written c.args.formula.now.clauses c.args.self.now.noted.items c.args.self.now.counts.items c.deref_mut-2.result.now c.propagate.new.noted.items
+    c.propagate.new.counts (drop (length c.propagate.new.counts) c.args.self.now.counts.items) c.args.self.now.counts.len c.in_ok-reached.ensures.noted
     c.deref_mut-2.ensures.value size

@@ -23,7 +23,7 @@ returns-clause-settled c = λ f.
     settled_unit c.args.formula.now.vars c.args.formula.now.clauses c.args.lits.now c.args.l c.args.self.now (record {
       occurrences = new.occurrences;
       counts = new.counts;
-      taken = c.clear.new.self;
+      noted = c.clear.new.self;
       truth = new.truth;
       trail = new.trail;
       ahead = new.ahead;

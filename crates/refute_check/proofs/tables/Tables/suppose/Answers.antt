@@ -2,7 +2,7 @@ use Rattle.std.proofs.Common.{◌≡◌, ◌∙◌, arith, length, subst, drop}
 use Rattle.cnf_core.specs.Trail.{IsTrail}
 use Rattle.refute_check.proofs.SupposeLemmas.{assumed_counted, assumed_quiet, clash_falsifies, supposed_falsifies, supposed_closure, supposed_front}
 use Rattle.refute_check.proofs.SupposeLemmas.{written_back}
-use Rattle.refute_check.proofs.TakenLemmas.{takes_written}
+use Rattle.refute_check.proofs.NotedLemmas.{notes_written}
 use Rattle.refute_check.proofs.NoveltyLemmas.{supposed_reasoned}
 use Rattle.refute_check.proofs.tables.Tables.suppose.Goals as goal
 
@@ -50,12 +50,12 @@ pub returns-clause-reasoned : goal.returns-clause-reasoned
 returns-clause-reasoned c = λ _. supposed_reasoned c.args.formula.now.clauses c.args.self.now.trail.items c.assume_false.new.trail.items
     c.propagate.new.trail.items c.args.lits.now c.requires.settled.reasoned c.in_ok-clash.ensures.assumes c.in_ok-reached.ensures.grows
 
-pub returns-then-clash-clause-taken : goal.returns-then-clash-clause-taken
-returns-then-clash-clause-taken c = λ _ h. h
+pub returns-then-clash-clause-noted : goal.returns-then-clash-clause-noted
+returns-then-clash-clause-noted c = λ _ h. h
 
-pub returns-clause-taken : goal.returns-clause-taken
-returns-clause-taken c =
+pub returns-clause-noted : goal.returns-clause-noted
+returns-clause-noted c =
     let size : length c.propagate.new.counts ≡ c.args.self.now.counts.len = c.propagate.auto.counts ∙ c.deref_mut-2.ensures.len in
-    takes_written c.args.formula.now.clauses c.args.self.now.taken.items c.args.self.now.counts.items c.deref_mut-2.result.now c.propagate.new.taken.items
-    c.propagate.new.counts (drop (length c.propagate.new.counts) c.args.self.now.counts.items) c.args.self.now.counts.len c.in_ok-reached.ensures.taken
+    notes_written c.args.formula.now.clauses c.args.self.now.noted.items c.args.self.now.counts.items c.deref_mut-2.result.now c.propagate.new.noted.items
+    c.propagate.new.counts (drop (length c.propagate.new.counts) c.args.self.now.counts.items) c.args.self.now.counts.len c.in_ok-reached.ensures.noted
     c.deref_mut-2.ensures.value size

@@ -57,5 +57,5 @@ returns-in_ok-weighed-in-Unset-clause-counted c = c.in_ok-weighed-in-Unset.ensur
 pub returns-in_ok-weighed-in-Unset-clause-novelty : goal.returns-in_ok-weighed-in-Unset-clause-novelty
 returns-in_ok-weighed-in-Unset-clause-novelty c = c.in_ok-weighed-in-Unset.ensures.novelty
 
-pub returns-in_ok-weighed-in-Unset-clause-taken : goal.returns-in_ok-weighed-in-Unset-clause-taken
-returns-in_ok-weighed-in-Unset-clause-taken c = λ before h. c.in_ok-weighed-in-Unset.ensures.taken before (c.in_ok-falsified.ensures.taken before h)
+pub returns-in_ok-weighed-in-Unset-clause-noted : goal.returns-in_ok-weighed-in-Unset-clause-noted
+returns-in_ok-weighed-in-Unset-clause-noted c = λ before h. c.in_ok-weighed-in-Unset.ensures.noted before (c.in_ok-falsified.ensures.noted before h)
