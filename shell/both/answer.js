@@ -4,7 +4,7 @@
  * proved.
  */
 import { ENDINGS } from "./manual.js";
-import { linesOf, notesOf } from "./messages/telling.js";
+import { isAnswer, linesOf, notesOf } from "./messages/telling.js";
 import { NoPage, VALUES, readFront, readGraph, readMoved, readSignals, readVerdict, readWhy } from "./page/texts.js";
 import { VERSION } from "./version.js";
 
@@ -172,6 +172,8 @@ function faultOf([kind, ...rest]) {
             return { kind: "law", number: Number(rest[1]), name: "", place: null };
         case "check":
             return { kind, number: null, name: rest[0], place: Number(rest[2]) };
+        case "trim":
+            return { kind, number: null, name: rest[0], place: null };
         case "words":
             return { kind, number: Number(rest[0]), name: rest[1], place: Number(rest[2]) };
         case "text":
@@ -202,11 +204,11 @@ function meaningOf(status) {
  */
 export async function answerOf(run, program) {
     const { line, status } = run, said = linesOf(run.output), output = decoder.decode(run.output);
-    const isAnswer = [0, 3, 4].includes(status) && !said[0]?.startsWith("check ");
+    const hasAnswer = isAnswer(status, said);
     const notes = status === STOPPED ? [] : (await notesOf(run)).map(saidOf);
     const common = { railplan: VERSION, words: line.words, status, means: meaningOf(status), program, output };
-    const fields = isAnswer || said[0]?.startsWith("broken law ") ? fieldsOf(line.command, output) : {};
-    if (isAnswer) {
+    const fields = hasAnswer || said[0]?.startsWith("broken law ") ? fieldsOf(line.command, output) : {};
+    if (hasAnswer) {
         return { ...common, fault: null, notes, ...fields };
     }
     const [first = saidOf({ text: meaningOf(status) }), ...others] = notes;

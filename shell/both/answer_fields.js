@@ -17,8 +17,9 @@ export default [
     [
         "fault.kind", "text",
         [
-            "`words`, `read`, `long`, `text`, `topology`, `graph`, `order`, `signal`, `sheet`, `law`, `log`, `hints` or",
-            "`check`, as the line of the fault begins; `run` where there is no line, `launcher` where the launcher refused"
+            "`words`, `read`, `long`, `text`, `topology`, `graph`, `order`, `signal`, `sheet`, `law`, `log`, `hints`,",
+            "`check` or `trim`, as the line of the fault begins; `run` where there is no line, `launcher` where the launcher",
+            "refused"
         ]
     ],
     ["fault.number", "number or null", "the number of the fault, or of the broken law"],

@@ -6,13 +6,26 @@ import { Place } from "./places.js";
 
 // one sign for each byte; blanks are named by their codes, as some bytes are no blank that would be one as a sign
 const single = new TextDecoder("latin1");
+const decoder = new TextDecoder();
 const TAG = /<[^ \t-\r/>]+(?:[ \t-\r]+[^ \t-\r=<>]+[ \t-\r]*=[ \t-\r]*(?:"[^"]*"|'[^']*'))*[ \t-\r]*\/?>/y;
 const LINE_FEED = 10, SLASH = 47;
+/** of each so many bytes the line and the column are kept */
+const STEP = 4096;
 const REFERENCES = new Map([["&", "&amp;"], ["<", "&lt;"], [">", "&gt;"], ['"', "&quot;"], ["'", "&apos;"]]);
 
 /** @param {string} text @returns {string} a value of an attribute as it is written */
 function valueText(text) {
     return text.replace(/[&<>"']/g, (it) => REFERENCES.get(it) ?? it);
+}
+
+/** @type {Map<string, RegExp>} */
+const patterns = new Map();
+
+/** @param {string} name of an attribute @returns {RegExp} the attribute in a tag */
+function valuePattern(name) {
+    const known = patterns.get(name) ?? new RegExp(`([ \\t-\\r]${name}[ \\t-\\r]*=[ \\t-\\r]*)(?:"([^"]*)"|'([^']*)')`);
+    patterns.set(name, known);
+    return known;
 }
 
 /**
@@ -81,7 +94,8 @@ export class Edits {
         this.signs = single.decode(data);
         /** @type {Moved[]} */
         this.moved = [];
-        this.last = { place: 0, line: 1, column: 0 };
+        /** @type {{line: number, column: number}[]} those of each so many bytes of the file that was read */
+        this.steps = [];
     }
 
     /** @param {Edit[]} edits */
@@ -140,7 +154,7 @@ export class Edits {
     between(from, to, edits) {
         const within = edits.filter(({ begun, ended }) => begun >= from && ended <= to)
             .map((edit) => ({ ...edit, begun: edit.begun - from, ended: edit.ended - from }));
-        return new TextDecoder().decode(replaced(this.data.subarray(from, to), sorted(within)));
+        return decoder.decode(replaced(this.data.subarray(from, to), sorted(within)));
     }
 
     /** @param {Element} it @returns {Edit} that it isn't there, and its line neither where nothing else is on it */
@@ -174,7 +188,7 @@ export class Edits {
     valueIn(place, name) {
         TAG.lastIndex = place;
         const tag = TAG.exec(this.signs)?.[0] ?? "";
-        const found = new RegExp(`([ \\t-\\r]${name}[ \\t-\\r]*=[ \\t-\\r]*)(?:"([^"]*)"|'([^']*)')`).exec(tag);
+        const found = valuePattern(name).exec(tag);
         if (!found) {
             return null;
         }
@@ -188,21 +202,32 @@ export class Edits {
     }
 
     /**
-     * The name, line and column of a byte that was read, counted on from the place that was asked for last: they are many.
+     * The name, line and column of a byte that was read. They are many, and in any order: so they are counted on from the last of some
+     * places of which it is known.
      * @param {number} place @returns {string}
      */
     head(place) {
-        let { place: at, line, column } = place >= this.last.place ? this.last : { place: 0, line: 1, column: 0 };
-        if (at === 0 && this.signs.length && this.source[0] === 0xef && this.source[1] === 0xbb && this.source[2] === 0xbf) {
-            at = Math.min(3, place);
+        const { source, steps } = this;
+        if (!steps.length) {
+            const hasMark = source[0] === 0xef && source[1] === 0xbb && source[2] === 0xbf;
+            steps.push({ line: 1, column: hasMark ? -1 : 0 });
         }
-        for (; at < place; at++) {
+        for (let step = steps.length; step * STEP <= place; step++) {
+            steps.push(this.counted(steps[step - 1], (step - 1) * STEP, step * STEP));
+        }
+        const step = Math.floor(place / STEP), { line, column } = this.counted(steps[step], step * STEP, place);
+        return new Place(this.name, line, Math.max(column, 0) + 1, "").head();
+    }
+
+    /** @param {{line: number, column: number}} from @param {number} begun the byte where that is @param {number} ended
+     * @returns {{line: number, column: number}} line and column of another byte behind it */
+    counted({ line, column }, begun, ended) {
+        for (let at = begun; at < ended; at++) {
             const byte = this.source[at];
             // a byte that continues a sign takes no column
             column = byte === LINE_FEED ? 0 : column + Number((byte & 0xc0) !== 0x80);
             line += Number(byte === LINE_FEED);
         }
-        this.last = { place, line, column };
-        return new Place(this.name, line, column + 1, "").head();
+        return { line, column };
     }
 }

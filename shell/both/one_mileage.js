@@ -19,6 +19,8 @@ const SAME = 0.001;
 const NEAR = 1;
 /** a track's length is so near to its mileages, as in a curve */
 const PART = 0.1;
+/** of so many tracks each is tried as the one by which the others are judged */
+const TRIED = 24;
 
 /** what was counted before: an element stays as it was read
  * @type {WeakMap<Element, number | null>} */
@@ -71,6 +73,34 @@ function isFit(gap, length) {
     return Math.abs(gap) <= Math.max(NEAR, length * PART);
 }
 
+/** @param {Element} it @param {Element} connection @param {Element} [turned] @returns {Way} to which end of its track one
+ * leaves it, seen from the other track */
+function wayOut(it, connection, turned) {
+    if (railml.ENDS.includes(it.name)) {
+        return it.name === "trackEnd" ? 1 : -1;
+    }
+    return (connection.attributes.get("orientation") === "outgoing") !== (it === turned) ? 1 : -1;
+}
+
+/**
+ * What is joined to a track, and which way it leads: what leads out here leads in there.
+ * @param {TrackGraph} graph @param {Element} track @param {Way} way whether the track rises
+ * @param {Element} [turned] a switch or crossing whose connections lead the other way
+ * @returns {Generator<{here: Element, there: Element, next: Element, nextWay: Way}>} a place of the track, that to which it is
+ * joined, the track of this and its way
+ */
+export function* joinsOf(graph, track, way, turned) {
+    for (const here of spotsOf(track)) {
+        for (const connection of here.named("connection")) {
+            const other = graph.other(connection), there = other?.parent, next = there?.above("track");
+            if (other && there && next && spotsOf(next).length) {
+                yield { here, there, next, nextWay: /** @type {Way} */ (-way * wayOut(here, connection, turned)
+                    * wayOut(there, other, turned)) };
+            }
+        }
+    }
+}
+
 /** The tracks that are joined to one: which way each leads and where it is, with one change of the file or none. */
 export class Layout {
     /** @param {TrackGraph} graph @param {Element} first @param {Change} [change] */
@@ -89,6 +119,8 @@ export class Layout {
         this.backs = [];
         /** whether all mileages of the file fit, but for those of the track that is counted anew */
         this.fits = true;
+        /** @type {Element[]} tracks whose mileages aren't those of their joins and lengths */
+        this.odd = [];
         /** @type {Element[]} places of the track that is counted anew whose mileages others give */
         this.fixed = [];
         const [begin] = spotsOf(first);
@@ -97,14 +129,20 @@ export class Layout {
             this.follow(track);
         }
         this.spread();
-        this.fits &&= [...this.ways].every(([track, way]) => track === anew || this.isOrdered(track, way));
+        const disordered = [...this.ways.keys()].filter((track) => track !== anew && this.disorderOf(track).length);
+        this.fits &&= !disordered.length;
+        this.odd = this.odd.length ? this.odd : disordered;
     }
 
-    /** @param {Element} track @param {Way} way @returns {boolean} whether its places follow one another as the program has
-     * them */
-    isOrdered(track, way) {
-        const seen = spotsOf(track).map((it) => Number(mileageOf(this.graph.node(it))));
-        return seen.every((it, at) => !at || way * (it - seen[at - 1]) >= 0);
+    /** @param {Element} track @returns {[Element, number][]} two places of it that don't follow one another as the program has
+     * them, with their mileages; none where all do */
+    disorderOf(track) {
+        const way = this.ways.get(track) ?? 1, seen = spotsOf(track).map((it) => {
+            const node = this.graph.node(it), isAnew = node.above("track") === this.anew;
+            return /** @type {[Element, number]} */ ([it, Number(isAnew ? this.mileages.get(node) : mileageOf(node))]);
+        });
+        const behind = seen.findIndex(([, mileage], at) => at > 0 && way * (mileage - seen[at - 1][1]) < 0);
+        return behind < 0 ? [] : seen.slice(behind - 1, behind + 1);
     }
 
     /** @param {Element} track @returns {Way | 0} which way its own mileages go; 0 where they go to and fro, or are too few */
@@ -138,6 +176,9 @@ export class Layout {
             && going.every((it, at) => !at || way * (it - going[at - 1]) >= 0);
         const isAnew = track === this.anew;
         this.fits &&= isGood || isAnew;
+        if (!isGood && !isAnew && !this.isLoose(track, going, way)) {
+            this.odd.push(track);
+        }
         for (const { it, counted, given } of spots) {
             this.mileages.set(it, isAnew || !isGood ? counted : given ?? counted);
         }
@@ -146,34 +187,25 @@ export class Layout {
         }
     }
 
-    /** @param {Element} it @param {Element} connection @returns {Way} to which end of its track one leaves it, seen from the
-     * other track */
-    wayOut(it, connection) {
-        if (railml.ENDS.includes(it.name)) {
-            return it.name === "trackEnd" ? 1 : -1;
-        }
-        return (connection.attributes.get("orientation") === "outgoing") !== (it === this.turned) ? 1 : -1;
+    /** @param {Element} track @param {number[]} going its mileages @param {Way} way @returns {boolean} whether its mileages fit
+     * but for the place that it is joined to, whose mileage isn't written */
+    isLoose(track, going, way) {
+        const join = this.joins.get(track), other = join?.other.attributes.has("absPos") ? null : join?.other.above("track");
+        const own = join && this.given(join.own), there = join && this.mileages.get(join.other);
+        return Boolean(other) && isFit(own === null ? 0 : Number(own) - Number(there), lengthOf(/** @type {Element} */ (other)))
+            && going.every((it, at) => !at || way * (it - going[at - 1]) >= 0);
     }
 
     /** @param {Element} track counts what is joined to a track */
     follow(track) {
-        const way = this.ways.get(track) ?? 1;
-        for (const here of spotsOf(track)) {
-            for (const connection of here.named("connection")) {
-                const other = this.graph.other(connection), there = other?.parent, next = there?.above("track");
-                if (!other || !there || !next || !spotsOf(next).length) {
-                    continue;
-                }
-                // what leads out here leads in there
-                const nextWay = /** @type {Way} */ (-way * this.wayOut(here, connection) * this.wayOut(there, other));
-                if (!this.ways.has(next)) {
-                    this.joins.set(next, { own: there, other: here });
-                    this.count(next, nextWay, there, this.mileages.get(here) ?? 0);
-                } else if (this.ways.get(next) !== nextWay) {
-                    this.backs.push({ own: there, other: here });
-                } else {
-                    this.close(here, there);
-                }
+        for (const { here, there, next, nextWay } of joinsOf(this.graph, track, this.ways.get(track) ?? 1, this.turned)) {
+            if (!this.ways.has(next)) {
+                this.joins.set(next, { own: there, other: here });
+                this.count(next, nextWay, there, this.mileages.get(here) ?? 0);
+            } else if (this.ways.get(next) !== nextWay) {
+                this.backs.push({ own: there, other: here });
+            } else {
+                this.close(here, there);
             }
         }
     }
@@ -212,8 +244,27 @@ export class Layout {
     }
 }
 
-/** @typedef {{plain: Layout, turned: Element[], anew: Map<Element, Layout>}} Changes what is joined to a track as the file has
- * it; each switch that alone mends it when it is turned, and each track that does when it is counted anew */
+/** @typedef {{plain: Layout, turned: Element[], anew: Map<Element, Layout>, odd: Map<Element, Layout>}} Changes what is joined
+ * to a track as the file has it; each switch that alone mends it when it is turned, and each track that does when it is counted
+ * anew; and the tracks whose kilometres contradict the others', with how these have them: more than one of them may be right
+ * where as much speaks for each */
+
+/** @param {Element[]} tracks @returns {number} how many mileages the file writes along tracks */
+function writtenAlong(tracks) {
+    return tracks.flatMap(spotsOf).filter((it) => it.attributes.has("absPos")).length;
+}
+
+/**
+ * The tracks whose kilometres contradict those of the others: as few as may be, by the mileages that are written along them.
+ * @param {TrackGraph} graph @param {Element[]} placed the tracks with mileages
+ * @returns {Map<Element, Layout>} each with the others' layout; all that may be them where the file can't say which
+ */
+function oddOf(graph, placed) {
+    const layouts = placed.slice(0, TRIED).map((it) => new Layout(graph, it)).filter((it) => it.odd.length);
+    const counts = layouts.map((it) => writtenAlong(it.odd)), least = Math.min(...counts);
+    const found = layouts.filter((_, at) => counts[at] === least);
+    return new Map(found.flatMap((it) => it.odd.map((track) => /** @type {[Element, Layout]} */ ([track, it]))));
+}
 
 /**
  * Each single change of the tracks that are joined to one which has all of them fit.
@@ -230,12 +281,14 @@ export function changesOf(document, within) {
     if (plain.isMended) {
         return null;
     }
+    // a track with one mileage alone is read as if it rose
+    const placed = [...rising, ...part.filter((it) => !rising.includes(it) && writtenAlong([it]))];
     const points = part.flatMap(railml.points);
     const turned = points.filter((it) => new Layout(graph, rising[0] ?? within, { turned: it }).isMended);
     const anew = plain.backs.length ? [] : part.flatMap((track) => {
-        const first = rising.find((it) => it !== track), layout = first && new Layout(graph, first, { anew: track });
+        const first = placed.find((it) => it !== track), layout = first && new Layout(graph, first, { anew: track });
         const isNew = layout?.isMended && layout.others(track).some((it) => graph.node(it) === it);
         return isNew ? /** @type {[Element, Layout][]} */ ([[track, layout]]) : [];
     });
-    return { plain, turned, anew: new Map(anew) };
+    return { plain, turned, anew: new Map(anew), odd: plain.backs.length ? new Map() : oddOf(graph, placed) };
 }

@@ -33,7 +33,8 @@ export class Element {
 
     /** @param {...string} names @returns {Element[]} the children of these names */
     named(...names) {
-        return this.children.filter((it) => names.includes(it.name));
+        const { children } = this;
+        return children.length ? children.filter((it) => names.includes(it.name)) : [];
     }
 
     /** @param {string} name @returns {Element | null} the element itself or the nearest around it of this name */
@@ -146,18 +147,23 @@ export function byPosition(one, other) {
     return position(one).compare(position(other));
 }
 
+/** @type {Map<Element, string>} */
+const NONE = new Map();
+
 /**
  * An element's absPos; without one its track begin's, as far as the two positions are apart.
  * @param {Element} it
+ * @param {Map<Element, string>} [written] what is to be written as the absPos of some that have none
  * @returns {Decimal | null}
  */
-export function mileage(it) {
-    const own = metres(it.attributes.get("absPos")), track = it.above("track");
+export function mileage(it, written = NONE) {
+    const absPos = (/** @type {Element} */ one) => metres(written.get(one) ?? one.attributes.get("absPos"));
+    const own = absPos(it), track = it.above("track");
     const begin = track && endOf(track, "trackBegin");
     if (own || !begin || begin === it) {
         return own;
     }
-    const base = metres(begin.attributes.get("absPos"));
+    const base = absPos(begin);
     const at = metres(it.attributes.get("pos")), begun = metres(begin.attributes.get("pos"));
     return base && at && begun ? base.plus(at).minus(begun) : null;
 }
@@ -191,12 +197,13 @@ export function byId(document) {
  * The element that a track's begin or end is joined to, with its mileage where the file says it.
  * @param {Map<string, Element>} known the connections by their ids
  * @param {Element} end
+ * @param {Map<Element, string>} [written] what is to be written as the absPos of some that have none
  * @returns {{element: Element, mileage: Decimal} | null}
  */
-export function joinedMileage(known, end) {
+export function joinedMileage(known, end, written = NONE) {
     for (const connection of end.named("connection")) {
         const other = known.get(connection.attributes.get("ref") ?? "")?.parent;
-        const found = other && mileage(other);
+        const found = other && mileage(other, written);
         if (other && found) {
             return { element: other, mileage: found };
         }

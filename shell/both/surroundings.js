@@ -5,6 +5,7 @@
  */
 import { connectionsOf, partnerOf } from "./mending/names.js";
 import { asRead } from "./mending/numbers.js";
+import { firstAt } from "./searching.js";
 import * as railml from "./railml.js";
 
 /** @typedef {import("./railml.js").Element} Element */
@@ -23,6 +24,21 @@ function positionOf(it) {
     return Number(asRead(it.attributes.get("pos") ?? "") || 0);
 }
 
+/**
+ * The places of a track from its begin to its end. `furthest` is the greatest position up to each place but the begin, so it
+ * never falls.
+ * @typedef {{spots: Element[], furthest: number[]}} Places
+ */
+
+/** @param {Element} track @returns {Places} */
+function placesOf(track) {
+    const inner = railml.points(track).map((it) => /** @type {const} */ ([it, positionOf(it)]))
+        .sort(([, one], [, other]) => one - other).map(([it]) => it);
+    const spots = [railml.endOf(track, "trackBegin"), ...inner, railml.endOf(track, "trackEnd")].flatMap((it) => it ?? []);
+    let most = -Infinity;
+    return { spots, furthest: spots.map((it, at) => (at ? most = Math.max(most, positionOf(it)) : most)) };
+}
+
 /** A file's tracks, walked along. A ref that names what a connection belongs to is followed too. */
 export class Walked {
     /** @param {Document} document */
@@ -31,39 +47,59 @@ export class Walked {
         this.known = railml.byId(document);
         const tracks = document.tracks();
         this.owners = new Map([...tracks, ...tracks.flatMap(railml.placesOf)].map((it) => [it.id, it]));
-        /** @type {Map<Element, Element[]>} */
-        this.spots = new Map(tracks.map((track) => {
-            const inner = railml.points(track).sort((one, other) => positionOf(one) - positionOf(other));
-            return [track, [railml.endOf(track, "trackBegin"), ...inner, railml.endOf(track, "trackEnd")].flatMap((it) => it ?? [])];
-        }));
-        this.most = tracks.length + 1;
+        /** @type {Map<Element, Places>} */
+        this.places = new Map(tracks.map((track) => [track, placesOf(track)]));
+        /** @type {Map<Element, number>} of each place which one of its track it is */
+        this.numbers = new Map([...this.places.values()].flatMap(({ spots }) =>
+            spots.map((it, at) => /** @type {const} */ ([it, at]))));
+        /** @type {Map<Element, string>} what is reached by an end of a track, as far as it was asked for */
+        this.reached = new Map();
     }
 
-    /** @param {Element} it @returns {Element[]} the places of its track */
-    spotsOf(it) {
-        return this.spots.get(/** @type {Element} */ (it.above("track"))) ?? [];
+    /** @param {Element} it @param {1 | -1} step @returns {Element | undefined} the next place of its track */
+    beside(it, step) {
+        return this.places.get(/** @type {Element} */ (it.above("track")))?.spots[(this.numbers.get(it) ?? -1) + step];
     }
 
-    /** @param {Element} from @param {1 | -1} step @param {number} [walked] @returns {string} what comes next along its track,
-     * over joints */
-    along(from, step, walked = 0) {
-        const spots = this.spotsOf(from), next = spots[spots.indexOf(from) + step];
-        if (!next) {
-            return "";
-        }
-        if (railml.POINTS.includes(next.name)) {
-            return next.id;
-        }
-        const [connection] = connectionsOf(next);
-        return connection && walked < this.most ? this.beyond(connection, walked + 1) || next.id : next.id;
+    /** @param {Element} from @param {1 | -1} step @returns {string} what comes next along its track, over joints */
+    along(from, step) {
+        const next = this.beside(from, step);
+        return !next ? "" : railml.POINTS.includes(next.name) ? next.id : this.out(next);
     }
 
-    /** @param {Element} connection @param {number} [walked] @returns {string} what is reached by it; "" where it leads to nothing
-     * in the file */
-    beyond(connection, walked = 0) {
+    /** @param {Element} connection @returns {string} what is reached by it; "" where it leads to nothing in the file */
+    beyond(connection) {
+        const next = this.met(connection);
+        return !next ? "" : railml.POINTS.includes(next.name) ? next.id : this.out(next);
+    }
+
+    /** @param {Element} connection @returns {Element | undefined} the switch or crossing to which it leads; of a track the next place
+     * behind the end to which it leads */
+    met(connection) {
         const owner = partnerOf(this.known, this.owners, connection)?.parent;
-        return !owner ? "" : railml.POINTS.includes(owner.name) ? owner.id
-            : this.along(owner, owner.name === "trackBegin" ? 1 : -1, walked);
+        return !owner || railml.POINTS.includes(owner.name) ? owner ?? undefined
+            : this.beside(owner, owner.name === "trackBegin" ? 1 : -1);
+    }
+
+    /** @param {Element} end of a track @returns {string} what is reached there, over any number of joints, or the end itself */
+    out(end) {
+        const passed = new Set();
+        let found = "", at = end;
+        while (!passed.has(at) && !this.reached.has(at)) {
+            passed.add(at);
+            const [connection] = connectionsOf(at), next = connection && this.met(connection);
+            if (!next || railml.POINTS.includes(next.name)) {
+                found = next?.id ?? "";
+                break;
+            }
+            at = next;
+        }
+        found ||= this.reached.get(at) ?? at.id;
+        for (const one of [...passed].reverse()) {
+            found ||= one.id;
+            this.reached.set(one, found);
+        }
+        return found;
     }
 
     /** @param {Element} it @returns {string[]} */
@@ -99,9 +135,9 @@ export class Walked {
     /** @returns {Map<string, string>} of each signal between which two it lies, by its position */
     signals() {
         return new Map(this.document.tracks().flatMap((track) => railml.signals(track).map((it) => {
-            const spots = this.spots.get(track) ?? [],
-                behind = spots.find((spot, at) => at > 0 && positionOf(spot) > positionOf(it)) ?? spots[spots.length - 1];
-            const before = spots[spots.indexOf(behind) - 1];
+            const { spots, furthest } = /** @type {Places} */ (this.places.get(track)), at = positionOf(it);
+            const found = firstAt(furthest.length, (one) => furthest[one] > at), number = Math.min(found, spots.length - 1);
+            const [before, behind] = [spots[number - 1], spots[number]];
             const ends = before && behind ? [this.along(before, 1), this.along(behind, -1)].sort().join(" and ") : "";
             return /** @type {const} */ ([it.id, ends]);
         })));

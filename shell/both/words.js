@@ -4,6 +4,7 @@
  * answers.
  */
 import table from "./commands.js";
+import kinds from "./mending_kinds.js";
 
 /** @typedef {{word: string, what: string, kind: string, isWritten?: boolean}} Name a name of a command; a file is read, or
  * written by the run */
@@ -59,7 +60,7 @@ export const OWN_OPTIONS = optionsOf(table.ownOptions);
 export const PAGED = table.paged;
 export const CRITERIA = table.criteria;
 /** @type {{word: string, found: string, written: string}[]} the kinds of changes that prepare makes */
-export const KINDS = table.kinds;
+export const KINDS = kinds;
 
 const FILE_KINDS = new Set(["railml", "sheet", "log", "hints", "folder"]);
 

@@ -105,24 +105,41 @@ function valueOf(raw) {
     return isRight ? read : null;
 }
 
+/** Names as they were read first: a file has few, each many times, and a text that is kept once takes less memory. */
+class Names {
+    constructor() {
+        /** @type {Map<string, string>} */
+        this.known = new Map();
+    }
+
+    /** @param {string} name @returns {string} */
+    first(name) {
+        const known = this.known.get(name);
+        if (known === undefined) {
+            this.known.set(name, name);
+        }
+        return known ?? name;
+    }
+}
+
 /**
  * The attributes of a tag, whose text begins at a place of the file's.
- * @param {string} tag @param {string} name @param {number} begun
+ * @param {string} tag @param {string} name @param {number} begun @param {Names} names
  * @returns {Map<string, string>}
  */
-function attributesOf(tag, name, begun) {
+function attributesOf(tag, name, begun, names) {
     const found = new Map();
     ATTRIBUTE.lastIndex = 1 + name.length;
     let ended = ATTRIBUTE.lastIndex;
     for (let it = ATTRIBUTE.exec(tag); it; it = ATTRIBUTE.exec(tag)) {
-        const value = valueOf(it[2] ?? it[3]);
-        if (found.has(it[1])) {
+        const value = valueOf(it[2] ?? it[3]), called = names.first(it[1]);
+        if (found.has(called)) {
             throw new Stop(begun + ended + it[0].search(/\S/), "duplicate attribute");
         }
         if (value === null) {
             throw new Stop(begun + ended + it[0].indexOf("&"), "undefined entity");
         }
-        found.set(it[1], value);
+        found.set(called, value);
         ended = ATTRIBUTE.lastIndex;
     }
     if (!/^\s*\/?>$/.test(tag.slice(ended))) {
@@ -139,6 +156,7 @@ class Listener {
         this.text = text;
         this.bytes = bytes;
         this.handler = handler;
+        this.names = new Names();
         this.depth = 0;
         this.hasRoot = false;
         // where the last tag, comment or the like ended
@@ -187,7 +205,7 @@ class Listener {
         refuse(this.begun, !this.hasRoot || this.depth > 0, JUNK);
         refuse(this.begun + 1, this.isWritten(`<${name}`));
         const written = this.text.slice(this.begun, this.parser.position);
-        this.handler.open(this.bytes.of(this.begun), name, attributesOf(written, name, this.begun));
+        this.handler.open(this.bytes.of(this.begun), this.names.first(name), attributesOf(written, name, this.begun, this.names));
         this.hasRoot = true;
         this.depth++;
     }

@@ -165,6 +165,16 @@ export async function nativeProgram(bench, module, to) {
 }
 
 /**
+ * Asks for what makes WebAssembly of 64 bits that of 32, since what comes before it takes minutes.
+ * @throws {BuildFailed} where it isn't there
+ */
+export async function needShortener() {
+    await called(SHORTENER, ["--version"]).catch((error) => {
+        throw error.code === "ENOENT" ? new BuildFailed(NO_SHORTENER) : error;
+    });
+}
+
+/**
  * The module as WebAssembly that every browser takes: railplan.wasm.
  * @param {Bench} bench
  * @param {Module} module
@@ -173,15 +183,15 @@ export async function nativeProgram(bench, module, to) {
 export async function wasmProgram(bench, module, to) {
     const { kit, room } = bench, clang = join(kit, "toolchain/bin/clang"), made = join(room, "program.wasm");
     const text = await textFor(bench, module, "wasm");
-    await step(bench, clang, [...WASM, ...OF_RATTLE, ...ALWAYS, "-fintegrated-cc1", "-O3", "-c", "-x", "ir", text, "-o", `${made}.o`]);
+    // with its checks the program is larger: made small, a page of it has 450 KB at most
+    const how = module.isFilled ? "-Os" : "-O3";
+    await step(bench, clang, [...WASM, ...OF_RATTLE, ...ALWAYS, "-fintegrated-cc1", how, "-c", "-x", "ir", text, "-o", `${made}.o`]);
     for (const name of ["heap", "host"]) {
         const words = [...WASM, ...ALWAYS, "-O3", "-ffreestanding", "-fno-builtin", "-Wall", "-c", join(HERE, `${name}.c`)];
         await step(bench, clang, [...words, "-o", join(room, `${name}.o`)]);
     }
     const link = ["-mwasm64", "--no-entry", "--export=main", "--gc-sections", "--strip-all", "-z", `stack-size=${STACK_BYTES}`, "--stack-first"];
     await step(bench, clang, [...link, "-o", made, `${made}.o`, join(room, "heap.o"), join(room, "host.o")], "wasm-ld");
-    await step(bench, SHORTENER, [...FEATURES, "--memory64-lowering", made, "-o", `${to}.part`]).catch((error) => {
-        throw error.code === "ENOENT" ? new BuildFailed(NO_SHORTENER) : error;
-    });
+    await step(bench, SHORTENER, [...FEATURES, "--memory64-lowering", made, "-o", `${to}.part`]);
     renameSync(`${to}.part`, to);
 }

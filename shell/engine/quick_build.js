@@ -3,7 +3,7 @@
  */
 import { mkdirSync } from "node:fs";
 import { dirname } from "node:path";
-import { nativeProgram, provedModule, unprovedModule, wasmProgram, withBench } from "./compile.js";
+import { needShortener, nativeProgram, provedModule, unprovedModule, wasmProgram, withBench } from "./compile.js";
 
 /** @typedef {{crate: string}} Clone a clone, with the folder of the program's crate */
 /** @typedef {(clone: Clone, rt: string, to: string, signal?: AbortSignal) => Promise<void>} Build builds a file with the kit's command rt;
@@ -16,6 +16,7 @@ import { nativeProgram, provedModule, unprovedModule, wasmProgram, withBench } f
  */
 function building(moduleOf, make) {
     return async (clone, rt, to, signal) => {
+        if (make === wasmProgram) await needShortener();
         mkdirSync(dirname(to), { recursive: true });
         await withBench(rt, signal, async (bench) => make(bench, await moduleOf(bench, clone.crate), to));
     };

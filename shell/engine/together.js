@@ -62,6 +62,22 @@ function inOrder(parts, first) {
 }
 
 /**
+ * Texts in which esbuild's modules have numbers for names: its own ones are made of where the sources lie, and the same sources are to give
+ * the same bytes wherever that is.
+ * @param {[string, string]} texts
+ * @returns {[string, string]}
+ */
+function numbered(texts) {
+    /** @type {Map<string, string>} */
+    const numbers = new Map();
+    const [one, other] = texts.map((text) => text.replace(/(?<=MODULES\[)"[\w.-]+-[0-9A-Z]{8}\.js"/g, (name) => {
+        numbers.set(name, numbers.get(name) ?? `"${numbers.size + 1}"`);
+        return /** @type {string} */ (numbers.get(name));
+    }));
+    return [one, other];
+}
+
+/**
  * The texts of two scripts.
  * @param {[string, string]} entries the modules with which they begin
  * @param {string[]} words what else esbuild is to do
@@ -80,7 +96,8 @@ export function together(entries, words, notice, env) {
         const [page, desk] = entries.map((it) => inOrder(parts, basename(it))), own = basename(entries[0]);
         const common = page.filter((it) => it.name !== own), inBoth = new Set(common.map((it) => it.name));
         const text = (/** @type {Part[]} */ rest) => `${notice}\n(()=>{const MODULES={};${[...common, ...rest].map((it) => it.body).join("\n")}})();\n`;
-        return { texts: [text(page.filter((it) => it.name === own)), text(desk.filter((it) => !inBoth.has(it.name)))], why: "", isThere: true };
+        const texts = numbered([text(page.filter((it) => it.name === own)), text(desk.filter((it) => !inBoth.has(it.name)))]);
+        return { texts, why: "", isThere: true };
     } finally {
         rmSync(room, { recursive: true, force: true });
     }

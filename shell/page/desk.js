@@ -9,13 +9,13 @@ import { pageWords, read } from "../both/words.js";
 import { answerOf, pictureOf } from "./desk_answer.js";
 import { certified } from "./desk_certify.js";
 import { engineOf } from "./desk_engine.js";
-import { chooser, dropped, taken } from "./desk_files.js";
+import { chooser, dropped, stemOf, taken } from "./desk_files.js";
 import { SLOTS, commandOf, formOf, pagesOf, slotsOf, wordsOf } from "./desk_form.js";
 import { isPage, judgedPage } from "./desk_judged.js";
 import { Many } from "./desk_many.js";
 import { seenOn } from "./desk_memory.js";
 import { framed, pageOf } from "./desk_page.js";
-import { LOG, PICTURE, Search } from "./desk_search.js";
+import { CUT, LOG, PICTURE, Search } from "./desk_search.js";
 import { whatWasRead } from "./desk_station.js";
 import { button, element, sized } from "./elements.js";
 
@@ -27,8 +27,6 @@ import { button, element, sized } from "./elements.js";
 
 /** the commands in the order of the work */
 const ORDER = ["draw", "signals", "explain", "front", "redraw", "verify", "check", "trim", "recheck", "graph"];
-/** how a run ends that has no answer: it was stopped, had no memory, or was ended by the browser or by a check of the program */
-const CUT = new Set([130, 7, 134]);
 
 /** @param {string} id */
 const part = (id) => /** @type {HTMLElement} */ (document.getElementById(id));
@@ -51,7 +49,7 @@ export class Desk {
         this.formPlace = element("div", {});
         this.commandLine = element("p", { class: "command", "aria-label": "the same in a terminal" });
         this.start = button("Run", () => void this.run(), "main");
-        this.stop = button("Stop", () => this.search?.stop.abort());
+        this.stop = button("Stop", () => this.search?.halt());
         this.far = element("p", { role: "status" });
         this.station = element("div", { "aria-live": "polite" });
         this.shown = element("div", {});
@@ -74,17 +72,30 @@ export class Desk {
             element("p", {}, "Drop a railML file here, several, a folder of them, or a page that railplan wrote. Or choose:"),
             element("div", { class: "row" }, element("label", { class: "field" }, element("span", {}, "files"), chooser("choose the station, or several", take, "several")),
                 element("label", { class: "field" }, element("span", {}, "a folder"), chooser("choose a folder of stations", take, "folder")), example));
-        drop.addEventListener("dragover", (event) => {
+        this.hearDrops(drop, take);
+        return drop;
+    }
+
+    /**
+     * Takes what is dropped anywhere on the desk, which a browser would open in its place.
+     * @param {HTMLElement} drop what shows that files may be dropped
+     * @param {(files: File[]) => void} take
+     */
+    hearDrops(drop, take) {
+        const hasFiles = (/** @type {DragEvent} */ event) => event.dataTransfer?.types.includes("Files") ?? false;
+        document.addEventListener("dragover", (event) => {
+            if (!hasFiles(event)) return;
             event.preventDefault();
             drop.classList.add("over");
         });
-        drop.addEventListener("dragleave", () => drop.classList.remove("over"));
-        drop.addEventListener("drop", (event) => {
+        document.addEventListener("dragleave", (event) => !event.relatedTarget && drop.classList.remove("over"));
+        document.addEventListener("drop", (event) => {
+            if (!event.dataTransfer || !hasFiles(event)) return;
             event.preventDefault();
             drop.classList.remove("over");
-            if (event.dataTransfer) void dropped(event.dataTransfer).then(take);
+            const why = "What was dropped can't be read here. Choose the files or the folder in a field above instead";
+            void dropped(event.dataTransfer).then(take, (error) => this.refuse(`${why}: ${error?.message ?? error}`));
         });
-        return drop;
     }
 
     /** @param {string} said */
@@ -117,7 +128,7 @@ export class Desk {
 
     /** takes away what was made of another station, and stops a run of it, so that no drawing is taken for this station's */
     clear() {
-        this.search?.stop.abort();
+        this.search?.end();
         this.many?.stopping?.abort();
         this.many = undefined;
         this.placed.clear();
@@ -197,7 +208,7 @@ export class Desk {
             reason ? notes.push(`${file.name}.xml isn't taken: ${reason}`) : good.push({ name: `${file.name}.xml`, bytes });
         }
         if (good.length) {
-            this.several(name.replace(/\.\w+$/, ""), good, files.map((it) => it.listed));
+            this.several(stemOf(name), good, files.map((it) => it.listed));
         }
         this.station.replaceChildren(element("p", {}, `${printable(name)} was cut into stations. This is no part of what is proved.`),
             element("ul", {}, ...notes.map((it) => element("li", {}, printable(it)))));
@@ -243,7 +254,7 @@ export class Desk {
     }
 
     get stem() {
-        return (this.placed.get("station")?.name ?? "station").replace(/\.\w+$/, "");
+        return stemOf(this.placed.get("station")?.name ?? "station");
     }
 
     /** the words of the run, without the files that the desk has written beside */

@@ -46,7 +46,7 @@ export function pictureOf(picture, what) {
  */
 export async function answerOf(run, made) {
     const text = new TextDecoder().decode(run.output), lines = text.trimEnd().split("\n");
-    const head = `${ENDINGS.get(run.status) ?? `Status ${run.status}`}: ${run.trap || lines[lines.length - 1] || ""}`;
+    const head = [ENDINGS.get(run.status) ?? `Status ${run.status}`, run.trap || lines[lines.length - 1]].filter(Boolean).join(": ");
     const notes = run.status === 130 || run.trap ? [] : await notesOf({ ...run, called: "railplan" });
     return element("div", {}, element("p", { class: GOOD.has(run.status) ? "said" : "said bad" }, head), ...notes.map(noteOf),
         ...(made.picture ? [pictureOf(made.picture, "The program's own drawing")] : []),

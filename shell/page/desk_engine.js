@@ -1,13 +1,23 @@
 /** The engine of a page: railplan.wasm out of the page's own data, in workers of the browser. */
+import { sumOf } from "../both/sha256.js";
 import { WasmEngine } from "../both/wasm_engine.js";
+
+/**
+ * The SHA-256 of bytes: by the browser, where it has that for this page, else by its own code.
+ * @param {Uint8Array} bytes
+ * @returns {Promise<Uint8Array>} 32 bytes
+ */
+export async function digest(bytes) {
+    const own = /** @type {SubtleCrypto | undefined} */ (crypto.subtle);
+    return own ? new Uint8Array(await own.digest("SHA-256", bytes)) : sumOf(bytes);
+}
 
 /**
  * The SHA-256 of bytes, in hexadecimal digits.
  * @param {Uint8Array} bytes
  */
 export async function sha256(bytes) {
-    const sum = new Uint8Array(await crypto.subtle.digest("SHA-256", bytes));
-    return [...sum].map((it) => it.toString(16).padStart(2, "0")).join("");
+    return [...await digest(bytes)].map((it) => it.toString(16).padStart(2, "0")).join("");
 }
 
 /**

@@ -8,7 +8,8 @@ import { recorded, settingsOf } from "../both/page/recording.js";
 import { NoPage } from "../both/page/texts.js";
 import { pageText, stylesOf } from "../both/page/written.js";
 import { PAGED, pageWords } from "../both/words.js";
-import { sha256 } from "./desk_engine.js";
+import { digest, sha256 } from "./desk_engine.js";
+import { stemOf } from "./desk_files.js";
 import { element } from "./elements.js";
 
 /** @typedef {import("../both/words.js").Line} Line */
@@ -33,8 +34,7 @@ import { element } from "./elements.js";
  * @returns {Promise<string>}
  */
 async function sourceOf(text) {
-    const sum = new Uint8Array(await crypto.subtle.digest("SHA-256", new TextEncoder().encode(text)));
-    return `'sha256-${btoa(String.fromCharCode(...sum))}'`;
+    return `'sha256-${btoa(String.fromCharCode(...await digest(new TextEncoder().encode(text))))}'`;
 }
 
 /**
@@ -65,7 +65,7 @@ export async function pageOf({ line, status, output, seen }, { files, pages, pic
     }));
     const settings = settingsOf(pages), build = { state: /** @type {"proved" | "unproved"} */ (isProved ? "proved" : "unproved"), sha256: "" };
     const run = await recorded(line, { status, output }, { inputs, settings, build, version, date: Date.now() / 1000,
-        page: `${line.names[0]}.html`, frontWords: [...pages].flatMap(pageWords) }, { called: "railplan", seen, ask, sha256 });
+        page: `${stemOf(line.names[0])}.html`, frontWords: [...pages].flatMap(pageWords) }, { called: "railplan", seen, ask, sha256 });
     const { script, worker, ...styles } = parts, page = outline(run);
     const text = pageText(page, settings.paper, { ...styles, script, hashOf: await hashesOf(parts, settings.paper),
         picture: picture ? new TextDecoder().decode(picture) : "", data: await packed(new TextEncoder().encode(textOf(run.record))),

@@ -7,6 +7,7 @@ import { plain } from "../both/notes.js";
 import { packed } from "../both/packing.js";
 import { read } from "../both/words.js";
 import { certified } from "./desk_certify.js";
+import { stemOf } from "./desk_files.js";
 import { seenOn } from "./desk_memory.js";
 import { pageOf } from "./desk_page.js";
 
@@ -33,7 +34,7 @@ class Drawing {
         this.file = file;
         this.setting = setting;
         this.engine = engine;
-        this.stem = file.name.replace(/\.\w+$/, "");
+        this.stem = stemOf(file.name);
         /** @type {Map<string, Uint8Array>} */
         this.made = new Map();
     }

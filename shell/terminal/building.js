@@ -198,7 +198,7 @@ function announce(reason, quick) {
 export async function build(clone, signal, quick = "") {
     const rt = needRt(clone);
     return oneAtATime(clone, "build.lock", signal, async () => {
-        const found = await find(clone, clone.proved);
+        const found = await find(clone, clone.proved, true);
         if (found.isFresh && found.isListed) {
             return found;
         }

@@ -5,7 +5,8 @@
  * has the size, both times, the inode and the SHA-256. Where the first four are as they were the file counts as unchanged;
  * else the SHA-256 decides. So a source that was copied, restored, added or removed is seen, and so is another program.
  * Sources are the .rt and .antt files of the program's crates, and crates.txt. A program without a list was built by somebody
- * else: it counts by its time, as of a build with `rt`, and nothing is said to be proved of it.
+ * else: it counts by its time, as of a build with `rt`, and nothing is said to be proved of it. Proofs don't shape a program,
+ * and most sources are proofs: a run doesn't look at them; what proves, releases, or says what was proved, does.
  */
 import { accessSync, constants, existsSync, readFileSync, readdirSync, statSync } from "node:fs";
 import { writeWhole } from "./files.js";
@@ -187,15 +188,23 @@ export function listAlone({ program, sha256, kit }) {
     writeList(program, { kit, states: new Map([[program.place, { state: "-", known: sha256 }]]) });
 }
 
-/** @param {Program} program @returns {Listed | null} */
-function readList(program) {
+/** @param {string} place @returns {boolean} whether it is a proof, or a folder of proofs */
+function isOfProofs(place) {
+    return place.includes("/proofs/");
+}
+
+/**
+ * @param {Program} program @param {boolean} withProofs whether proofs are wanted too
+ * @returns {Listed | null}
+ */
+function readList(program, withProofs) {
     try {
         const lines = readFileSync(program.list, "utf-8").split("\n");
         if (lines[0] !== TITLE || !lines[1].startsWith("kit ") || lines.at(-1)) {
             return null;
         }
         const states = new Map();
-        for (const line of lines.slice(2, -1)) {
+        for (const line of lines.slice(2, -1).filter((it) => withProofs || !isOfProofs(it))) {
             const [place, state, known, ...more] = line.split("\t");
             if (known === undefined || more.length) {
                 return null;
@@ -231,8 +240,9 @@ async function differing(clone, program, listed) {
             return place;
         }
     }
-    if (hasLooks) {
-        writeList(program, listed);
+    const whole = hasLooks && readList(program, true);
+    if (whole) {
+        writeList(program, { ...listed, states: new Map([...whole.states, ...listed.states]) });
     }
     return "";
 }
@@ -293,15 +303,15 @@ export function isThere(program) {
 
 /**
  * What is known of a program.
- * @param {Clone} clone @param {Program} program
+ * @param {Clone} clone @param {Program} program @param {boolean} [withProofs] whether proofs are looked at too
  * @returns {Promise<Built>}
  */
-export async function find(clone, program) {
+export async function find(clone, program, withProofs = false) {
     const none = { program, isFresh: false, reason: "", isListed: false, sha256: "", kit: "" };
     if (!isThere(program)) {
         return none;
     }
-    const listed = readList(program);
+    const listed = readList(program, withProofs);
     if (listed) {
         const changed = await differing(clone, program, listed);
         const reason = changed && `${changed.replace(/\/$/, "")} isn't as it was when the program was built`;
@@ -317,12 +327,12 @@ export async function find(clone, program) {
 
 /**
  * What is known of the proved program: as native code, else as WebAssembly where that is the one that is fresh.
- * @param {Clone} clone
+ * @param {Clone} clone @param {boolean} [withProofs] whether proofs are looked at too
  * @returns {Promise<Built>}
  */
-export async function findProved(clone) {
-    const found = await find(clone, clone.proved);
-    const other = found.isFresh ? found : await find(clone, clone.wasm);
+export async function findProved(clone, withProofs = false) {
+    const found = await find(clone, clone.proved, withProofs);
+    const other = found.isFresh ? found : await find(clone, clone.wasm, withProofs);
     return other.isFresh ? other : found;
 }
 

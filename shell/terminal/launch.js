@@ -155,12 +155,12 @@ async function run(clone, given, ignored) {
     if (fault(line.words) || !line.filesWritten.length) {
         return runWords(programs, line);
     }
-    const { lock, release } = await import("./locks.js");
+    const { lock, unlock } = await import("./locks.js");
     const held = lock(line);
     try {
         return await runWords(programs, line);
     } finally {
-        release(held);
+        unlock(held);
     }
 }
 

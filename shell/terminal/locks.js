@@ -5,14 +5,17 @@
  */
 import { createHash } from "node:crypto";
 import {
-    linkSync, lstatSync, mkdirSync, readFileSync, readdirSync, renameSync, statSync, unlinkSync, writeFileSync,
+    linkSync, lstatSync, mkdirSync, readFileSync, readdirSync, renameSync, rmdirSync, statSync, unlinkSync, writeFileSync,
 } from "node:fs";
 import { bytesOf } from "./bytes.js";
 import { realPath, stateOf } from "./files.js";
 import { codeOf, end } from "./say.js";
 
 /** @typedef {import("../both/words.js").Line} Line */
-/** @typedef {"held" | "taken" | "none"} Hold that a lock is ours, that another run has it, or that there can be none */
+/**
+ * @typedef {"held" | "taken" | "gone" | "none"} Hold that a lock is ours, that another run has it, that its folder isn't there,
+ * or that there can be none
+ */
 
 // from this age on, in milliseconds, a lock of no process is one that was left
 const OLD = 60000;
@@ -91,7 +94,7 @@ export function hold(path) {
             return "held";
         } catch (error) {
             if (codeOf(error) !== "EEXIST") {
-                return "none";
+                return codeOf(error) === "ENOENT" ? "gone" : "none";
             }
         } finally {
             takeAway(mine);
@@ -105,20 +108,28 @@ export function hold(path) {
 }
 
 /**
- * a folder of this user alone, or ""
+ * a folder of this user alone, or ""; it is made where it isn't there, or where a run that ends takes it away just now
  * @returns {string}
  */
 function lockFolder() {
     const user = process.getuid?.() ?? 0;
     const folder = `${process.env.TMPDIR || "/tmp"}/railplan-${user}`;
-    try {
-        if (!stateOf(folder)) {
+    for (;;) {
+        try {
             mkdirSync(folder, { mode: 0o700 });
+        } catch (error) {
+            if (codeOf(error) !== "EEXIST") {
+                return "";
+            }
         }
-        const there = lstatSync(folder);
-        return there.isDirectory() && there.uid === user && !(there.mode & 0o022) ? folder : "";
-    } catch {
-        return "";
+        try {
+            const there = lstatSync(folder);
+            return there.isDirectory() && there.uid === user && !(there.mode & 0o022) ? folder : "";
+        } catch (error) {
+            if (codeOf(error) !== "ENOENT") {
+                return "";
+            }
+        }
     }
 }
 
@@ -137,6 +148,20 @@ export function sweep(folder) {
 }
 
 /**
+ * takes a lock in the folder of this user, which a run that ends meanwhile may have taken away
+ * @param {string} folder @param {string} name
+ * @returns {Hold}
+ */
+function holdIn(folder, name) {
+    const path = `${folder}/${name}`;
+    let found = hold(path);
+    while (found === "gone" && lockFolder()) {
+        found = hold(path);
+    }
+    return found;
+}
+
+/**
  * Holds the files that are written for this run alone; the locks that are held.
  * @param {Line} line
  * @returns {string[]}
@@ -145,20 +170,22 @@ export function lock(line) {
     const folder = lockFolder();
     /** @type {string[]} */
     const held = [];
-    if (folder) {
+    try {
         sweep(folder);
+    } catch {
+        // no folder of locks, or a run that ends takes it away just now
     }
     for (const it of folder ? line.filesWritten : []) {
         const there = stateOf(it.word);
         if (there && !there.isFile()) {
             continue;
         }
-        const path = `${folder}/${createHash("sha256").update(bytesOf(realPath(it.word))).digest("hex")}`;
-        const found = hold(path);
+        const name = createHash("sha256").update(bytesOf(realPath(it.word))).digest("hex");
+        const found = holdIn(folder, name);
         if (found === "held") {
-            held.push(path);
+            held.push(`${folder}/${name}`);
         } else if (found === "taken") {
-            release(held);
+            unlock(held);
             end(2, `another run is writing ${it.word}. Wait for its end, or name another file`);
         }
     }
@@ -171,4 +198,17 @@ export function lock(line) {
  */
 export function release(held) {
     held.forEach(takeAway);
+}
+
+/**
+ * Takes the locks of `lock` away, and their folder where no other run has a lock in it.
+ * @param {string[]} held
+ */
+export function unlock(held) {
+    release(held);
+    try {
+        rmdirSync(lockFolder());
+    } catch {
+        return;
+    }
 }

@@ -102,6 +102,8 @@ async function version(clone, called) {
         const from = hasSources(clone) ? " and built from these sources" : "";
         const as = proved.program.isWasm ? ", as WebAssembly" : "";
         lines.push(`program: proved${from}${by(proved.kit)}${as}`, ...commitOf(clone), `SHA-256: ${proved.sha256}`);
+        const { reason } = await findProved(clone, true);
+        lines.push(...reason ? [`proofs: ${reason}; ${called} prove proves what isn't proved yet`] : []);
         return show(`${lines.join("\n")}\n`);
     }
     const { sha256Of } = await import("./hash.js");

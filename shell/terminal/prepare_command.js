@@ -1,6 +1,6 @@
 /** `prepare IN OUT`: writes a railML 2 file anew as railplan reads it, and says each change, or what would have to be
  * guessed. */
-import { MOST_BYTES, oneTwice, tooLong } from "../both/file_kinds.js";
+import { MOST_OF_LINE, lineTooLong, oneTwice } from "../both/file_kinds.js";
 import { usage } from "../both/manual.js";
 import { notesOf, unread } from "../both/messages/telling.js";
 import { judge } from "../both/mending/judge.js";
@@ -12,8 +12,6 @@ import { ownOptions } from "./own_options.js";
 import { called, end, say, why } from "./say.js";
 import { SEEN } from "./seen_files.js";
 
-// the bytes that are read: in UTF-16 a file has twice as many, and other encodings of one sign have up to four
-const MOST = (MOST_BYTES.get("railml") ?? 0) * 4;
 const FRONT = 400;
 const PREPARE = /** @type {import("../both/words.js").Command} */ (OWN.get("prepare"));
 
@@ -51,11 +49,11 @@ function refuseOther(out, source) {
 function readWhole(source) {
     let data = new Uint8Array();
     try {
-        data = front(source, MOST + 1);
+        data = front(source, MOST_OF_LINE + 1);
     } catch {
         end(5, unread(source, SEEN, called()));
     }
-    return data.length > MOST ? end(1, tooLong(source, "railml")) : data;
+    return data.length > MOST_OF_LINE ? end(1, lineTooLong(source)) : data;
 }
 
 /** @param {number} count @param {string} what @returns {string} */
@@ -77,28 +75,30 @@ async function faultInWords(it, fault) {
 /**
  * Judges what is mended by the program's own track graph; ends the run where it can't be shown that all is as it was.
  * @param {() => Promise<import("./context.js").Context>} contextOf @param {import("../both/prepare.js").Prepared} it
- * @returns {Promise<string>} the fault that the program finds in a file of which only the text was changed, in words
+ * @returns {Promise<{fault: string, isLarge: boolean}>} the fault that the program finds in a file of which only the text was changed, in
+ * words; and whether it is that it is too large for the program alone
  */
 async function judged(contextOf, it) {
     const { engine, signal } = await contextOf(), judgement = await judge(engine, it, signal);
     if (!judgement) {
         return end(130, "stopped");
     }
-    const { reason, fault } = judgement, said = fault ? await faultInWords(it, fault) : "";
+    const { reason, fault, isLarge } = judgement, said = fault ? await faultInWords(it, fault) : "";
     if (reason) {
         end(1, `nothing is written: it can't be shown that each switch and crossing has the same legs and sides: ${reason}`);
     }
-    if (fault && it.isRebuilt) {
+    if (fault && it.isRebuilt && !isLarge) {
         end(1, `nothing is written, as the program finds a fault in what is mended: ${said}`);
     }
-    return said;
+    return { fault: said, isLarge };
 }
 
 /**
  * Writes what is mended, or a copy of what needn't be, and says which of the two it is.
- * @param {import("../both/prepare.js").Prepared} it @param {string} out @param {string} fault what the program finds in it
+ * @param {import("../both/prepare.js").Prepared} it @param {string} out @param {{fault: string, isLarge: boolean}} found what the program
+ * finds in it
  */
-function write(it, out, fault) {
+function write(it, out, { fault, isLarge }) {
     try {
         writeWhole(out, it.changes.length ? withMark(it.data) : it.data);
     } catch (error) {
@@ -109,7 +109,10 @@ function write(it, out, fault) {
             + `${quoted(it.name)} says whether something is wrong`);
         return;
     }
-    const rest = fault ? `The program still finds a fault in it: ${fault}`
+    const rest = isLarge ? `The program reads no file of this size, so this was judged by two readings of the launcher alone: by them each `
+        + `switch and crossing has the legs and sides that ${it.name} says. ${it.called} stations ${quoted(out)} FOLDER cuts a line into `
+        + "stations, and judges each by the program's track graph"
+        : fault ? `The program still finds a fault in it: ${fault}`
         : `By the program's track graph each switch and crossing has the legs and sides that ${it.name} says. ${it.called} draw ${quoted(
             out)} draws it`;
     say(`${out} is written: ${counted(it.changes.length, "change")}. This is no part of what is proved. ${rest}`);
@@ -144,6 +147,6 @@ export async function run(line, contextOf) {
     if (it.guesses.length) {
         end(1, `nothing is written: ${counted(it.guesses.length, "thing")} would have to be guessed`);
     }
-    write(it, out, it.changes.length ? await judged(contextOf, it) : "");
+    write(it, out, it.changes.length ? await judged(contextOf, it) : { fault: "", isLarge: false });
     return 0;
 }

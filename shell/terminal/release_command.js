@@ -176,7 +176,7 @@ function needEmpty(out) {
  */
 async function made(asking, room) {
     const { clone } = asking, { top } = clone;
-    const built = await find(clone, clone.proved), passed = needPassed(clone, built), [kit, , logic = ""] = passed.kit.split(" ");
+    const built = await find(clone, clone.proved, true), passed = needPassed(clone, built), [kit, , logic = ""] = passed.kit.split(" ");
     if (packedScripts(top).size < SCRIPTS) {
         return end(10, NO_BUNDLER);
     }

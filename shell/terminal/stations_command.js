@@ -9,9 +9,10 @@ import { mendedLine } from "../both/line/mended.js";
 import { micrometres } from "../both/line/network.js";
 import { cutLine } from "../both/line/stations.js";
 import { unread } from "../both/messages/telling.js";
+import { MOST_OF_LINE, lineTooLong } from "../both/file_kinds.js";
 import { quoted } from "../both/quoted.js";
-import { read } from "../both/railml.js";
 import { OWN } from "../both/words.js";
+import { processors } from "./building.js";
 import { front, writeWhole } from "./files.js";
 import { ownOptions } from "./own_options.js";
 import { called, end, say, why } from "./say.js";
@@ -20,8 +21,6 @@ import { SEEN } from "./seen_files.js";
 /** @typedef {import("../both/engine.js").Engine} Engine */
 /** @typedef {import("../both/line/stations.js").StationFile} StationFile */
 
-/** the file of a network may be large; more isn't read */
-const MOST = 1 << 30;
 const STATIONS = /** @type {import("../both/words.js").Command} */ (OWN.get("stations"));
 const USE = "stations takes the file of a line and a folder for its stations";
 
@@ -54,27 +53,30 @@ function partOf(options) {
 }
 
 /**
- * The file, mended as prepare mends it.
+ * The elements of the file, mended as prepare mends it.
  * @param {string} name
  */
 function readLine(name) {
     let data = new Uint8Array();
     try {
-        data = front(name, MOST);
+        data = front(name, MOST_OF_LINE + 1);
     } catch {
         end(5, unread(name, SEEN, called()));
     }
+    if (data.length > MOST_OF_LINE) {
+        end(1, lineTooLong(name));
+    }
     const it = mendedLine(name, data, called());
+    it.guesses.forEach((text) => say(text));
     if (it.unfit) {
         say(it.unfit);
         end(1, "nothing is written");
     }
-    it.guesses.forEach((text) => say(text));
     it.changes.slice(0, 3).forEach((text) => say(text));
     if (it.changes.length > 3) {
         say(`and ${it.changes.length - 3} more changes of this kind, as ${called()} prepare says them`);
     }
-    return read(it.data);
+    return it.document;
 }
 
 /**
@@ -111,6 +113,42 @@ function writeListing(out, files) {
 }
 
 /**
+ * The stations of a file, and what each is held against. The elements of the file, which take most memory, are gone by then.
+ * @param {string} source
+ * @param {import("../both/line/grouping.js").Asked} part
+ * @param {boolean} isList whether nothing is held against anything
+ */
+function stationsIn(source, part, isList) {
+    const document = readLine(source);
+    if (document.trouble) {
+        end(1, `${source}: line ${document.trouble.line}: ${document.trouble.what}`);
+    }
+    return { ...cutLine(document, part), whole: isList ? null : wholeOf(document) };
+}
+
+/**
+ * What comes of each thing, in their order, while it is worked on some of those behind it.
+ * @template T
+ * @template R
+ * @param {T[]} things @param {number} count on how many it is worked at once @param {(it: T) => Promise<R>} work
+ * @returns {AsyncGenerator<[T, R]>}
+ */
+async function* ahead(things, count, work) {
+    /** @type {[T, Promise<R>][]} */
+    const begun = [];
+    for (let at = 0; at < things.length || begun.length;) {
+        while (at < things.length && begun.length < count) {
+            const made = work(things[at]);
+            // one that fails is waited for in its turn
+            made.catch(() => null);
+            begun.push([things[at++], made]);
+        }
+        const [it, made] = /** @type {[T, Promise<R>]} */ (begun.shift());
+        yield [it, await made];
+    }
+}
+
+/**
  * Runs the command.
  * @param {{engine: Engine, signal: AbortSignal}} context
  * @param {import("../both/words.js").Line} line
@@ -121,21 +159,17 @@ export async function run({ engine, signal }, line) {
     if (names.length !== 2 && !(isList && names.length === 1)) {
         end(2, `${USE}: ${called()} stations IN OUT`);
     }
-    const [source, out] = names, document = readLine(source);
-    if (document.trouble) {
-        end(1, `${source}: line ${document.trouble.line}: ${document.trouble.what}`);
-    }
-    const { files, said, isWhole } = cutLine(document, part);
-    if (isList) {
+    const [source, out] = names, { files, said, isWhole, whole } = stationsIn(source, part, isList);
+    if (!whole) {
         files.forEach((it) => say(`${it.name}: ${it.title}, ${it.points.length} switches and crossings`));
         said.forEach((text) => say(text));
         return 0;
     }
     refuseThere(out, files);
-    const whole = wholeOf(document), written = new Set();
+    const written = new Set();
     let refused = 0;
-    for (const file of files) {
-        const { bytes, reason, wasStopped } = await judgedFile(engine, whole, file, signal), name = join(out, `${file.name}.xml`);
+    for await (const [file, { bytes, reason, wasStopped }] of ahead(files, processors(), (it) => judgedFile(engine, whole, it, signal))) {
+        const name = join(out, `${file.name}.xml`);
         if (wasStopped) {
             end(130, "stopped");
         }

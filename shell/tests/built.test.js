@@ -86,6 +86,22 @@ test("a source that only looks otherwise", async (it) => {
     await hold(clone);
 });
 
+test("a changed proof makes no other program, but is proved", async (it) => {
+    const proof = "crates/low/proofs/lib/sum.antt", clone = new InClone(it);
+    clone.write(proof, "// a proof\n");
+    clone.launch(["prove"]);
+    clone.write(proof, "// another\n");
+    assert.deepEqual(clone.launch(["graph", "one.xml"]), [0, "ran\n", ""]);
+    clone.touch(LIB, 9999);
+    assert.deepEqual(clone.launch(["graph", "one.xml"]), [0, "ran\n", ""]);
+    const said = `proofs: ${proof} isn't as it was when the program was built; `;
+    assert.ok(clone.launch(["--version"])[1].includes(said));
+    assert.equal(clone.asked(), 1);
+    assert.match(clone.launch(["prove"])[2], new RegExp(`^railplan: ${proof} isn't as it was when the program was built\\. Proving`));
+    assert.equal(clone.asked(), 2);
+    assert.ok(!clone.launch(["--version"])[1].includes("proofs: crates"));
+});
+
 test("what is no source of the program", async (it) => {
     const clone = builtClone(it);
     for (const name of ["crates/other/src/lib.rt", "crates/low/must-fail/x.rt", "crates/low/out/x.rt",

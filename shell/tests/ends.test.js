@@ -114,7 +114,7 @@ test("an interrupt at the end comes too late", (it) => {
 test("a fault of the launcher is one line", (it) => {
     const clone = new InClone(it);
     clone.write("shell/terminal/built.js", `${clone.text("shell/terminal/built.js")}\nClone.prototype.toString = 1;\n`
-        .replace("export async function find(clone, program) {", "export async function find(clone, program) {\n    null.x;"));
+        .replace(/^export async function find\(.*$/m, "$&\n    null.x;"));
     const [status, out, err] = clone.launch(["graph", "one.xml"]);
     assert.deepEqual([status, out], [10, ""]);
     assert.match(err, /^railplan: this is a fault of the launcher itself, so nothing more is known: TypeError: .*\n$/);
@@ -161,11 +161,16 @@ test("statuses without a line are explained", (it) => {
     }
 });
 
-test("trim without memory may have too large a log", (it) => {
+test("trim of too large a log says so, and is no want of memory", (it) => {
     const clone = new InClone(it);
+    clone.script(PLACE, "#!/bin/sh\necho trim Room\nexit 4\n");
+    const [status, out, err] = clone.launch(["trim", "one.xml", "s", "l", "h"]);
+    assert.deepEqual([status, out], [4, "trim Room\n"]);
+    assert.match(err, /l certifies what the sheet claims, but has more variables or words than hints are found in/);
+    const { fault } = JSON.parse(clone.launch(["--json", "trim", "one.xml", "s", "l", "h"])[1]);
+    assert.deepEqual([fault.kind, fault.name, fault.remedy], ["trim", "Room", "Hand over the log as it is: check reads it"]);
     clone.script(PLACE, "#!/bin/sh\nexit 7\n");
-    assert.match(clone.launch(["trim", "one.xml", "s", "l", "h"])[2], /or the log is too large to find hints for/);
-    assert.doesNotMatch(clone.launch(["check", "one.xml", "s", "l"])[2], /too large/);
+    assert.doesNotMatch(clone.launch(["trim", "one.xml", "s", "l", "h"])[2], /hints/);
 });
 
 test("a program that cannot be started", (it) => {
@@ -192,4 +197,25 @@ test("words that are no UTF-8 reach the program", (it) => {
     const clone = new InClone(it);
     clone.script(PLACE, "#!/bin/sh\nprintf '%s' \"$2\" | od -An -tx1\n");
     assert.equal(clone.launchBy("./railplan graph \"$(printf 'a\\377 b')\"")[1], " 61 ff 20 62\n");
+});
+
+test("a stopped prove says that it goes on, leaves no process, and the next one ends it", async (it) => {
+    const clone = new InClone(it);
+    clone.script("bin/rt", `#!/bin/sh
+case $1 in
+version) echo 'kit-1 logic x' ;;
+all) echo '== low'; [ -e kept ] && { echo '== railplan_main'; exit; }; : > kept; echo $$ > "$HERE/begun"; exec sleep 60 ;;
+run) cp "$HERE/program" out/new; mv out/new out/railplan_main; echo 'rt: running'; exit 2 ;;
+esac
+`);
+    const run = clone.start(["prove"]), number = await begun(clone);
+    await until(() => run.err.includes("crate 1 of 2: low"));
+    run.job.kill("SIGINT");
+    assert.equal(await run.ended, 130);
+    assert.match(run.err, /^railplan: what is proved by now is kept: \S+railplan prove goes on from there$/m);
+    assert.ok(!isThere(number));
+    const [status, out, err] = clone.launch(["prove"]);
+    assert.equal(status, 0);
+    assert.match(out, /^program: proved and built from these sources with kit-1$/m);
+    assert.match(err, /crate 2 of 2: railplan_main/);
 });

@@ -3,6 +3,8 @@ import assert from "node:assert/strict";
 import { execFileSync } from "node:child_process";
 import { readFileSync } from "node:fs";
 import { test } from "node:test";
+import { lines } from "../../cases/real/lines.js";
+import { cutLine } from "../both/line/stations.js";
 import { GRAPH } from "../both/messages/graph_faults.js";
 import { HINTS, LOG, REFUSALS } from "../both/messages/log_faults.js";
 import { broken, LAWS, SHEET } from "../both/messages/sheet_faults.js";
@@ -64,6 +66,37 @@ test("files", async () => {
         assert.ok(!row.place || notes[0].place?.head().startsWith(`s.xml:${row.place}`), `${row.line}: ${text}`);
         assert.ok(!row.other || notes.slice(1).some((it) => it.text.includes(row.other ?? "")), `${row.line}: ${text}`);
     }
+});
+
+test("a whole line is cut where it can be, and else a part is exported", async () => {
+    const [double, parted] = ["double", "double-parted"].map((name) => new TextDecoder().decode(lines().find((it) => it.name === name)?.data));
+    for (const [text, line] of [[parted, "topology 2 TooMany at 1"], [double, "graph 1 TooManyNodes 170"], [double, "graph 2 TooManyEdges 200"]]) {
+        const { files, isWhole } = cutLine(read(bytes(text)), {}), [note] = await said(["graph", "s.xml"], line, { "s.xml": text });
+        assert.ok(isWhole && note.text.endsWith(`Cut it: ./railplan stations s.xml STATIONS writes it in ${files.length} files, `
+            + "one for each station or part of one"), note.text);
+    }
+    for (const line of ["topology 2 TooMany at 1", "graph 1 TooManyNodes 130", "graph 2 TooManyEdges 163"]) {
+        const [note] = await said(["graph", "s.xml"], line, { "s.xml": tracks(129) });
+        assert.match(note.text, /\. Export a part of it$/);
+    }
+});
+
+test("what prepare would change is said where the fault is of its kinds and nothing is guessed", async () => {
+    const silent = "<infrastructure><tracks><track id=\"m\"><trackTopology><trackBegin id=\"b\" pos=\"0\" absPos=\"0\"/>"
+        + "<trackEnd id=\"e\" pos=\"9\"><openEnd/></trackEnd></trackTopology></track></tracks></infrastructure>";
+    for (const [line, text, count] of /** @type {[string, string, number][]} */ ([["topology 10 EndKind at 49 b", silent, 1],
+        ["topology 5 RepeatedId at 49 b", silent, 0],
+        ["topology 10 EndKind at 49 b", silent.replace("absPos=\"0\"", ""), 0]])) {
+        const notes = (await said(["graph", "s.xml"], line, { "s.xml": text })).map((it) => it.text);
+        const found = notes.filter((it) => it === "./railplan prepare s.xml NEW.xml writes the file with 1 change, and says it");
+        assert.equal(found.length, count, notes.join("\n"));
+    }
+});
+
+test("a comma that may part thousands isn't promised to be mended", async () => {
+    const text = tracks(1).replace("pos=\"5\"", "pos=\"1,500\"");
+    const [note] = await said(["graph", "s.xml"], `topology 6 Number at ${text.indexOf("<trackEnd")} e0 pos`, { "s.xml": text });
+    assert.match(note.text, /A comma before three digits may part thousands or decimals: write it without/);
 });
 
 test("the program says these lines", { skip: !hasProgram }, () => {

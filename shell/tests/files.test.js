@@ -1,12 +1,13 @@
 /** What is in the way of a run, the rights that it lacks, and files that are written whole. */
 import assert from "node:assert/strict";
+import { spawn } from "node:child_process";
 import {
     chmodSync, mkdirSync, mkdtempSync, readFileSync, readdirSync, rmSync, symlinkSync, utimesSync, writeFileSync,
 } from "node:fs";
 import { tmpdir } from "node:os";
 import { join } from "node:path";
 import { test } from "node:test";
-import { InClone } from "./clones.js";
+import { InClone, Started } from "./clones.js";
 import { BEGINS, Output, isOneFile, realPath, writeWhole } from "../terminal/files.js";
 import { bytesOf, textOf } from "../terminal/bytes.js";
 import { hold, release, sweep } from "../terminal/locks.js";
@@ -125,7 +126,23 @@ test("a lock is one run's, and that of a run which is gone counts for nothing", 
         assert.equal(hold(path), "held", text);
         release([path]);
     }
-    assert.equal(hold("/nosuch/lock"), "none");
+    assert.equal(hold("/nosuch/lock"), "gone");
+});
+
+test("runs that end leave no locks, nor their folder, and each had its lock", async (it) => {
+    const clone = new InClone(it), folder = folderOf(it), child = join(clone.top, "child.mjs");
+    writeFileSync(child, `import { lock, unlock } from "./shell/terminal/locks.js";
+import { read } from "./shell/both/words.js";
+for (let times = 0; times < 200; times++) {
+    const held = lock(read(["draw", "one.xml", "--log", "log" + process.argv[2]]));
+    if (held.length !== 1) throw new Error("no lock");
+    unlock(held);
+}
+`);
+    const how = clone.how({ TMPDIR: folder });
+    const jobs = ["1", "2", "3"].map((number) => new Started(spawn(process.execPath, [child, number], how)));
+    assert.deepEqual(await Promise.all(jobs.map((job) => job.ended)), [0, 0, 0], jobs.map((job) => job.err).join(""));
+    assert.deepEqual(readdirSync(folder), []);
 });
 
 test("locks of runs that are gone don't pile up, and a young one may be just begun", (it) => {

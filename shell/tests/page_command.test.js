@@ -134,6 +134,18 @@ test("a fault has a page, and so has a file that lacks", () => {
     assert.ok(file("q.html").includes("no.xml isn't there"));
 });
 
+test("a page carries the program by which it checks itself; with --plain it carries none, and allows none", () => {
+    writeFileSync(join(base, "wasm"), "the program as WebAssembly");
+    const held = (/** @type {string[]} */ ...words) => {
+        assert.equal(start(["--html", "p.html", ...words, "draw", "a.xml"], { WASM: join(base, "wasm") }).status, 0);
+        const [, program] = /class="program">"([^"]*)"</.exec(file()) ?? [];
+        const carried = program && gunzipSync(Buffer.from(program, "base64")).toString();
+        return [carried, file().includes('class="worker"'), file().includes("wasm-unsafe-eval")];
+    };
+    assert.deepEqual(held(), ["the program as WebAssembly", true, true]);
+    assert.deepEqual(held("--plain"), [undefined, false, false]);
+});
+
 test("a small picture for an index", () => {
     start(["--html", "p.html", "draw", "a.xml"], { SMALL: "s.svg" });
     assert.deepEqual(left(), ["p.html", "s.svg"]);

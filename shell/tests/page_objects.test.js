@@ -111,6 +111,19 @@ test("virtual signals are left out and counted", () => {
     assert.match(said.map((it) => String(it)).join(), /left out: 1 virtual signal\./);
 });
 
+test("a page of draw lists the file's signals, and says which command draws them", () => {
+    const text = '<signal id="S1" name="A" pos="400" absPos="12400" dir="up" type="main" function="entry"/><signal id="S2" pos="500"/>'
+        + '<signal id="S3" pos="600" virtual="true"/>';
+    const page = pageWith(furnished(listed(text, "ocsElements", "signals"))), one = entry(page, "S1");
+    assert.deepEqual([one.kind, one.name, one.km, one.track, one.note],
+        ["main signal", "A", "12.400", "track1", "entry, direction up, not drawn: the command signals draws it"]);
+    assert.deepEqual([entry(page, "S2").kind, why(page, "S2"), page.objects?.entries.some(({ id }) => id === "S3")],
+        ["signal", "the command signals draws it", false]);
+    assert.ok(page.objects?.csv().includes("12.400,main signal,A,S1,track1,"));
+    // where the answer has them they are there once
+    assert.equal(signalled(new Map()).objects?.entries.filter(({ kind }) => kind === "signal").length, 7);
+});
+
 // ---- slips and normal positions
 
 test("a slip has a sign of its own", () => {

@@ -62,7 +62,8 @@ function faultsOverAxis({ metres }, strips) {
         return [...places.filter(({ key }) => key.startsWith("o")).flatMap(({ key, x }) =>
             ticks.filter((it) => Math.abs(it.x - x) < OVER && it.metres !== metres.get(key))
                 .map((it) => `${key} is over ${it.metres}`)),
-        ...places.flatMap(({ key, x }) => ticks.filter((it) => Math.abs(it.x - x) < 1 && it.metres !== metres.get(key))
+        // the sign of a gap is of no kilometre
+        ...places.filter(({ key }) => key).flatMap(({ key, x }) => ticks.filter((it) => Math.abs(it.x - x) < 1 && it.metres !== metres.get(key))
             .map((it) =>
             `${key} is right over ${it.metres}`)),
         ...ticks.slice(1).filter((it, at) => ticks[at].x < it.x && ticks[at].metres > it.metres)

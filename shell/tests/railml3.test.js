@@ -6,7 +6,8 @@ import { test } from "node:test";
 import { judged } from "../../cases/real/judged.js";
 import { Ground } from "../../cases/real/ground.js";
 import { habits } from "../../cases/real/habits.js";
-import { kinds, loopStation } from "../../cases/real/kinds.js";
+import { loopStation } from "../../cases/real/kind.js";
+import { kinds } from "../../cases/real/kinds.js";
 import { kinds3 } from "../../cases/real/kinds3.js";
 import { written3 } from "../../cases/real/writer3.js";
 import { Edits } from "../both/edits.js";
@@ -40,7 +41,7 @@ test("all kinds that are clear are drawn as on the ground", { skip: !hasProgram 
         assert.deepEqual(it.guesses, [], name);
         const { wrong, misordered, elsewhere } = judged(`${text}\n`, truth);
         assert.deepEqual([wrong, misordered, elsewhere], [[], [], []], name);
-        assert.deepEqual(await judge(engine, it), { reason: "", fault: "" }, name);
+        assert.deepEqual(await judge(engine, it), { reason: "", fault: "", isLarge: false }, name);
     }
 });
 
@@ -140,7 +141,7 @@ test("draw names prepare", async () => {
     const [note] = await notesOf(runOver(["draw", "s.xml"], "text 8 Root at 39\n", { "s.xml": textOf(KINDS[0].data) }));
     assert.equal(note.text, "this is railML 3, which isn't read as it is. Export the infrastructure as railML 2, or "
         + "./railplan prepare s.xml NEW.xml "
-        + "writes it so. That was tried on files of our own making alone");
+        + "writes it so, where it says enough. That was tried on files of our own making alone");
 });
 
 /** @param {Uint8Array} data @returns {{data: Uint8Array, right: string[]}} a file with all crossings to the left, and which

@@ -81,15 +81,41 @@ const EITHER = /** @type {[string, string, RegExp, RegExp][]} */ ([
     // a stub whose kilometres are right, or whose end isn't written
     ...["pos=\"200\"", at(200, 500)].map((end) => [station(track("m", [at(0), OPEN], [at(1000), OPEN],
         branch("w", at(300), "sa", "incoming")), track("s", [at(0, 300), joined("sa", "wc")], [end, OPEN])), "w",
-    /Do the kilometres of track m rise .* lead towards greater kilometres of track m, .* Where both are so write orientation="outgoing"/,
-    /contradict/]),
+    new RegExp("hasn't\\. The kilometres of track s contradict those of its neighbours: .* falls from begin to end.* See "
+        + "which way they go on the ground: where those of track s alone are wrong, or of another line, write absPos=.* Only "
+        + "where all kilometres are right is it the orientation of switch w\\. Do the kilometres of track m rise .* lead "
+        + "towards greater kilometres of track m, .* Where both are so write orientation=\"outgoing\" in place of incoming at "
+        + "switch w$"),
+    /--one-km|No orientation/]),
+    // sidings that are counted from 0: no orientation is the cause
+    [station(track("m", [at(0, 2000), OPEN], [at(1000, 3000), OPEN], branch("w", at(300, 2300), "sa", "outgoing")
+        + branch("v", at(700, 2700), "ta", "outgoing", "right")), track("s", [at(0), joined("sa", "wc")], [at(200), OPEN]),
+    track("t", [at(0), joined("ta", "vc")], [at(200), OPEN])), "w",
+    new RegExp("hasn't\\. The kilometres of track s contradict those of its neighbours: the begin of track s is at 0 m, and "
+        + "switch w, to which it is joined, at 2300 m\\. So do those of track t\\. No orientation that is turned alone has all "
+        + "of them fit\\. Where all orientations are right on the ground, \\S+ prepare s.xml NEW.xml --one-km counts"),
+    /orientation="/],
+    // one mileage on each of two tracks: either may be the one that is read the wrong way
+    [station(track("m", [at(0, 4000), OPEN], ["pos=\"3000\"", OPEN], branch("v", "pos=\"255\"", "sb", "outgoing")),
+        track("s", [at(0, 1600), OPEN], ["pos=\"2145\"", joined("sb", "vc")])), "v",
+    /kilometres of track \w contradict those of track \w: .*the file can't say which: .*write absPos="3745" at switch v/,
+    /orientation="|rises and falls/],
+    // a second track that falls and is counted up
+    [station(track("m", [at(0), OPEN], [at(1000), OPEN], branch("w", at(300), "sa", "outgoing") + branch("v", at(700), "tb",
+        "incoming", "right")), track("n", [at(0, 1000), OPEN], ["pos=\"1000\"", OPEN], branch("x", "pos=\"400\"", "ta",
+        "incoming", "right") + branch("y", "pos=\"600\"", "sb", "outgoing")),
+    track("s", [at(0, 300), joined("sa", "wc")], ["pos=\"100\"", joined("sb", "yc")]),
+    track("t", [at(0, 600), joined("ta", "xc")], ["pos=\"100\"", joined("tb", "vc")])), "v",
+    new RegExp("hasn't\\. The kilometres of track n contradict those of its neighbours: .*write absPos=\"600\" at switch x, "
+        + "absPos=\"400\" at switch y, absPos=\"0\" at the end of track n"), /orientation="/],
     // a track that falls and is counted up, its switch near its begin
     [station(track("m", [at(0), OPEN], [at(1000), OPEN], branch("w", at(400), "sa", "outgoing")),
         track("n", [at(0, 1420), OPEN], ["pos=\"900\"", OPEN], branch("v", at(20, 1440), "sb", "outgoing")
             + branch("u", "pos=\"300\"", "ta", "outgoing")),
         track("s", [at(0, 400), joined("sa", "wc")], [at(1000, 1400), joined("sb", "vc")]),
         track("t", [at(0, 1720), joined("ta", "uc")], ["pos=\"100\"", OPEN])), "v",
-    /Do the kilometres of track n rise .* Where both are so write orientation="incoming"/, /absPos=|so the kilometres fit/],
+    /The kilometres of track n contradict .*\. So do those of track t\. No orientation that is turned alone .* --one-km/,
+    /absPos=|orientation="/],
     // half a metre apart, the wrong way round
     [station(track("m", [at(0), OPEN], [at(1000), OPEN], branch("w", at(300.5), "sa", "outgoing")),
         track("n", [at(0), OPEN], [at(1000), OPEN], branch("v", at(300), "sb", "incoming")),
@@ -97,7 +123,8 @@ const EITHER = /** @type {[string, string, RegExp, RegExp][]} */ ([
     /look which of the two lies towards smaller kilometres, and write the smaller mileage there/, /orientation="/],
     // a loop that is longer than what it goes round: the track that hangs on it is right
     [station(MAIN, track("s", [at(0, 300), joined("sa", "wc")], ["pos=\"412\"", joined("sb", "vc")], branch("u", "pos=\"405\"",
-        "ta", "outgoing")), track("t", [at(0, 695), joined("ta", "uc")], ["pos=\"100\"", OPEN])), "v", /switch u at 705 m/,
+        "ta", "outgoing")), track("t", [at(0, 695), joined("ta", "uc")], ["pos=\"100\"", OPEN])), "v",
+    /kilometres of track s contradict .*: along it switch u, at 705 m, comes before the end of track s, at 700 m\. /,
     /kilometres of track t/],
     // a crossing
     [station(track("m", [at(0), OPEN], [at(1000), OPEN], `<crossing id="k" ${at(500)}><connection id="k1" ref="he" `
@@ -129,7 +156,8 @@ test("an orientation is turned where that alone has all fit", async () => {
     for (const [node, way] of Object.entries(right)) {
         const wrong = way === "outgoing" ? "incoming" : "outgoing";
         assert.ok((await said(between({ ...right, [node]: wrong }), node)).includes(
-            `write orientation="${way}" in place of ${wrong} at switch ${node}. A triangle or a`));
+            "Where it isn't, one orientation is wrong, and one alone has all tracks and kilometres fit when it is turned: "
+            + `write orientation="${way}" in place of ${wrong} at switch ${node}`));
     }
     const loop = station(MAIN.replace("outgoing", "incoming"), track("s", [at(0, 300), joined("sa", "wc")], [at(400, 700),
         joined("sb", "vc")]));
@@ -218,7 +246,10 @@ test("a crossing on each of both tracks, a triangle, a balloon", async () => {
         + branch("v", at(1500), "xb", "incoming")), track("n", [at(0, 500), joined("na", "wc")], [at(1300, 1800), OPEN],
         branch("u", at(500, 1000), "xa", "incoming")), track("x", [at(0, 1000), joined("xa", "uc")], [at(500, 1500),
             joined("xb", "vc")]));
-    assert.match(await said(triangle, "u"), /A triangle or a turning loop \(balloon\) has no west and east: cut it/);
+    assert.match(await said(triangle, "u"), /hasn't\. As it is written this is a triangle of the switches u, w and v: /);
+    const ring = station(track("m", [at(0), OPEN], [at(900), joined("mb", "sb")], branch("w", at(300), "sa", "outgoing")),
+        track("s", [at(0, 300), joined("sa", "wc")], [at(600, 900), joined("sb", "mb")]));
+    assert.match(await said(ring, "m.e"), /^at the .*\. As it is written this is a turning loop \(balloon\) at switch w: /);
     const balloon = station(track("m", [at(0), OPEN], [at(900, 300), joined("e", "wc")], branch("w", at(300), "e",
         "outgoing")));
     const [loop] = await notesOf(runOver(["graph", "s.xml"], "graph 3 NotForward m 300.000000\n", { "s.xml": balloon }));

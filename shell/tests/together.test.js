@@ -1,7 +1,11 @@
 /** The scripts of pages and of the desk, which have most of their modules in common. */
 import assert from "node:assert/strict";
 import { spawnSync } from "node:child_process";
+import { cpSync, mkdtempSync, rmSync } from "node:fs";
+import { tmpdir } from "node:os";
+import { join } from "node:path";
 import { test } from "node:test";
+import { fileURLToPath, pathToFileURL } from "node:url";
 import { bundledTogether } from "../engine/packed.js";
 import { partOf } from "../engine/together.js";
 
@@ -43,4 +47,13 @@ test("both scripts begin with what both have, and are whole", IS_THERE, () => {
         assert.doesNotThrow(() => new Function(script));
     }
     assert.deepEqual(bundledTogether(["page/opened.js", "page/desk_opened.js"]), [page, desk], "twice the same");
+});
+
+test("both are the same bytes wherever the shell lies", IS_THERE, async (it) => {
+    const room = mkdtempSync(join(tmpdir(), "railplan-")), other = join(room, "deeper/by/some/folders");
+    it.after(() => rmSync(room, { recursive: true, force: true }));
+    cpSync(fileURLToPath(new URL("../", import.meta.url)), other, { recursive: true, filter: (name) => !name.endsWith("/tests") });
+    const packed = await import(pathToFileURL(join(other, "engine/packed.js")).href);
+    const entries = /** @type {[string, string]} */ (["page/opened.js", "page/desk_opened.js"]);
+    assert.deepEqual(packed.bundledTogether(entries), bundledTogether(entries));
 });

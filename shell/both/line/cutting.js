@@ -3,8 +3,8 @@
  * of two tracks where one is near, else within the piece, all cut tracks of a side at one mileage where they can. All else
  * stays as it was.
  */
-import { endOf, signals } from "../railml.js";
-import { isPoint, micrometres, mileageOf, positionOf } from "./network.js";
+import { endOf } from "../railml.js";
+import { isPoint, mileageOf, positionOf } from "./network.js";
 import { kilometre } from "./grouping.js";
 import { elementText, escaped, tagText } from "./writing.js";
 
@@ -50,17 +50,15 @@ function ownMileage(it) {
 
 /**
  * Lists of objects, each with those that lie between two positions, and in a track's first part with those that say no position.
+ * @param {Network} network
  * @param {Element[]} lists
  * @param {number} low
  * @param {number} high
  * @param {boolean} isFirst
  */
-function listTexts(lists, low, high, isFirst) {
+function listTexts({ objects }, lists, low, high, isFirst) {
     return lists.flatMap((list) => {
-        const kept = list.children.filter((it) => {
-            const at = micrometres(it.attributes.get("pos"));
-            return at === undefined ? isFirst : at >= low && at <= high;
-        });
+        const kept = objects.between(list, low, high, isFirst);
         const texts = kept.map((it) => elementText(it, it.name === "signal" && it.attributes.has("pos") ? ownMileage(it) : undefined));
         return kept.length ? [`<${list.name}>`, ...texts, `</${list.name}>`] : [];
     });
@@ -167,7 +165,7 @@ export class Cutting {
             return [];
         }
         const middle = (near + far) / 2, [low, high] = [Math.min(near, middle), Math.max(near, middle)];
-        return signals(piece.track).flatMap((it) => mileageOf(it) ?? []).filter((at) => at >= low && at <= high);
+        return this.network.objects.signalsBetween(piece.track, low, high);
     }
 
     /**
@@ -264,7 +262,8 @@ export class Cutting {
         const begin = this.endText(track, "trackBegin", first, "one", id), end = this.endText(track, "trackEnd", last, "other", id);
         const connections = inner.length ? ["<connections>", ...inner, "</connections>"] : [];
         const low = this.reach(first, "one"), high = this.reach(last, "other"), attributes = new Map(track.attributes).set("id", id);
-        const isFirst = id === track.id, kept = (/** @type {Element[]} */ lists) => listTexts(lists, low, high, isFirst);
+        const isFirst = id === track.id;
+        const kept = (/** @type {Element[]} */ lists) => listTexts(this.network, lists, low, high, isFirst);
         const beside = track.named("trackTopology").flatMap((it) => kept(it.children.filter(isList)));
         const objects = track.named("trackElements", "ocsElements").flatMap((group) => {
             const lists = kept(group.children);

@@ -3,6 +3,7 @@
  * tracks.
  */
 import { isPoint, micrometres, mileageOf, positionOf } from "./network.js";
+import { listUnder, stretch } from "../searching.js";
 
 /** @typedef {import("../railml.js").Element} Element */
 /** @typedef {import("./network.js").Network} Network */
@@ -96,8 +97,7 @@ export function byDistance(network, among, near) {
     /** @type {Map<Element, Element[]>} */
     const groups = new Map();
     for (const it of among) {
-        const root = sets.root(it);
-        groups.set(root, [...(groups.get(root) ?? []), it]);
+        listUnder(groups, sets.root(it), it);
     }
     return [...groups.values()];
 }
@@ -210,7 +210,7 @@ export function operationalPoints(network) {
         if (isPoint(it)) {
             own.set(it, ref);
         } else if (placed && micrometres(placed.attributes.get("pos")) !== undefined) {
-            named.set(track, [...(named.get(track) ?? []), { at: positionOf(placed), ref }]);
+            listUnder(named, track, { at: positionOf(placed), ref });
         }
     }
     return { names, own, named };
@@ -225,9 +225,10 @@ function nearestPoints(network, { own, named }) {
     const queue = new Nearest();
     own.forEach((ref, node) => queue.add(0, node, ref));
     for (const [track, spots] of named) {
+        spots.sort((one, other) => one.at - other.at);
         for (const { one, other } of network.tracks.get(track)?.pieces ?? []) {
             const [begin, end] = [positionOf(one), positionOf(other)];
-            for (const { at, ref } of spots.filter((it) => it.at >= begin && it.at <= end)) {
+            for (const { at, ref } of stretch(spots, (it) => it.at, begin, end)) {
                 queue.add(at - begin, network.nodeOf(one), ref);
                 queue.add(end - at, network.nodeOf(other), ref);
             }

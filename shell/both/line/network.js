@@ -3,6 +3,7 @@
  * to the next. Lengths and mileages are whole micrometres, as numbers.
  */
 import { byId, connections, endOf, points } from "../railml.js";
+import { Objects } from "./objects.js";
 
 /** @typedef {import("../railml.js").Element} Element */
 /** @typedef {import("../railml.js").Document} Document */
@@ -71,6 +72,7 @@ export class Network {
         for (const connection of this.connections.values()) {
             this.addJoin(connection);
         }
+        this.objects = new Objects();
         /** @type {Set<string>} all ids of the file */
         this.ids = new Set(document.elements.map((it) => it.id).filter(Boolean));
         /** @type {Map<string, Element>} operational points by their ids */

@@ -56,16 +56,17 @@ function endsOf(track) {
  * it is a ring */
 function chainFrom(first, joins) {
     /** @type {Part[]} */
-    const chain = [];
+    const chain = [], seen = new Set();
     let [begin, end] = endsOf(first);
     let isTurned = joins.has(begin), track = first;
     for (;;) {
         chain.push({ track, begin, end, isTurned });
+        seen.add(track);
         const next = joins.get(isTurned ? begin : end), other = next?.above("track");
         if (!next || !other) {
             return chain;
         }
-        if (chain.some((part) => part.track === other)) {
+        if (seen.has(other)) {
             return [];
         }
         track = other;

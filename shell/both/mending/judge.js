@@ -16,10 +16,14 @@ import { Prepared } from "./prepared.js";
 const MOVED = 0.6;
 const MEASURED = [...railml.ENDS, ...railml.POINTS, "signal"];
 
-/** @param {Prepared} it @param {Graph} graph @returns {string} the first switch or crossing that isn't as it was, with why */
-function differing(it, graph) {
+/** faults by which the program says that a file is larger than what it reads */
+const TOO_LARGE = /^(long 1|topology \d+ TooMany\b.*|graph \d+ TooMany(Nodes|Edges)\b.*)$/;
+
+/** @param {Prepared} it @param {import("../surroundings.js").Surroundings} around what lies around each in what is mended
+ * @returns {string} the first switch or crossing that isn't as it was, with why */
+function differing(it, around) {
     const old = (/** @type {string} */ id) => it.renamed.get(id) ?? id;
-    const here = new Map([...surroundingsOfGraph(graph, it.made)].map(([id, around]) => [old(id), around.map(old).join(", ")]));
+    const here = new Map([...around].map(([id, around]) => [old(id), around.map(old).join(", ")]));
     const there = it.known?.around ?? new Map([...new Walked(/** @type {railml.Document} */ (it.source)).all()]
         .map(([id, around]) => [id, [around]]));
     for (const [id, ways] of there) {
@@ -39,13 +43,13 @@ function givenOf(document) {
     }));
 }
 
-/** @param {Prepared} it @param {Graph} graph @returns {string} the first switch, crossing or signal that is elsewhere */
-function elsewhere(it, graph) {
+/** @param {Prepared} it @param {[string, number][]} found the mileages of switches and crossings in what is mended
+ * @returns {string} the first switch, crossing or signal that is elsewhere */
+function elsewhere(it, found) {
     const source = /** @type {railml.Document} */ (it.source), given = it.known?.given ?? givenOf(source), written = givenOf(it.document);
     const ends = it.known?.signals ?? new Walked(source).signals();
     const old = (/** @type {string} */ id) => it.renamed.get(id) ?? id;
-    const points = graph.nodes.filter((node) => node.kind === "switch" || node.kind === "crossing")
-        .map((node) => /** @type {const} */ ([old(node.name), Number(node.mileage)]));
+    const points = found.map(([id, at]) => /** @type {const} */ ([old(id), at]));
     const signals = [...ends.keys()].map((id) => /** @type {const} */ ([id, written.get(id)]));
     const moved = it.isRecounted ? undefined : [...points, ...signals]
         .find(([id, at]) => given.has(id) && Math.abs(Number(given.get(id)) - Number(at)) > MOVED);
@@ -66,14 +70,24 @@ function elsewhere(it, graph) {
  * The first switch or crossing of what is mended that isn't as it was, by readings of both files: for a file that is too large for the
  * program, in which no three-way switch was written as two.
  * @param {Prepared} it
- * @returns {string} "" where all are as they were
+ * @returns {string} "" where all are as they were, else which one isn't, and why
  */
 export function otherInFile(it) {
-    const old = (/** @type {string} */ id) => it.renamed.get(id) ?? id;
-    const here = new Map([...new Walked(it.document).all()].map(([id, around]) => [old(id), around.map(old).join(", ")]));
-    const there = [...new Walked(/** @type {railml.Document} */ (it.source)).all()];
-    const other = there.find(([id, around]) => here.get(id) !== around.join(", "));
-    return other ? other[0] : here.size === there.length ? "" : "a switch that wasn't there";
+    return it.made.size ? `${[...it.made.values()][0]} would be two switches, which the program's track graph alone can judge`
+        : differing(it, new Walked(it.document).all());
+}
+
+/**
+ * The same, and whether a switch, crossing or signal is elsewhere.
+ * @param {Prepared} it
+ * @returns {string}
+ */
+function judgedByReading(it) {
+    const points = it.document.tracks().flatMap(railml.points);
+    return otherInFile(it) || elsewhere(it, points.flatMap((one) => {
+        const at = railml.mileage(one);
+        return at ? [/** @type {[string, number]} */ ([one.id, at.toNumber()])] : [];
+    }));
 }
 
 /** @typedef {Pick<Prepared, "known" | "renamed" | "made" | "isRebuilt">} Kept what a file that is mended elsewhere is to be judged by */
@@ -97,8 +111,8 @@ function knownOfFile(source) {
     return { around: new Map([...walked.all()].map(([id, around]) => [id, [around]])), given: givenOf(source), signals: walked.signals() };
 }
 
-/** @typedef {{reason: string, fault: string}} Judgement why what is mended isn't to be written, and the fault that the program
- * finds in it */
+/** @typedef {{reason: string, fault: string, isLarge: boolean}} Judgement why what is mended isn't to be written, the fault that the
+ * program finds in it, and whether that is its size alone, so that two readings of this launcher judged it */
 
 /**
  * Judges what is mended before it is written.
@@ -111,11 +125,20 @@ export async function judge(engine, it, signal) {
         return null;
     }
     const text = new TextDecoder().decode(ran.output);
+    const isJudged = it.source !== null || it.known !== null;
     if (ran.status) {
-        return { reason: "", fault: linesOf(ran.output).at(-1) ?? `status ${ran.status}` };
+        const fault = linesOf(ran.output).at(-1) ?? `status ${ran.status}`, isLarge = TOO_LARGE.test(fault);
+        return { reason: isLarge && it.source ? judgedByReading(it) : "", fault, isLarge };
     }
     const graph = readGraph(text);
-    return { reason: it.source || it.known ? differing(it, graph) || elsewhere(it, graph) : "", fault: "" };
+    return { reason: isJudged ? differing(it, surroundingsOfGraph(graph, it.made)) || elsewhere(it, pointsOf(graph)) : "", fault: "",
+        isLarge: false };
+}
+
+/** @param {Graph} graph @returns {[string, number][]} the mileages of its switches and crossings */
+function pointsOf(graph) {
+    return graph.nodes.filter((node) => node.kind === "switch" || node.kind === "crossing")
+        .map((node) => /** @type {[string, number]} */ ([node.name, Number(node.mileage)]));
 }
 
 /**

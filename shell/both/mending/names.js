@@ -62,6 +62,9 @@ export function idsOf(document) {
 /** @param {Prepared} it writes ids anew that are too long or have blanks, where they are given and wherever they are named */
 export function mendIds(it) {
     const { document } = it, listed = railml.withIds(document).filter((element) => element.id && !isRead(element.id));
+    if (!listed.length) {
+        return;
+    }
     const counts = new Map();
     listed.forEach(({ id }) => counts.set(id, (counts.get(id) ?? 0) + 1));
     // an id that is there twice stays: nothing says which of the two a ref means
@@ -72,9 +75,6 @@ export function mendIds(it) {
         anew.set(element.id, id);
         it.renamed.set(id, element.id);
         it.changed(element, `the id "${element.id}" is written as ${id}`);
-    }
-    if (!anew.size) {
-        return;
     }
     it.replace(document.elements.flatMap((element) => [...element.attributes].flatMap(([name, value]) => {
         const id = name === "id" || /(^r|R)efs?$/.test(name) ? anew.get(value) : undefined;
@@ -106,8 +106,12 @@ export function partnerOf(known, owners, connection) {
 
 /** @param {Prepared} it writes the id of a connection in place of that of the switch, the end or the track that it belongs to */
 export function mendRefs(it) {
-    const { document } = it, known = railml.byId(document), { owners } = knownOf(document);
-    it.replace(railml.dangling(document).flatMap((connection) => {
+    const { document } = it, dangling = railml.dangling(document);
+    if (!dangling.length) {
+        return;
+    }
+    const known = railml.byId(document), { owners } = knownOf(document);
+    it.replace(dangling.flatMap((connection) => {
         const meant = partnerOf(known, owners, connection), ref = connection.attributes.get("ref") ?? "";
         if (!meant) {
             return [];

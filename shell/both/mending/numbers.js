@@ -1,16 +1,15 @@
 /** Numbers of metres as they are read, and mileages that the file itself says. */
 import { Decimal } from "../decimal.js";
-import { between } from "../messages/doubts.js";
 import { knownOf, lacks, leadsNowhere, wrongCourse, wrongOrientation } from "../messages/topology_faults.js";
+import { mileageOf, spotsOf } from "../one_mileage.js";
 import * as railml from "../railml.js";
+import { firstAt } from "../searching.js";
 
 /** @typedef {import("./prepared.js").Prepared} Prepared */
 /** @typedef {import("../railml.js").Element} Element */
 /** @typedef {import("../edits.js").Edit} Edit */
 
 const READ_AS = /^\s*[+-]?(\d{1,9}(\.\d{0,6})?|\.\d{1,6})\s*$/;
-/** so many tracks are read, and a chain of them is no longer */
-const TRACKS = 128;
 /** so many ids are compared, to say what a ref that leads nowhere may mean */
 const COMPARED = 200_000;
 const MEASURED = [...railml.ENDS, ...railml.POINTS, "signal"];
@@ -44,8 +43,9 @@ export function mendNumbers(it) {
     const edits = [];
     for (const element of elements.filter((other) => MEASURED.includes(other.name) && other.above("track"))) {
         for (const name of NUMBERS) {
-            const given = element.attributes.get(name), place = it.edits.valueIn(element.place, name);
-            if (given === undefined || !place || READ_AS.test(given)) {
+            const given = element.attributes.get(name), isRead = given === undefined || READ_AS.test(given);
+            const place = isRead ? null : it.edits.valueIn(element.place, name);
+            if (given === undefined || !place) {
                 continue;
             }
             const written = asRead(given), plain = given.trim();
@@ -105,29 +105,74 @@ function doubtEnd(it, begin, mileage) {
     }
 }
 
+/**
+ * Which begins are asked again once a begin has its mileage: those that are joined to its track.
+ * @param {Map<string, Element>} connections by their ids @param {Element[]} begins those without a mileage
+ * @returns {Map<Element, Element[]>}
+ */
+function asking(connections, begins) {
+    const found = new Map(begins.map((begin) => [begin, /** @type {Element[]} */ ([])]));
+    for (const begin of begins) {
+        for (const connection of begin.named("connection")) {
+            const track = connections.get(connection.attributes.get("ref") ?? "")?.above("track");
+            const other = track && railml.endOf(track, "trackBegin");
+            other && found.get(other)?.push(begin);
+        }
+    }
+    return found;
+}
+
 /** @param {Prepared} it writes what the file says, as long as that says more */
 export function mendMileages(it) {
-    for (let round = 0; round < TRACKS; round++) {
-        const connections = railml.byId(it.document);
-        /** @type {Edit[]} */
-        const edits = [];
-        for (const { element: begin, name } of railml.lacking(it.document)) {
-            const known = name === "absPos" ? railml.joinedMileage(connections, begin) : null;
-            const mileage = known ? asRead(String(known.mileage)) : "";
-            if (known && mileage) {
-                doubtEnd(it, begin, /** @type {Decimal} */ (Decimal.of(mileage)));
-                edits.push(it.edits.setting(begin, "absPos", mileage));
-                it.changed(begin, `absPos="${mileage}" is written at ${railml.what(begin)}, as `
-                    + `${railml.what(known.element)} has, to which it is joined`);
-            }
+    const { document } = it, connections = railml.byId(document), edits = /** @type {Edit[]} */ ([]);
+    const begins = railml.lacking(document).filter(({ name }) => name === "absPos").map(({ element }) => element);
+    const again = asking(connections, begins);
+    /** @type {Map<Element, string>} */
+    const written = new Map();
+    for (let round = begins; round.length;) {
+        const found = round.flatMap((begin) => {
+            const known = railml.joinedMileage(connections, begin, written), mileage = known ? asRead(String(known.mileage)) : "";
+            return known && mileage ? [{ begin, from: known.element, mileage }] : [];
+        });
+        for (const { begin, from, mileage } of found) {
+            written.set(begin, mileage);
+            doubtEnd(it, begin, /** @type {Decimal} */ (Decimal.of(mileage)));
+            edits.push(it.edits.setting(begin, "absPos", mileage));
+            it.changed(begin, `absPos="${mileage}" is written at ${railml.what(begin)}, as ${railml.what(from)} has, to which it is `
+                + "joined");
         }
-        if (!edits.length) {
-            break;
-        }
-        it.isRebuilt = true;
-        it.replace(edits);
+        const next = new Set(found.flatMap(({ begin }) => again.get(begin) ?? []));
+        round = [...next].filter((begin) => !written.has(begin)).sort((one, other) => one.place - other.place);
     }
+    it.isRebuilt ||= edits.length > 0;
+    it.replace(edits);
     mendSignals(it);
+}
+
+/**
+ * What gives the mileages of a track's objects between two of its places that have theirs, in metres: a track of a line may have
+ * ten thousands of objects and thousands of places.
+ * @param {Element} track
+ * @returns {(it: Element) => number | null}
+ */
+function betweenPlaces(track) {
+    const spots = spotsOf(track), positions = spots.map(railml.position);
+    /** @type {Decimal[]} the greatest position up to each place */
+    const furthest = [];
+    for (const at of positions) {
+        const most = furthest[furthest.length - 1] ?? at;
+        furthest.push(at.compare(most) > 0 ? at : most);
+    }
+    return (it) => {
+        const at = railml.position(it), behind = firstAt(spots.length, (number) => furthest[number].compare(at) >= 0);
+        const [one = null, other = null] = [spots[behind - 1], spots[behind]].map((spot) => spot && mileageOf(spot));
+        if (one === null || other === null) {
+            return null;
+        }
+        const length = positions[behind].minus(positions[behind - 1]).toNumber();
+        const part = length ? at.minus(positions[behind - 1]).toNumber() / length : 0;
+        return Math.round((one + (other - one) * part) * 1000) / 1000;
+    };
 }
 
 /** @param {Prepared} it writes the mileage of signals where that of their track falls: without absPos it is counted as if it
@@ -138,8 +183,9 @@ function mendSignals(it) {
         if (!begun || !ended || ended.compare(begun) >= 0) {
             return [];
         }
+        const mileageAt = betweenPlaces(track);
         return railml.signals(track).filter((signal) => !signal.attributes.has("absPos")).flatMap((signal) => {
-            const mileage = asRead(String(between(track, signal) ?? ""));
+            const mileage = asRead(String(mileageAt(signal) ?? ""));
             if (!mileage) {
                 return [];
             }

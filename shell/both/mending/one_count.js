@@ -3,7 +3,7 @@
  * lengths. Of all ways to count them that is taken which changes the fewest mileages that the file gives.
  */
 import { Decimal } from "../decimal.js";
-import { lengthOf, spotsOf } from "../one_mileage.js";
+import { joinsOf, lengthOf, spotsOf } from "../one_mileage.js";
 import * as railml from "../railml.js";
 import { TrackGraph } from "../track_graph.js";
 import { asRead } from "./numbers.js";
@@ -53,28 +53,13 @@ class Group {
         this.spots = this.tracks.flatMap(spotsOf);
     }
 
-    /** @param {Element} it @param {Element} connection @returns {Way} to which end of its track one leaves it */
-    wayOut(it, connection) {
-        const isOut = railml.ENDS.includes(it.name) ? it.name === "trackEnd" : connection.attributes.get("orientation") === "outgoing";
-        return isOut ? 1 : -1;
-    }
-
     /** @param {Element} track */
     follow(track) {
-        const way = this.ways.get(track) ?? 1;
-        for (const here of spotsOf(track)) {
-            for (const connection of here.named("connection")) {
-                const other = this.graph.other(connection), there = other?.parent, next = there?.above("track");
-                if (!other || !there || !next || !spotsOf(next).length) {
-                    continue;
-                }
-                // what leads out here leads in there
-                const nextWay = /** @type {Way} */ (-way * this.wayOut(here, connection) * this.wayOut(there, other));
-                if (!this.ways.has(next)) {
-                    this.ways.set(next, nextWay);
-                } else if (this.ways.get(next) !== nextWay) {
-                    this.back ??= next;
-                }
+        for (const { next, nextWay } of joinsOf(this.graph, track, this.ways.get(track) ?? 1)) {
+            if (!this.ways.has(next)) {
+                this.ways.set(next, nextWay);
+            } else if (this.ways.get(next) !== nextWay) {
+                this.back ??= next;
             }
         }
     }

@@ -4,6 +4,7 @@ import { knownOf, roomAt } from "../messages/topology_faults.js";
 import * as railml from "../railml.js";
 import { freshId, idsOf } from "./names.js";
 import { asRead } from "./numbers.js";
+import { stretch } from "../searching.js";
 
 /** @typedef {import("./prepared.js").Prepared} Prepared */
 /** @typedef {import("../railml.js").Element} Element */
@@ -30,49 +31,56 @@ function wayOut(end) {
     return (end.name === "trackEnd") !== falls(/** @type {Element} */ (end.above("track"))) ? 1 : -1;
 }
 
-/**
- * What else of a file may be meant by an end that refers to nothing: connections that are joined to none, at its place.
- * @param {railml.Document} document @param {Element} end
- * @returns {Element[]}
- */
-function others(document, end) {
-    const at = railml.mileage(end);
-    return railml.dangling(document).filter((it) => {
-        const owner = it.parent, there = owner && railml.mileage(owner);
-        if (!owner || owner === end) {
-            return false;
-        }
-        const isNear = !at || !there || at.minus(there).absolute().compare(NEAR) <= 0;
-        return isNear && !(at && there && railml.ENDS.includes(owner.name) && wayOut(owner) === wayOut(end));
-    });
-}
+/** @typedef {{connection: Element, owner: Element, at: Decimal}} Loose a connection that is joined to none, at a mileage */
 
-/** @param {railml.Document} document @param {Element} end @returns {string} why it isn't clear that an end leads out of the file;
- * "" where it is */
-function unclear(document, end) {
-    const { owners, backs } = knownOf(document), [connection] = end.named("connection");
-    const names = [end.id, connection?.id, end.above("track")?.id ?? ""].filter((id) => id !== undefined);
-    const back = names.flatMap((id) => backs.get(id) ?? []);
-    if (back.length) {
-        return `the connection ${back[0]} names it`;
+/** What ends that refer to nothing may mean: a file's connections, and of these the ones that are joined to none. */
+class Meant {
+    /** @param {railml.Document} document */
+    constructor(document) {
+        this.known = knownOf(document);
+        this.dangling = railml.dangling(document);
+        const all = this.dangling.flatMap((connection) => (connection.parent ? [{ connection, owner: connection.parent }] : []))
+            .map((it) => ({ ...it, at: railml.mileage(it.owner) }));
+        /** @type {Loose[]} by their mileages */
+        this.placed = all.flatMap(({ at, ...it }) => (at ? [{ ...it, at }] : [])).sort((one, other) => one.at.compare(other.at));
+        /** those whose mileage isn't known */
+        this.anywhere = all.filter(({ at }) => !at);
     }
-    const [other] = connection ? others(document, end) : [];
-    if (other) {
-        return `the connection ${other.id} refers to nothing either, and may be meant`;
+
+    /** @param {Element} end @returns {boolean} whether a connection that is joined to none lies at its place, and may be meant */
+    hasOther(end) {
+        const at = railml.mileage(end), isElse = (/** @type {{owner: Element}} */ it) => it.owner !== end;
+        if (!at) {
+            return this.anywhere.some(isElse) || this.placed.some(isElse);
+        }
+        const near = stretch(this.placed, (it) => it.at.toNumber(), at.minus(NEAR).toNumber(), at.plus(NEAR).toNumber());
+        return this.anywhere.some(isElse)
+            || near.some((it) => isElse(it) && !(railml.ENDS.includes(it.owner.name) && wayOut(it.owner) === wayOut(end)));
     }
-    return connection && owners.has(connection.attributes.get("ref") ?? "") ? "what it names is there" : "";
+
+    /** @param {Element} end @returns {boolean} whether it is clear that an end leads out of the file */
+    leadsOut(end) {
+        const { owners, backs } = this.known, [connection] = end.named("connection");
+        const names = [end.id, connection?.id, end.above("track")?.id ?? ""];
+        const isNamed = names.some((id) => id !== undefined && backs.has(id));
+        return !isNamed && !(connection && (owners.has(connection.attributes.get("ref") ?? "") || this.hasOther(end)));
+    }
 }
 
 /** @param {Prepared} it has ends open that say nothing, or that refer to what isn't in the file */
 export function mendEnds(it) {
-    const { document } = it, taken = idsOf(document), dangling = new Set(railml.dangling(document));
-    const ends = document.tracks().flatMap((track) => railml.ENDS.flatMap((name) => railml.endOf(track, name) ?? []));
-    it.replace(ends.flatMap((end) => {
-        const having = end.named(...railml.ENDINGS), [connection] = having;
-        const isSilent = !having.length, isDangling = having.length === 1 && dangling.has(connection);
-        if (!isSilent && !isDangling || unclear(document, end)) {
-            return [];
-        }
+    const { document } = it, dangling = new Set(railml.dangling(document));
+    const all = document.tracks().flatMap((track) => railml.ENDS.flatMap((name) => railml.endOf(track, name) ?? []));
+    const ends = all.filter((end) => {
+        const having = end.named(...railml.ENDINGS);
+        return !having.length || having.length === 1 && dangling.has(having[0]);
+    });
+    if (!ends.length) {
+        return;
+    }
+    const meant = new Meant(document), taken = idsOf(document);
+    it.replace(ends.filter((end) => meant.leadsOut(end)).flatMap((end) => {
+        const [connection] = end.named(...railml.ENDINGS), isSilent = !connection;
         const text = `<openEnd id="${freshId(taken, `${end.id}.open`)}"/>`;
         it.isRebuilt = true;
         it.changed(end, isSilent ? `${railml.what(end)} says nothing of how the track ends: it is written as an open end`
@@ -174,9 +182,9 @@ function goingOn(it, point) {
 
 /** @param {Prepared} it */
 export function mendLegs(it) {
-    const taken = idsOf(it.document);
     const points = it.document.tracks().flatMap(railml.points)
         .filter((point) => point.name === "switch" && point.named("connection").length === 2);
+    const taken = points.length ? idsOf(it.document) : new Set();
     it.replace(points.flatMap((point) => {
         const edits = goingOn(it, point);
         return edits.length ? edits : parting(it, point, taken);

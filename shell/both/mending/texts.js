@@ -41,8 +41,11 @@ export function mendDoctype(it) {
 /** @param {Prepared} it @returns {Map<string, string>} the prefixes of elements that are read without one, with their
  * namespaces */
 function prefixesOf(it) {
-    const { elements } = it.document;
-    const used = elements.map((element) => element.name.split(":")).filter(([, local]) => PREFIXED.includes(local));
+    const { elements } = it.document, names = new Set(elements.map((element) => element.name));
+    const used = [...names].map((name) => name.split(":")).filter(([, local]) => PREFIXED.includes(local));
+    if (!used.length) {
+        return new Map();
+    }
     const spaces = new Map(elements.flatMap((element) => [...element.attributes])
         .filter(([key]) => key.startsWith("xmlns:")).map(([key, value]) => [key.slice(6), value]));
     return new Map(used.map(([prefix]) => prefix).sort().map((prefix) => [prefix, spaces.get(prefix) ?? ""]));

@@ -2,7 +2,9 @@
  * pages. */
 import { mileageOf, spotsOf } from "../one_mileage.js";
 import * as railml from "../railml.js";
+import { Orders } from "../sides/confirmed.js";
 import { sidesOf } from "../sides/said.js";
+import { unrelatedOf } from "../unrelated.js";
 import { offsetsOf } from "./offsets.js";
 
 /** @typedef {import("../railml.js").Document} Document */
@@ -12,6 +14,13 @@ import { offsetsOf } from "./offsets.js";
 const SHOWN = 3;
 /** two lengths of all tracks that are further apart aren't of one unit */
 const FACTOR = 20;
+/** what is said of a question that coordinates may answer */
+const SURVEYED = ". The file has coordinates (geoCoord) there: they may say it, and aren't read for this";
+
+/** @param {Element[]} places @returns {boolean} whether the file says of each where it lies on the map */
+function isSurveyed(places) {
+    return places.length > 0 && places.every((it) => it.named("geoCoord").length > 0);
+}
 
 /** @param {string[]} names @param {string} what @returns {string} the first of some names, and how many more there are */
 function listed(names, what) {
@@ -82,9 +91,30 @@ function unrelated(document) {
         return [];
     }
     const names = beside.map((group) => group[0].id);
+    const isPlaced = [main, ...beside].every((group) => group.map(spotsOf).some(isSurveyed));
     const [word, lies] = names.length === 1 ? ["track", "it lies"] : ["tracks", "they lie"];
     return [`nothing joins ${word} ${listed(names, "parts")} to track ${main[0].id}, so nothing says whether ${lies} above or `
-        + "below it"];
+        + `below it${isPlaced ? SURVEYED : ""}`];
+}
+
+/** @param {Document} document @returns {string[]} tracks that are joined, and of which nothing says which lies above */
+function unordered(document) {
+    const orders = new Orders(document), { edges } = orders.graph;
+    const pairs = unrelatedOf(edges.map(({ name, west, east }, at) => {
+        const [from, to] = orders.spans[at];
+        return { track: name, west: west.place, east: east.place, from, to };
+    }), orders.above);
+    if (!pairs.length) {
+        return [];
+    }
+    const said = pairs.map(([one, other]) => `${edges[other].name} lies above or below track ${edges[one].name}`);
+    const tracks = new Map(document.tracks().map((it) => [it.id, it])), spotsAt = (/** @type {number} */ at) => {
+        const track = tracks.get(edges[at].name);
+        return track ? spotsOf(track) : [];
+    };
+    const isPlaced = pairs.flat().every((at) => isSurveyed(spotsAt(at)));
+    return [`nothing says whether track ${listed(said, "pairs of tracks").replace(/, /g, ", or track ")}`
+        + (isPlaced ? SURVEYED : "")];
 }
 
 /** @param {Document} document @returns {string[]} ends that name one operational point, and that nothing joins */
@@ -154,5 +184,5 @@ function units(document) {
 export function doubtsOf(document, command) {
     const offsets = offsetsOf(document);
     return [...offsets ? [offsets] : [], ...command === "signals" ? unsaidSignals(document) : [], ...unrelated(document),
-        ...unjoinedEnds(document), ...jumps(document), ...units(document), ...sidesOf(document).doubts];
+        ...unordered(document), ...unjoinedEnds(document), ...jumps(document), ...units(document), ...sidesOf(document).doubts];
 }

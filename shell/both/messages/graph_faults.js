@@ -16,13 +16,13 @@ function nodeOf(station, name) {
 
 /** @param {Station} station @param {string[]} named @returns {Note[]} */
 function tooManyNodes(station, [count]) {
-    return [{ text: `${station.name}: the station has ${count} ends, joints, switches and crossings, and 128 are drawn. Export `
-        + "a part of it" }];
+    return [{ text: `${station.name}: the station has ${count} ends, joints, switches and crossings, and 128 are drawn. `
+        + station.cutting() }];
 }
 
 /** @param {Station} station @param {string[]} named @returns {Note[]} */
 function tooManyEdges(station, [count]) {
-    return [{ text: `${station.name}: the station has ${count} pieces of track, and 160 are drawn. Export a part of it` }];
+    return [{ text: `${station.name}: the station has ${count} pieces of track, and 160 are drawn. ${station.cutting()}` }];
 }
 
 /** @param {Element} one @param {Element} other @returns {boolean} */
@@ -89,7 +89,7 @@ function sideMismatch(station, [name]) {
     const said = { switch: mismatchOfSwitch, crossing: mismatchOfCrossing }[it.name] ?? mismatchOfJoint;
     const known = railml.byId(station.document);
     const joined = it.named("connection").flatMap((child) => known.get(child.attributes.get("ref") ?? "")?.parent ?? []);
-    const text = `${said(it)}. ${withOffsets(station, causeOf(station.document, it) || unknownCause(it))}`;
+    const text = `${said(it)}. ${withOffsets(station, causeOf(station.document, it, station.prepared()) || unknownCause(it))}`;
     return [{ text, place: station.place(it) }, ...joined.map((other) => ({
         text: `it is joined to ${railml.what(other)}${at(other) || ","} which is here`, place: station.place(other),
     }))];

@@ -58,6 +58,16 @@ export function refused(seen, name, refusal, number) {
 }
 
 /**
+ * A log that certifies what the sheet claims, and is too large for trim.
+ * @param {string} name
+ * @returns {Note[]}
+ */
+export function withoutHints(name) {
+    return [{ text: `${name} certifies what the sheet claims, but has more variables or words than hints are found in, so nothing `
+        + "was written. Hand over the log as it is: check reads it" }];
+}
+
+/**
  * Lines that are all right and don't show what the sheet claims.
  * @param {string} name @param {number} place which criterion of the order isn't shown, from 1; 0 of a sheet without a drawing
  * @param {string[]} order @param {boolean} claimsNone

@@ -21,8 +21,8 @@ const FAR = new Decimal(false, 50n, 0);
 const PASSED_GROUPS = ["trackElements", "ocsElements"];
 /** what of a track's topology is read; its other groups, as mileageChanges, are passed over */
 const READ_GROUPS = ["trackBegin", "trackEnd", "connections"];
-/** what a station has beside its tracks */
-const OUTSIDE = ["operationControlPoints", "controllers", "trackGroups"];
+/** what a file has beside its infrastructure that says nothing of the station */
+const ABOUT = ["metadata"];
 /** what pages draw or list of what the program passes over */
 const SHOWN = [...KINDS.keys()];
 const READ = ["track", "trackTopology", "trackBegin", "trackEnd", "connections", "switch", "crossing", "connection"];
@@ -94,6 +94,19 @@ function withKilometre(it) {
     return `${railml.what(it)} (km ${kilometres(String(railml.mileage(it)?.plus(ZERO)))})`;
 }
 
+/** @param {Element} group @returns {Element[]} the elements that it lists, or itself where it lists none */
+function listedIn(group) {
+    return group.children.length ? group.children : [group];
+}
+
+/** @param {Document} document @returns {Element[]} what a file has beside tracks: what its infrastructures list, and its other
+ * parts, as a timetable, as they are */
+function besideTracks(document) {
+    const { root } = document, stations = document.stations();
+    const parts = root?.name === "railml" ? root.children.filter((it) => !stations.includes(it) && !ABOUT.includes(it.name)) : [];
+    return [...stations.flatMap((it) => it.children).filter((it) => it.name !== "tracks").flatMap(listedIn), ...parts];
+}
+
 /** @param {Element} group @returns {Element[]} the elements of a group's lists */
 function leaves(group) {
     return group.children.flatMap((listed) => listed.children);
@@ -106,12 +119,11 @@ function leaves(group) {
  * @returns {string[]}
  */
 function passedOver(document, command, isPage) {
-    const outside = document.stations().flatMap((it) => it.children).filter((it) => OUTSIDE.includes(it.name));
     const named = namedPoints(document);
-    const kinds = counted([...outside.flatMap((group) => group.children), ...document.tracks().flatMap((track) => [
+    const kinds = counted([...besideTracks(document), ...document.tracks().flatMap((track) => [
         ...track.named(...PASSED_GROUPS).flatMap(leaves).filter((it) => it.name !== "signal" || command !== "signals"),
         ...track.named("trackTopology").flatMap((it) => it.children).filter((it) => !READ_GROUPS.includes(it.name))
-            .flatMap((group) => (group.children.length ? group.children : [group])),
+            .flatMap(listedIn),
     ])].filter((it) => !isPage || !SHOWN.includes(it.name) && !named.has(it)).map((it) => it.name));
     const listed = sorted(kinds).map(([name, count]) => `${count} ${name}`).join(", ");
     return listed ? [`not drawn: ${listed}${kinds.has("signal") ? "; signals draws signals" : ""}`] : [];

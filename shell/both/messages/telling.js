@@ -73,15 +73,24 @@ export function nearby(name, seen) {
 }
 
 /**
- * Where a file lacks more than one thing, the line that lists them: the program says the first fault alone.
+ * What prepare makes of a file with a fault: the program says the first fault alone. Where it would change the file and nothing has
+ * to be guessed, the line that does so; where the file lacks more than one thing, the line that lists them.
  * @param {string} name @param {Uint8Array} data @param {string} called
+ * @param {Note[]} said what is said of the fault
  * @returns {Promise<Note[]>}
  */
-async function moreListed(name, data, called) {
-    const { mended } = await import("../prepare.js"), { guesses } = mended(name, data, called);
-    return guesses.length < 2 ? []
-        : [{ text: `this isn't all: ${called} prepare ${quoted(name)} NEW.xml lists ${guesses.length} things that this file lacks` }];
+async function byPrepare(name, data, called, said) {
+    const { mended } = await import("../prepare.js"), { guesses, changes, unfit } = mended(name, data, called);
+    const line = `${called} prepare ${quoted(name)} NEW.xml`, count = changes.length;
+    if (guesses.length > 1) {
+        return [{ text: `this isn't all: ${line} lists ${guesses.length} things that this file lacks` }];
+    }
+    return unfit || guesses.length || !count || /NEW\.xml (writes|takes)/.test(said[0]?.text ?? "") ? []
+        : [{ text: `${line} writes the file with ${count === 1 ? "1 change" : `${count} changes`}, and says ${count === 1 ? "it" : "each"}` }];
 }
+
+/** the faults that changes of prepare are about */
+const MENDED = ["Missing", "Id", "Number", "UnknownRef", "EndKind", "OutsideTrack", "NotForward"];
 
 /** The end of a run that gave no answer. */
 export class Ending {
@@ -124,7 +133,7 @@ export class Ending {
                 return [{ text: unread(this.line.filesRead[Number(fields[2]) - 1].word, this.seen, this.run.called) }];
             case "long": {
                 const { word, kind } = this.line.filesRead[Number(fields[1]) - 1];
-                return [{ text: tooLong(word, kind) }];
+                return [{ text: tooLong(word, kind, this.run.called) }];
             }
             case "sheet":
             case "broken":
@@ -133,6 +142,8 @@ export class Ending {
             case "hints":
             case "check":
                 return this.ofLog(fields);
+            case "trim":
+                return (await import("./log_faults.js")).withoutHints(this.ofKind("log"));
             default:
                 return this.ofStatus();
         }
@@ -159,13 +170,15 @@ export class Ending {
         }
         const { Station, notes } = await import("./topology_faults.js"), station = new Station(name, data, called);
         if (table === "topology") {
-            return [...notes(station, fault, Number(place), named), ...await moreListed(name, data, called)];
+            const said = notes(station, fault, Number(place), named);
+            return [...said, ...MENDED.includes(fault) ? await byPrepare(name, data, called, said) : []];
         }
         if (table === "signal") {
             return (await import("./signal_faults.js")).notes(station, fault, Number(place), named);
         }
         const graph = await import("./graph_faults.js");
-        return table === "graph" ? graph.notes(station, fault, fields.slice(3)) : graph.contradicts(station, fields.slice(3));
+        const said = table === "graph" ? graph.notes(station, fault, fields.slice(3)) : graph.contradicts(station, fields.slice(3));
+        return [...said, ...MENDED.includes(fault) ? await byPrepare(name, data, called, said) : []];
     }
 
     /** @param {string[]} fields @returns {Promise<Note[]>} */
@@ -200,8 +213,7 @@ export class Ending {
             return [{ text: `${written || "the output"} couldn't be written. Is there room on the disk?` }];
         }
         if (status === 7) {
-            const large = this.line.command === "trim" ? ", or the log is too large to find hints for" : "";
-            return [{ text: `there was no memory for this run${large}. End other programs, or ask for a smaller grid` }];
+            return [{ text: "there was no memory for this run. End other programs, or ask for a smaller grid" }];
         }
         if (status > 128) {
             const memory = status === KILLED ? ". Was there too little memory?" : "";
@@ -254,6 +266,15 @@ async function ofAnswer(run, said) {
 }
 
 /**
+ * Whether a run printed what its command is there for, and no line that says why it didn't.
+ * @param {number} status @param {string[]} said the lines of the output
+ * @returns {boolean}
+ */
+export function isAnswer(status, said) {
+    return [0, 3, 4].includes(status) && !/^(?:check|trim) /.test(said[0] ?? "");
+}
+
+/**
  * What a run's end means; what can't be explained is left as it is.
  * @param {Run} run
  * @returns {Promise<Note[]>}
@@ -261,8 +282,7 @@ async function ofAnswer(run, said) {
 export async function notesOf(run) {
     try {
         const said = linesOf(run.output);
-        const isAnswer = [0, 3, 4].includes(run.status) && !said[0]?.startsWith("check ");
-        return await (isAnswer ? ofAnswer(run, said) : new Ending(run).notes());
+        return await (isAnswer(run.status, said) ? ofAnswer(run, said) : new Ending(run).notes());
     } catch (error) {
         if (error instanceof TypeError || error instanceof RangeError) {
             return [];

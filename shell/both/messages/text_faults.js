@@ -141,8 +141,8 @@ export function withoutPrefix(prefix, name) {
 export function root(it) {
     const first = named(it, /^<([^\s/>]*)/) ?? "", at = first.lastIndexOf(":"), local = first.slice(at + 1);
     if (local === "railML") {
-        return `this is railML 3, which isn't read as it is. Export the infrastructure as railML 2, or ${prepared(it)} writes it so. That `
-            + "was tried on files of our own making alone";
+        return `this is railML 3, which isn't read as it is. Export the infrastructure as railML 2, or ${prepared(it)} `
+            + "writes it so, where it says enough. That was tried on files of our own making alone";
     }
     if (at >= 0 && ["railml", "infrastructure"].includes(local)) {
         if (read(it.data).elements.some((element) => element.attributes.has("xmlns"))) {

@@ -1,5 +1,7 @@
 /** What a fault of a station's topology means, and what to do about it. */
 import { Decimal, ZERO } from "../decimal.js";
+import { stationsOf } from "../line/grouping.js";
+import { Network } from "../line/network.js";
 import { near } from "../near.js";
 import { ofByte } from "../places.js";
 import { quoted } from "../quoted.js";
@@ -49,6 +51,13 @@ export class Station {
         return it ? [{ text, place: this.place(it) }] : [];
     }
 
+    /** what to do with the file of a whole line: cut it, where `stations` has several files of it */
+    cutting() {
+        const network = new Network(this.document), count = network.fault() ? 0 : stationsOf(network, {}).stations.length;
+        return count > 1 ? `Cut it: ${this.called} stations ${quoted(this.name)} STATIONS writes it in ${count} files, one for each `
+            + "station or part of one" : "Export a part of it";
+    }
+
     /** the line that mends the file */
     prepared() {
         return `${this.called} prepare ${quoted(this.name)} NEW.xml`;
@@ -96,7 +105,7 @@ function noTracks(station) {
 /** @type {Sentence} */
 function tooMany(station) {
     const count = station.document.tracks().length;
-    return `this is track 129 of ${count}, and a file may have 128. Export one station and not a whole line`;
+    return `this is track 129 of ${count}, and a file may have 128. ${station.cutting()}`;
 }
 
 /** @param {Element} it @returns {string} an element in words, a connection with what it belongs to */
@@ -161,6 +170,10 @@ export function repeatedId(station, it, [id]) {
 export function number(station, it, [id, attribute]) {
     const given = it?.attributes.get(attribute) ?? "", shown = `${attribute}="${given}" of ${id}`;
     const form = "Up to 9 digits, a point and up to 6 digits are read, as 1234.5";
+    if (/^[+-]?[1-9]\d{0,2},\d{3}$/.test(given)) {
+        return `${shown} isn't written as metres are read. ${form}. A comma before three digits may part thousands or decimals: `
+            + `write it without. Where other numbers of the file have commas that can't part thousands ${station.prepared()} does so`;
+    }
     if (/[,eE]/.test(given) || /\..{7}/s.test(given)) {
         return `${shown} isn't written as metres are read. ${form}. ${station.prepared()} writes it so`;
     }

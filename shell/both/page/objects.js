@@ -31,6 +31,7 @@ import { DIVERGING, STRAIGHT, edgeOf } from "./station.js";
 
 const HEADER = ["km", "kind", "name", "id", "track", "column", "row", "side", "note"];
 const NOT_DRAWN = "not drawn";
+const SIGNALS_DRAW = "the command signals draws it";
 const NONE = /** @type {Decimal} */ (Decimal.of("0"));
 
 /** @type {(mileage: string | null) => Decimal} */
@@ -57,7 +58,7 @@ export class Objects {
         /** @type {Entry[]} */
         this.entries = [...this.drawing.nodes.map((it) => this.#ofNode(it)),
             ...this.drawing.edges.map((it) => this.#ofEdge(it)),
-            ...scene.signals.map((it) => this.#ofSignal(it)), ...scene.pieces.located.map((it) => this.#ofObject(it))];
+            ...scene.signals.map((it) => this.#ofSignal(it)), ...this.#signalsOfFile(), ...scene.pieces.located.map((it) => this.#ofObject(it))];
         const sections = sectionsOf(scene);
         /** whether sections aren't known, as one of their borders has no known place */
         this.lacksSections = sections === null;
@@ -160,6 +161,21 @@ export class Objects {
                 ["on", `${station.label(track)}, from ${this.#at(edge.west)} to ${this.#at(edge.east)}`,
                 scene.key("e", edge.number)]],
             track: station.shown(track), point: signal.point, side: east === null ? "" : east ? "east" : "west", note: use };
+    }
+
+    /** @returns {Entry[]} the signals of the file, where the answer has none: what the file says of them */
+    #signalsOfFile() {
+        const { station, scene } = this, listed = [...station.file.signals.values()].filter((it) => !it.isVirtual);
+        return scene.signals.length ? [] : listed.map(({ id, track, direction, use }, number) => {
+            const mileage = station.signalMileage(id);
+            const words = [use, direction && `direction ${direction}`].filter(Boolean).map((it) => station.shown(it));
+            /** @type {Fact[]} */
+            const facts = [...words.map((it) => /** @type {Fact} */ (["file", it, ""])), [NOT_DRAWN, SIGNALS_DRAW, ""]];
+            return { key: scene.key("s", number), id: station.shown(id), name: station.signalName(id),
+                kind: station.signalKind(id), km: mileage ? kilometres(mileage.toString()) : "",
+                order: { metres: mileage ?? NONE, rank: 2, number }, facts, track: station.shown(track), point: null, side: "",
+                note: [...words, `${NOT_DRAWN}: ${SIGNALS_DRAW}`].join(", ") };
+        });
     }
 
     /** @param {Located} located @returns {Entry} what lies at a track */

@@ -2,6 +2,7 @@
  * What a page has: figures, facts, the list of objects, and where it comes from.
  */
 import { draw } from "./drawing.js";
+import { gapsOf } from "./gaps.js";
 import { element } from "./markup.js";
 import { Objects } from "./objects.js";
 import { kindOfSign } from "./objects_drawn.js";
@@ -35,6 +36,7 @@ function signsIn({ station, drawing, signals, pieces }, { spots }) {
         const kind = station.signalKind(it.name);
         seen.add(station.headsEast(it) === null ? "signal both" : kind);
     }
+    if (gapsOf(drawing, station).length) seen.add("gap");
     for (const number of spots.keys()) seen.add(kindOfSign(pieces.located[number]));
     const tracks = drawing.edges.map((it) => station.isMain(it.track) ? "main" : "track");
     if (tracks.includes("main")) for (const it of tracks) seen.add(it);

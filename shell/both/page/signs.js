@@ -28,7 +28,7 @@ export const MEANINGS = new Map([["switch", "switch: the wedge is at its toe"], 
         ["derailer", "derailer: the arrow leads ahead, to the side to which it derails"],
     ["derailer both", "derailer of which the side or the way isn't known"],
     ["platform", "platform, beside its track"], ["level crossing", "level crossing"], ["border", "border"],
-    ["main", "main track"], ["track", "other track"]]);
+    ["gap", "nothing says which of the two tracks beside it lies above"], ["main", "main track"], ["track", "other track"]]);
 
 /** @type {(parts: Element[], half: Spot, lines?: [Spot, Spot][]) => Drawn} */
 const sign = (parts, half, lines = []) => ({ parts, half, lines });
@@ -237,6 +237,11 @@ export function barSign(points, aside, thick) {
     return { parts: [element("polygon", { class: "bar", points: spots(outline) })], outline };
 }
 
+/** @returns {Element[]} a question mark between two tracks of which nothing says which lies above */
+export function gapSign() {
+    return [path("question", "M-3,-3 A3,3 0 1 1 1,-0.2 Q0,0.4 0,2.4"), element("circle", { cx: 0, cy: 5, r: 1 })];
+}
+
 /**
  * The parts of a sign on a piece of line, as the legend shows them.
  * @param {string} kind
@@ -248,6 +253,8 @@ function sampleParts(kind, isLeft) {
     /** @type {(x: number, side: string | null, legs: number[], own?: string) => Element} */
     const node = (x, side, legs, own = kind) =>
         element("g", { class: "sign", transform: `translate(${x},12)` }, nodeSign(own, side, legs, 0).parts);
+    if (kind === "gap") return [path("edge", "M2,2 H42"), path("edge", "M2,22 H42"),
+        element("g", { class: "sign gap", transform: "translate(22,12)" }, gapSign())];
     if (kind === "main" || kind === "track") return [path(kind === "main" ? "edge main" : "edge", "M2,12 H42")];
     if (kind === "platform") return [line, element("g", { transform: "translate(0,12)" }, barSign([[8, 0], [36, 0]], 6.5, 3.5)
         .parts)];

@@ -5,6 +5,7 @@ import { kilometres } from "../messages/law_words.js";
 import { BEYOND, Columns, heightAt, neighbours } from "./columns.js";
 import { Field, Line, Name, Sign, overlap } from "./field.js";
 import { addFrame, putLimits } from "./frame.js";
+import { putGaps } from "./gaps.js";
 import { element } from "./markup.js";
 import { fixed, shown } from "./numbers.js";
 import * as places from "./places.js";
@@ -440,6 +441,7 @@ export class StripPlan {
         for (const edge of drawing.edges.filter((it) => isMarked.has(it.number))) this.#putEdge(edge);
         this.wishes = [...drawing.nodes.filter((it) => this.has(it.point[0])).map((it) => this.#putNode(it)),
             ...signals.filter((it) => this.has(it.point[0])).map((it) => this.#putSignal(it))];
+        putGaps(this);
     }
 
     /** @returns {Box} the box around all that has a place */

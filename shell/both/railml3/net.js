@@ -217,6 +217,17 @@ export class Net {
         return spot && at !== undefined ? { of, part: Math.min(1, Math.max(0, at)), spot } : null;
     }
 
+    /**
+     * Where an operational point lies: at a spot, or in the middle of each net element of its area.
+     * @param {Element} it
+     * @returns {{of: string, part: number}[]}
+     */
+    spotsOf(it) {
+        const spot = this.spotOf(it), parts = under(it, "areaLocation", "associatedNetElement");
+        const area = parts.map((one) => one.attributes.get("netElementRef") ?? "");
+        return spot ? [spot] : area.filter((of) => this.elements.has(of)).map((of) => ({ of, part: 0.5 }));
+    }
+
     /** @param {Element} it a buffer stop @returns {End[]} the end at which it is */
     openEndOf(it) {
         const spot = this.spotOf(it);
@@ -247,7 +258,7 @@ export class Net {
             this.doubt(/** @type {Element} */ (this.elements.get(elementOf(end))), `at ${endInWords(end)} lie net elements to which one can't `
                 + "go on, and no switch or crossing is there");
         }
-        const twice = used.find((end, at) => used.indexOf(end) !== at);
+        const seen = new Set(), twice = used.find((end) => seen.has(end) || !seen.add(end));
         if (twice) {
             this.doubt(/** @type {Element} */ (this.elements.get(elementOf(twice))), `${endInWords(twice)} is said to be at two switches or crossings`);
         }

@@ -1,6 +1,7 @@
 /** A net of railML 3 as tracks of railML 2: each net element is a track, with the switch or crossing at the end where its
  * points are. */
 import { asRead } from "../mending/numbers.js";
+import { listUnder } from "../searching.js";
 import { idOf } from "./around.js";
 import { HANDS, across, elementOf, nameOf, under, whatOf } from "./net.js";
 
@@ -46,6 +47,14 @@ class Writer {
             const of = it.attributes.get("netElementRef");
             return of ? [/** @type {[string, string]} */ ([of, nameOf(track)])] : [];
         })));
+        /** @type {Map<string, import("./net.js").Signal[]>} the signals on each net element, along it */
+        this.signalsOf = new Map();
+        [...net.signals].sort((one, other) => one.part - other.part).forEach((it) => listUnder(this.signalsOf, it.of, it));
+        this.operationalPoints = under(net.functional, "operationalPoints", "operationalPoint").filter(nameOf);
+        /** @type {Map<string, string[]>} on each net element the places of operational points */
+        this.places = new Map();
+        // of one point alone the station is called after it
+        (this.operationalPoints.length > 1 ? this.operationalPoints : []).forEach((it) => this.addPlaces(it));
         net.switches.forEach((it) => this.addSwitch(it));
         net.crossings.forEach((it) => this.addCrossing(it));
         for (const [end, [other, ...more]] of [...net.joined].map(([from, to]) => /** @type {const} */ ([from, [...to]]))) {
@@ -58,6 +67,14 @@ class Writer {
     /** @param {End} end @param {string} ref @returns {string} */
     connection(end, ref) {
         return tag("connection", { id: `${idOf(end)}.c`, ref });
+    }
+
+    /** @param {Element} it an operational point: by its places a line is cut into stations */
+    addPlaces(it) {
+        this.net.spotsOf(it).forEach(({ of, part }, at) => {
+            const pos = asRead(String(this.net.lengthOf(of).toNumber() * part));
+            listUnder(this.places, of, tag("crossSection", { id: `${it.id}.${at + 1}`, ocpRef: it.id, pos }));
+        });
     }
 
     /** @param {End} one @param {End} other joins two ends */
@@ -127,8 +144,7 @@ class Writer {
     /** @param {string} id @returns {string} */
     signals(id) {
         const length = this.net.lengthOf(id).toNumber(), [from, to] = [0, 1].map((at) => this.net.measures.get(`${id} ${at}`)?.toNumber());
-        const found = this.net.signals.filter(({ of }) => of === id).sort((one, other) =>
-            one.part - other.part).map(({ element, part, dir }) =>
+        const found = (this.signalsOf.get(id) ?? []).map(({ element, part, dir }) =>
             tag("signal", { id: element.id, name: nameOf(element), dir, pos: asRead(String(length * part)),
                 absPos: from === undefined || to === undefined ? undefined : asRead((from + (to - from) * part).toFixed(3)) }));
         return found.length ? tag("ocsElements", {}, [tag("signals", {}, found)]) : "";
@@ -137,19 +153,21 @@ class Writer {
     /** @param {string} id @returns {string} */
     track(id) {
         const ends = [`${id} 0`, `${id} 1`], points = ends.flatMap((end) => this.points.get(end) ?? []);
+        const places = this.places.get(id) ?? [];
         const topology = tag("trackTopology", {}, [...ends.map((end) => this.end(end)), ...points.length ? [tag("connections",
-            {}, points)] : []]);
+            {}, points)] : [], ...places.length ? [tag("crossSections", {}, places)] : []]);
         return tag("track", { id, name: this.names.get(id) }, [topology, this.signals(id)].filter(Boolean));
     }
 
     /** @returns {string} */
     text() {
-        const { net } = this, points = under(net.functional, "operationalPoints",
-            "operationalPoint").map(nameOf).filter(Boolean);
+        const { net, operationalPoints: points } = this, [point] = points;
+        const listed = points.map((it) => tag("ocp", { id: it.id, name: nameOf(it) }));
+        const controlled = this.places.size ? [tag("operationControlPoints", {}, listed)] : [];
         const tracks = [...net.elements.keys()].map((id) => `${this.track(id)}\n`);
         return `<?xml version="1.0" encoding="UTF-8"?>\n<railml xmlns="http://www.railml.org/schemas/2013" version="2.2">\n`
-            + `${tag("infrastructure", { id: net.infrastructure?.id, name: points.length === 1 ? points[0] : "" },
-                [tag("tracks", {}, ["\n", ...tracks])])}\n</railml>\n`;
+            + `${tag("infrastructure", { id: net.infrastructure?.id, name: points.length === 1 ? nameOf(point) : "" },
+                [tag("tracks", {}, ["\n", ...tracks]), ...controlled])}\n</railml>\n`;
     }
 }
 

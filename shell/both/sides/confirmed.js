@@ -63,6 +63,12 @@ export class Orders {
         }
     }
 
+    /** @returns {[number, number][]} the pairs of edges of which a switch or crossing says that the first lies above */
+    get above() {
+        return this.said.flatMap(({ pairs }) => [...pairs].map((pair) =>
+            /** @type {[number, number]} */ ([Math.floor(pair / this.size), pair % this.size])));
+    }
+
     /** @param {number} one @param {number} other @returns {boolean} whether two edges share more than one mileage */
     overlap(one, other) {
         const [west, east] = this.spans[one], [begun, ended] = this.spans[other];

@@ -17,7 +17,8 @@ try {
     refuse(line);
     look(line);
     const beside = process.env.SMALL ? { small: process.env.SMALL } : {};
-    process.exitCode = await runPage({ top: TOP, called: "railplan", engine: new NativeEngine(program), build, wasm: "", signal }, line, beside);
+    const wasm = process.env.WASM ?? "";
+    process.exitCode = await runPage({ top: TOP, called: "railplan", engine: new NativeEngine(program), build, wasm, signal }, line, beside);
 } catch (error) {
     if (!(error instanceof Ended)) throw error;
     process.exitCode = error.status;
