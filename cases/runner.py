@@ -424,7 +424,8 @@ def end_group(number: int) -> None:
 def tell(program: Path, case: Written) -> tuple[str, bool]:
     """what a case says, or nothing where it is answered as it says; and whether it could be tried"""
     where, steps = case
-    with tempfile.TemporaryDirectory() as folder:
+    # what a run left behind may still write there
+    with tempfile.TemporaryDirectory(ignore_cleanup_errors=True) as folder:
         try:
             Case(program, Path(folder), steps).run()
         except Otherwise as why:

@@ -106,6 +106,8 @@ export class Crossing {
  * @property {Map<string, number>} laterals of each track
  * @property {Map<string, number>} places of each switch and crossing along the line
  * @property {Map<string, number>} mileages of each switch and crossing
+ * @property {Map<string, number>} ends the mileages of each track's begin and end, as `begin ID` and `end ID`
+ * @property {Map<string, Side>} sides on which side of the other leg the branch of a switch lies
  * @property {Set<string>} turned the tracks whose mileage falls from begin to end */
 
 /** @param {Way} way @returns {Way} */
@@ -267,6 +269,9 @@ export class Ground {
         return { switches: new Map(switches), crossings: new Map(crossings),
             laterals: new Map(this.tracks.map((it) => [it.id, it.lateral])), places: new Map(points.map((it) => [it.id, it.at])),
             mileages: new Map(points.map((it) => [it.id, this.mileage(it.track, it.at)])),
+            sides: new Map(points.flatMap((it) => ("side" in it ? [/** @type {const} */ ([it.id, it.side])] : []))),
+            ends: new Map(this.tracks.flatMap((it) => [it.from, it.to].map((at) => /** @type {const} */ (
+                [`${(at === it.from) !== it.isTurned ? "begin" : "end"} ${it.id}`, this.mileage(it, at)])))),
             turned: new Set(this.tracks.filter((it) => it.isTurned).map((it) => it.id)) };
     }
 

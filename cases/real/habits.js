@@ -1,6 +1,6 @@
 /** Further habits of producers: ids, directions, mileages, objects, encodings, namespaces, ends, crossings, slips, coordinates. */
 import { Ground, Switch } from "./ground.js";
-import { BY_ONE_KM, kind, loopStation, prefixed, replacing } from "./kinds.js";
+import { BY_ONE_KM, kind, loopStation, prefixed, replacing } from "./kind.js";
 
 /** @typedef {import("./kinds.js").Kind} Kind */
 /** @typedef {import("./ground.js").Track} Track */
@@ -113,7 +113,7 @@ function directions() {
         kind("halves", "a main track cut in the middle", halves(), { mileages: "begins" }),
         kind("halves-turned", "the same, the east one counted against", joined),
         kind("halves-turned-begins", "the same, absPos at begins alone", turned(halves(), (_, at) => at === 1), { mileages: "begins" },
-            BY_ONE_KM),
+            { ...BY_ONE_KM, odd: "tr_2" }),
         kind("cut-all-turned", "cut at switches, all counted against", cut(turned(loopStation().ground)), {}, MENDED),
         kind("cut-some-turned", "cut at switches, each second track counted against",
             cut(turned(ladder(), (_, at) => at % 2 === 1), "begin"), {}, MENDED),

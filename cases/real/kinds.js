@@ -1,65 +1,12 @@
 /** Kinds of stations' files, as producers of railML 2 write them, each with what is so on the ground. */
 import { Ground } from "./ground.js";
-import { written } from "./writer.js";
+import { BY_ONE_KM, ONE_KM, kind, loopStation, prefixed, replacing } from "./kind.js";
 
 /** @typedef {import("./ground.js").Side} Side */
 /** @typedef {import("./ground.js").Track} Track */
 /** @typedef {import("./ground.js").Truth} Truth */
-/** @typedef {import("./writer.js").Style} Style */
-/** @typedef {object} Kind a file, the truth beside it, and what is to come of it
- * @property {string} name
- * @property {string} about
- * @property {Uint8Array} data
- * @property {Truth} truth
- * @property {"drawn" | "refused"} today what the program answers to the file itself
- * @property {"drawn" | "refused"} after what comes of it by prepare
- * @property {string[]} asked further words of prepare
- * @property {string} odd a track whose kilometres are otherwise than those of the line
- * @property {RegExp | null} says what has to be said of it where it is drawn as it is */
-/** @typedef {Partial<Pick<Kind, "today" | "after" | "asked" | "odd" | "says">> & {truth?: Truth}} More */
-
-/**
- * @param {string} name @param {string} about @param {Ground} ground @param {Partial<Style>} [style] @param {More} [more]
- * @returns {Kind}
- */
-export function kind(name, about, ground, style = {}, more = {}) {
-    const today = more.today ?? "drawn";
-    return { name, about, data: written(ground, style), truth: more.truth ?? ground.truth(), today, after: more.after ?? "drawn",
-        asked: more.asked ?? [], odd: more.odd ?? "", says: more.says ?? null };
-}
-
-/** @param {string} pattern @param {string} text @param {string} [flags] @returns {(text: string) => string} */
-export function replacing(pattern, text, flags = "") {
-    return (whole) => whole.replace(new RegExp(pattern, flags), text);
-}
-
-/** @param {string} text @returns {string} with rail: before the name of each element */
-export function prefixed(text) {
-    return text.replace(/<(\/?)(?!\?|!|\/|dc:)/g, "<$1rail:").replace(" xmlns=", " xmlns:rail=");
-}
-
-const ONE_KM = ["--one-km"];
-/** @type {More} */
-export const BY_ONE_KM = { today: "refused", asked: ONE_KM };
-
-// ---- stations that are used often
-
-/**
- * Two main tracks with crossovers, a loop south of them and a stub at it.
- * @param {{idOf?: (kind: string, number: number, hint: string) => string, isTurned?: boolean, title?: string, at?: number}} more
- */
-export function loopStation({ idOf, isTurned = false, title = "Bahnhof", at = 12000 } = {}) {
-    const ground = new Ground(title, idOf), one = ground.track("1", at, at + 1400, 0);
-    const two = ground.track("2", at, at + 1400, -4.5, { isTurned });
-    ground.crossover(one, at + 150, two, at + 230);
-    ground.crossover(two, at + 1170, one, at + 1250);
-    const three = ground.track("3", 0, 0, -9);
-    ground.switch(two, at + 330, three, "east", "W3");
-    ground.switch(two, at + 1080, three, "west", "W4");
-    const four = ground.track("4", 0, at + 780, -13.5, { east: "bufferStop" });
-    ground.switch(three, at + 480, four, "east", "W7");
-    return { ground, one, two, three, four };
-}
+/** @typedef {import("./kind.js").Kind} Kind */
+/** @typedef {import("./kind.js").More} More */
 
 /** @param {Ground} ground @param {Track} track @param {boolean} [isRich] signals, and what else stands at a track */
 function furnish(ground, track, isRich = false) {
@@ -213,7 +160,8 @@ function ownMileages() {
         kind("sidings-from-zero", "each siding counted from 0", zero, {}, { ...BY_ONE_KM, truth, odd: "tr_2" }),
         kind("west-stub-begins", "stub to the west, begin at the switch, absPos at begins alone", westStub(true), { mileages: "begins" },
             { ...BY_ONE_KM, odd: "tr_2" }),
-        kind("west-stub-open-begins", "the same, absPos at open begins alone", westStub(true), { mileages: "open begins" }, BY_ONE_KM),
+        kind("west-stub-open-begins", "the same, absPos at open begins alone", westStub(true), { mileages: "open begins" },
+            { ...BY_ONE_KM, odd: "tr_2" }),
         kind("branch-line-greater", "a branch line with a mileage of its own, greater", junctions[0], {},
             { says: /joined at two mileages/ }),
         kind("branch-line-less-turned", "a branch line that ends at the junction at its km 3.8", junctions[1], {},
@@ -464,10 +412,15 @@ function parts() {
         .map((lateral, at) => third.track(String(at + 1), 0, 2000, lateral));
     third.track("3", 0, 2000, -9);
     third.crossover(upper, 300, middle, 380);
+    const stubs = new Ground("Zwei Stumpfgleise"), main = stubs.track("1", 0, 2000, 0);
+    stubs.switch(main, 400, stubs.track("2", 0, 1200, 9, { east: "bufferStop" }), "east", "W1");
+    stubs.switch(main, 1600, stubs.track("3", 800, 0, 4.5, { west: "bufferStop" }), "west", "W2");
     return [
         kind("second-not-joined", "two main tracks that nothing joins, a loop at the second", second,
             { coordinates: { first: "latitude" } },
             { says: /nothing joins/ }),
+        kind("stubs-beside-each-other", "two stubs of one track, from both ends, beside each other", stubs, {},
+            { says: /nothing says whether track tr_5 lies above or below track tr_2/ }),
         kind("third-not-joined", "three tracks, a crossover between the upper two", third, { coordinates: { first: "latitude" } },
             { says: /nothing joins/ }),
         ...rings(),

@@ -1,6 +1,6 @@
 /** Stations as railML 3, each with what is so on the ground. */
 import { Ground } from "./ground.js";
-import { kind, loopStation } from "./kinds.js";
+import { kind, loopStation } from "./kind.js";
 import { written3 } from "./writer3.js";
 
 /** @typedef {import("./kinds.js").Kind} Kind */

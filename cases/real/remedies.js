@@ -3,7 +3,10 @@
  * ground can answer is answered by the truth.
  */
 
+import { mended } from "../../shell/both/prepare.js";
+
 /** @typedef {import("./ground.js").Truth} Truth */
+/** @typedef {{data: Uint8Array, known: (id: string) => string}} Remedied a file as it is then, and the ids that its elements had */
 /** @typedef {{text: string, truth: Truth, odd: string}} File a file while it is mended by hand, what is so, and the track whose
  * kilometres are
  * otherwise than those of the line */
@@ -59,21 +62,44 @@ function falls(id, truth) {
     return truth.turned.has(id);
 }
 
+/** @param {string} id a switch @param {Truth} truth @returns {string} the hand of its branch, seen from its points */
+function handOf(id, truth) {
+    return (truth.switches.get(id)?.legs === "east") === (truth.sides.get(id) === "upper") ? "left" : "right";
+}
+
 /** @type {[RegExp, (file: File, found: RegExpExecArray) => string][]} sentences, and what somebody does who reads them; "" where
  * nothing is done */
 const SENTENCES = [
-    [/kilometres of track (\S+) (rise|fall) .* towards (greater|smaller) .* write (orientation="\w+") in place of (\w+) at switch (\S+)\. (.*)/,
-        ({ text, truth, odd }, [, own, rises, way, orientation, was, id, rest]) => {
+    [/where those of track \S+ alone are wrong/, ({ text, odd }, { input }) => {
+        const [, listed = ""] = new RegExp(`where those of track ${plain(odd)} alone are wrong, or of another line, write ([^;]*?)(;|\\. |$)`)
+            .exec(input) ?? [];
+        return odd && listed ? writing(text, listed) : "";
+    }],
+    [/Where no absPos is written the mileage of track (\S+) is counted as if it rose.*: write (.*)/,
+        ({ text, truth }, [, track, listed]) => (falls(track, truth) ? writing(text, listed) : "")],
+    [/Do the kilometres of track (\S+) (rise|fall) .* towards (greater|smaller) .* write (orientation="\w+") in place of (\w+) at switch (\S+)/,
+        ({ text, truth, odd }, [, own, rises, way, orientation, was, id]) => {
             const leads = truth.switches.get(id)?.legs === "east" ? "greater" : "smaller";
-            if ((rises === "rise") !== falls(own, truth) && way === leads && !odd) {
-                return text.replace(
-                    new RegExp(`(<switch id="${plain(id)}"[^]*?)orientation="${was}"`), (_, front) => `${front}${orientation}`);
-            }
-            const [, listed = ""] = new RegExp(`where those of track ${plain(odd)} alone are write ([^;]*)`).exec(rest) ?? [];
-            return odd && listed ? writing(text, listed) : "";
+            return (rises === "rise") !== falls(own, truth) && way === leads && !odd
+                ? text.replace(new RegExp(`(<switch id="${plain(id)}"[^]*?)orientation="${was}"`), (_, front) => `${front}${orientation}`)
+                : "";
         }],
     [/absPosOffset isn't read/, ({ text }) => text.replace(
         /absPos="([^"]*)" absPosOffset="([^"]*)"/g, (_, own, offset) => `absPos="${Number(own) + Number(offset)}"`)],
+    [/^the (begin) of track (\S+) has no absPos\. Write the mileage of this point in metres(?!.* write absPos=)/,
+        ({ text, truth }, [, end, id]) => writing(text, `absPos="${truth.ends.get(`${end} ${id}`)}" at the ${end} of track ${id}`)],
+    [/connection (\S+) of switch (\S+) has no course\. Write left or right/,
+        ({ text, truth }, [, id, point]) => setting(text, tagOf(text, `connection ${id}`), "course", handOf(point, truth))],
+    [/^course="[^"]*" of (\S+) isn't left or right/, ({ text, truth }, [, id]) => setting(text, tagOf(text, `connection ${id}`), "course",
+        handOf(new RegExp(`<switch id="([^"]*)"[^>]*>\\s*<connection[^>]* ?id="${plain(id)}"`).exec(text)?.[1] ?? "", truth))],
+    [/connection (\S+) of switch (\S+) has no orientation\. Write outgoing/, ({ text, truth }, [, id, point]) =>
+        setting(text, tagOf(text, `connection ${id}`), "orientation",
+            (truth.switches.get(point)?.legs === "east") === falls(trackOf(text, point), truth) ? "incoming" : "outgoing")],
+    [/^the (begin|end) of track (\S+) has connection and openEnd, and one of them is read\. Leave the others out/,
+        ({ text }, [, end, id]) => {
+        const tag = tagOf(text, `the ${end} of track ${id}`);
+        return text.replace(new RegExp(`(${plain(tag)}<connection[^>]*>)<openEnd[^>]*>`), "$1");
+    }],
     [/^the (begin of track \S+) has no absPos.* write (absPos="[^"]*")/,
         ({ text }, [, what, written]) => writing(text, `${written} at the ${what}`)],
     [/the connection (\S+) refers to .*(?:Write its id|Did you mean) ?,? ?ref="([^"]*)"/,
@@ -131,4 +157,22 @@ export function remedied(file, said) {
         }
     }
     return "";
+}
+
+/**
+ * What prepare makes of a file, where a sentence names its line for that. All orientations of these files are right on the ground.
+ * @param {Uint8Array} data @param {string[]} said
+ * @returns {Remedied | null} null where no sentence does, or it writes nothing
+ */
+export function preparedAsSaid(data, said) {
+    const line = /prepare station\.xml NEW\.xml(?: (--one-km)| --hands (\w+))? (?:writes|takes|exchanges|counts)/;
+    for (const sentence of said) {
+        const found = line.exec(sentence);
+        if (found) {
+            const it = mended("station.xml", data, "railplan", { isOneKm: found[1] !== undefined, hands: found[2] });
+            return it.unfit || it.guesses.length || !it.changes.length ? null
+                : { data: it.data, known: (id) => it.renamed.get(id) ?? id };
+        }
+    }
+    return null;
 }

@@ -5,23 +5,22 @@
 import { argv, exit } from "node:process";
 import { availableParallelism, cpus } from "node:os";
 import { Edits } from "../../shell/both/edits.js";
-import { linesOf, notesOf } from "../../shell/both/messages/telling.js";
 import { judge } from "../../shell/both/mending/judge.js";
 import { mended } from "../../shell/both/prepare.js";
-import { read } from "../../shell/both/words.js";
 import { NativeEngine } from "../../shell/terminal/native_engine.js";
 import { habits } from "./habits.js";
 import { judged } from "./judged.js";
 import { kinds } from "./kinds.js";
 import { kinds3 } from "./kinds3.js";
-import { remedied } from "./remedies.js";
+import { preparedAsSaid, remedied } from "./remedies.js";
+import { NAME, WARNINGS, graphOf, saidOf, saidOfDrawn } from "./said.js";
+import { UNMENDED } from "./unmended.js";
 
 /** @typedef {import("./kinds.js").Kind} Kind */
 /** @typedef {{isDrawn: boolean, wrong: string[], said: string[], fault: string}} Outcome what came of a file: whether it is
  * drawn, what isn't as on
  * the ground, and what is said */
 
-const NAME = "station.xml";
 /** so many remedies one after another are followed */
 const MOST_STEPS = 60;
 const [, , program, part = ""] = argv;
@@ -31,41 +30,19 @@ if (!program) {
 }
 const engine = new NativeEngine(program), decoder = new TextDecoder();
 
-/** @param {Uint8Array} data */
-function graphOf(data) {
-    return engine.run({ words: ["graph", NAME], files: new Map([[NAME, data]]) });
-}
-
-/**
- * What is said on standard error of a run over a file.
- * @param {string[]} words @param {Uint8Array} data @param {number} status @param {Uint8Array} output
- * @returns {Promise<string[]>}
- */
-async function saidOf(words, data, status, output) {
-    const seen = { bytes: () => data, line: () => "", kind: () => /** @type {const} */ ("other"), names: () => [], why: () => "" };
-    const graph = async () => linesOf((await graphOf(data)).output);
-    const notes = await notesOf({ line: read(words), status, output, called: "railplan", seen, graph });
-    return notes.map((it) => it.text);
-}
-
 /**
  * What comes of a file.
  * @param {Kind} kind @param {Uint8Array} data @param {{known?: (id: string) => string, isAsked?: boolean, mayBeTurned?: boolean}} more
  * @returns {Promise<Outcome>}
  */
 async function outcomeOf(kind, data, { known, isAsked = false, mayBeTurned = false } = {}) {
-    const ran = await graphOf(data), text = decoder.decode(ran.output);
+    const ran = await graphOf(engine, data), text = decoder.decode(ran.output);
     if (ran.status) {
-        return { isDrawn: false, wrong: [], said: await saidOf(["draw", NAME], data, ran.status, ran.output), fault: text.trim() };
+        return { isDrawn: false, wrong: [], said: await saidOf(engine, ["draw", NAME], data, ran.status, ran.output), fault: text.trim() };
     }
     const { wrong, misordered, elsewhere } = judged(text, kind.truth, known, mayBeTurned);
-    const said = await saidOf(["signals", NAME], data, 0, new TextEncoder().encode("end best\n"));
-    return { isDrawn: true, wrong: [...wrong, ...misordered, ...isAsked ? [] : elsewhere], said, fault: "" };
+    return { isDrawn: true, wrong: [...wrong, ...misordered, ...isAsked ? [] : elsewhere], said: await saidOfDrawn(engine, data), fault: "" };
 }
-
-/** what of notes says that a drawing may be other than the station */
-const WARNINGS =
-    /wrong side|isn't read|may lie|nothing says|joined at two mileages|jump|kilomet|radi|slip|confirms? the side|disagree|crossing/;
 
 /**
  * What of an outcome isn't as it is to be.
@@ -128,33 +105,52 @@ async function prepared(kind) {
     return { outcome, failed };
 }
 
+/** @typedef {{steps: number, outcome: Outcome}} Done what came of a file by so many remedies */
+
 /**
- * What comes of a file by what is said of it, once and again.
- * @param {Kind} kind @param {Outcome} today
- * @returns {Promise<{steps: number, outcome: Outcome}>}
+ * What comes of a file by what is said of it, once and again: by what is said to write, or by what prepare is said to write.
+ * @param {Kind} kind @param {Outcome} today @param {boolean} isByPrepare
+ * @returns {Promise<Done>}
  */
-async function byRemedies(kind, today) {
-    let outcome = today, text = decoder.decode(kind.data), steps = 0;
+async function byRemedies(kind, today, isByPrepare) {
+    let outcome = today, data = kind.data, steps = 0, known = (/** @type {string} */ id) => id;
     for (; !outcome.isDrawn && steps < MOST_STEPS; steps++) {
-        const mended = remedied({ text, truth: kind.truth, odd: kind.odd }, outcome.said);
-        if (!mended) {
+        const before = known, made = isByPrepare ? preparedAsSaid(data, outcome.said) : null;
+        const text = isByPrepare ? "" : remedied({ text: decoder.decode(data), truth: kind.truth, odd: kind.odd }, outcome.said);
+        if (!made && !text) {
             break;
         }
-        text = mended;
-        outcome = await outcomeOf(kind, new TextEncoder().encode(text), { known: (id) => id, isAsked: true });
+        data = made?.data ?? new TextEncoder().encode(text);
+        known = (id) => before(made?.known(id) ?? id);
+        // where one track alone is right, and all others are counted the other way, the whole may be seen from the other side
+        outcome = await outcomeOf(kind, data, { known, isAsked: true, mayBeTurned: isByPrepare || askedBy(kind.asked).isOneKm });
     }
     return { steps, outcome };
 }
 
-/** @typedef {{kind: Kind, today: Outcome, after: Outcome, steps: number, by: Outcome, failed: string[]}} Result */
+/** @typedef {{kind: Kind, today: Outcome, after: Outcome, by: Record<"hand" | "prepare", Done>, failed: string[]}} Result */
+
+/**
+ * What of a file's remedies isn't as it is to be: each is followed, none has a side wrong, and of a refused file a remedy that is said
+ * leads to a drawing, or it is known that there is none.
+ * @param {Kind} kind @param {Outcome} today @param {Done[]} done
+ * @returns {string[]}
+ */
+function failuresOf(kind, today, done) {
+    const wrong = done.filter(({ steps, outcome }) => steps && outcome.isDrawn && outcome.wrong.length);
+    const isMended = done.some(({ outcome }) => outcome.isDrawn), known = UNMENDED.has(kind.name);
+    return [...wrong.map(({ outcome }) => `what is said has it wrong: ${outcome.wrong[0]}`),
+        ...today.isDrawn || isMended !== known ? [] : [isMended ? `it has a remedy, and unmended.js says that it has none: ${UNMENDED.get(kind.name)}`
+            : `no remedy that is said leads to a drawing: ${today.said[0]}`]];
+}
 
 /** @param {Kind} kind @returns {Promise<Result>} */
 async function tried(kind) {
-    const today = await outcomeOf(kind, kind.data), { outcome: after, failed } = await prepared(kind),
-        { steps, outcome: by } = await byRemedies(kind, today);
-    const remedies = steps && by.isDrawn && by.wrong.length ? [`what is said has it wrong: ${by.wrong[0]}`] : [];
-    return { kind, today, after, steps, by, failed: [...failures(kind, today, "before prepare", kind.today === "drawn"),
-        ...failures(kind, after, "after prepare", kind.after === "drawn"), ...failed, ...remedies] };
+    const today = await outcomeOf(kind, kind.data), { outcome: after, failed } = await prepared(kind);
+    const by = { hand: await byRemedies(kind, today, false), prepare: await byRemedies(kind, today, true) };
+    return { kind, today, after, by, failed: [...failures(kind, today, "before prepare", kind.today === "drawn"),
+        ...failures(kind, after, "after prepare", kind.after === "drawn"), ...failed,
+        ...failuresOf(kind, today, [by.hand, by.prepare])] };
 }
 
 /** @param {Outcome} outcome @returns {string} */
@@ -171,17 +167,22 @@ await Promise.all(Array.from({ length: Math.min(2, (availableParallelism ?? (() 
         results[at] = await tried(all[at]);
     }
 }));
-for (const { kind, today, after, steps, by, failed } of results) {
+for (const { kind, today, after, by, failed } of results) {
     const [first = ""] = today.said.filter((it) => !today.isDrawn || WARNINGS.test(it));
     const asked = kind.asked.length ? ` (${kind.asked.join(" ")})` : "";
-    const hand = steps ? `${word(by)} in ${steps} ${steps === 1 ? "step" : "steps"}` : "-";
+    const [hand, line] = [by.hand, by.prepare].map(({ steps, outcome }) =>
+        (steps ? `${word(outcome)} in ${steps} ${steps === 1 ? "step" : "steps"}` : "-"));
     console.log(
-        `${kind.name} | ${word(today)} | ${word(after)}${asked} | ${hand} | ${first.length > 110 ? `${first.slice(0, 107)}...` : first}`);
+        `${kind.name} | ${word(today)} | ${word(after)}${asked} | ${hand} | ${line} | ${first.length > 110 ? `${first.slice(0, 107)}...` : first}`);
     failed.forEach((it) => console.log(`    FAILED: ${it}`));
 }
 const failed = results.filter((it) => it.failed.length).length;
 const [before, behind] = [results.filter((it) => it.today.isDrawn && !it.today.wrong.length),
     results.filter((it) => it.after.isDrawn && !it.after.wrong.length)];
 console.log(`${before.length} of ${results.length} files are drawn as on the ground, and by prepare ${behind.length}`);
+const refused = results.filter((it) => !it.today.isDrawn), of = (/** @type {(it: Result) => boolean} */ isSo) => refused.filter(isSo).length;
+console.log(`of ${refused.length} refused files ${of((it) => it.by.hand.outcome.isDrawn)} are drawn by what is said to write, `
+    + `${of((it) => it.by.prepare.outcome.isDrawn)} by what prepare is said to write, and ${of((it) => UNMENDED.has(it.kind.name))} have no `
+    + "remedy");
 console.log(`${results.length - failed} passed, ${failed} failed`);
 process.exitCode = failed ? 1 : 0;

@@ -132,6 +132,18 @@ class Writer3 {
         });
     }
 
+    /** @returns {string[]} those of the ground, each at its place on a track; of none the ground itself */
+    operationalPoints() {
+        const { title, tracks, operationalPoints: points } = this.ground;
+        const text = (/** @type {string} */ id, /** @type {string} */ name, /** @type {string} */ place) =>
+            `<operationalPoint id="${id}"><name name="${escaped(name)}" language="de"/>${place}</operationalPoint>`;
+        return points.length ? points.map(({ id, name, at }) => {
+            const track = tracks.find((it) => it.objects.some((one) => one.attributes.ocpRef === id && one.at === at));
+            const part = track ? (track.isTurned ? track.to - at : at - track.from) / (track.to - track.from) : 0;
+            return text(id, name, track ? this.spot({ id }, track, String(part)) : "");
+        }) : [text("op", title, "")];
+    }
+
     /** @returns {string} */
     text() {
         const { ground, style } = this, { tracks } = ground, points = tracks.flatMap((it) => it.points);
@@ -154,8 +166,8 @@ class Writer3 {
                 "</borders><bufferStops>",
             ...["west", "east"].flatMap((way) => this.endings(/** @type {Way} */ (way), "bufferStop")),
                 "</bufferStops><crossings>", ...crossings,
-            `</crossings><operationalPoints><operationalPoint id="op"><name name="${escaped(ground.title)}" language="de"/></operationalPoint>`
-            + "</operationalPoints><signalsIS>", ...tracks.flatMap((it) => this.signals(it)), "</signalsIS><switchesIS>",
+            "</crossings><operationalPoints>", ...this.operationalPoints(),
+            "</operationalPoints><signalsIS>", ...tracks.flatMap((it) => this.signals(it)), "</signalsIS><switchesIS>",
                 ...switches,
             "</switchesIS><tracks>", ...names, "</tracks></functionalInfrastructure></infrastructure></railML>",
                 ""].filter((it, at, all) =>
