@@ -161,6 +161,16 @@ class Tab:
             raise Gone(f"{script[:200]}: {found['exceptionDetails'].get('exception', {}).get('description')}")
         return found["result"].get("value")
 
+    def framed(self, script: str) -> Any:
+        """what a script gives in the frame of the page, which has a process of its own; None where there is no frame yet"""
+        frames = [it for it in self.browser.ask("Target.getTargets")["targetInfos"] if it["type"] == "iframe"]
+        if not frames:
+            return None
+        session = self.browser.ask("Target.attachToTarget", targetId=frames[-1]["targetId"], flatten=True)["sessionId"]
+        found = self.browser.ask("Runtime.evaluate", session, expression=script, returnByValue=True)
+        self.browser.ask("Target.detachFromTarget", sessionId=session)
+        return found["result"].get("value")
+
     def key(self, key: str) -> None:
         text = {"Enter": "\r"}.get(key, key if len(key) == 1 else "")
         code = KEYS.get(key, ord(key.upper()) if len(key) == 1 else 0)
@@ -183,6 +193,17 @@ class Tab:
         self.move(x, y)
         self.press(x, y, "mousePressed")
         self.press(x, y, "mouseReleased")
+
+    def drop(self, x: float, y: float, paths: list[Path]) -> None:
+        """drops files and folders, as if they were dragged here from outside"""
+        data = {"items": [], "files": [str(it.resolve()) for it in paths], "dragOperationsMask": 1}
+        for kind in ("dragEnter", "dragOver", "drop"):
+            self.ask("Input.dispatchDragEvent", type=kind, x=x, y=y, data=data)
+
+    def give(self, what: str, paths: list[Path]) -> None:
+        """chooses files, or a folder, in the field that a selector finds"""
+        found = self.ask("Runtime.evaluate", expression=f"document.querySelector({json.dumps(what)})")["result"]
+        self.ask("DOM.setFileInputFiles", files=[str(it.resolve()) for it in paths], objectId=found["objectId"])
 
     def wheel(self, x: float, y: float, down: float, with_control: bool = True) -> None:
         self.ask("Input.dispatchMouseEvent", type="mouseWheel", x=x, y=y, deltaX=0, deltaY=down,

@@ -101,9 +101,22 @@ class Firefox:
             raise Gone(f"{script[:200]}: {found['failed']}")
         return found
 
+    def framed(self, script: str) -> Any:
+        """what a script gives in the first frame of the page"""
+        self.ask("WebDriver:SwitchToFrame", id=0)
+        try:
+            return self.run(script)
+        finally:
+            self.ask("WebDriver:SwitchToFrame", id=None)
+
     def key(self, key: str) -> None:
         actions = [{"type": kind, "value": KEYS.get(key, key)} for kind in ("keyDown", "keyUp")]
         self.ask("WebDriver:PerformActions", actions=[{"type": "key", "id": "keyboard", "actions": actions}])
+
+    def give(self, what: str, paths: list[Path]) -> None:
+        """chooses files in the field that a selector finds"""
+        found = self.ask("WebDriver:FindElement", using="css selector", value=what)["value"]
+        self.ask("WebDriver:ElementSendKeys", id=next(iter(found.values())), text="\n".join(str(it.resolve()) for it in paths))
 
     def size(self, width: int, height: int, is_phone: bool = False) -> None:
         self.ask("WebDriver:SetWindowRect", width=width, height=height)

@@ -1,10 +1,10 @@
 #!/usr/bin/env python3
 """Forges a page that checks itself, and holds what is said of it: by itself, when it is opened in Debian's chromium, and by those to whom
-it is handed over, `check-page` and a desk on which it is dropped.
+it is handed over, `check-page` and a desk on which it is dropped. With --firefox it is firefox.
 
 The page is that of the example, with the program as WebAssembly out of a desk and with the hinted lines of its search. In its record
 the file, the sheet, the graph, the values, the order or the hinted lines are changed by chance; of a changed sheet the SHA-256 is
-made anew, as a forger would. Each forged page is to say what isn't so, and the true one that all is; a changed claim of the maker is said to
+made anew, as a forger would. A page of a search that stopped gets the badge of one that ended, or of one that settled more. Each forged page is to say what isn't so, and the true one that all is; a changed claim of the maker is said to
 be the maker's. A page whose script, worker, program, style, policy or picture was changed can say of itself what it likes: of these
 `check-page` and the desk are to say what is otherwise."""
 from __future__ import annotations
@@ -19,6 +19,7 @@ import re
 import sys
 import tempfile
 import time
+from contextlib import ExitStack
 from dataclasses import dataclass
 from pathlib import Path
 from typing import Any, Callable
@@ -27,6 +28,7 @@ sys.dont_write_bytecode = True
 
 from browser import Browser, Gone, Tab  # noqa: E402
 from desk import Desk  # noqa: E402
+from firefox import Firefox  # noqa: E402
 from launcher import Launcher  # noqa: E402
 from measuring import TOP, read_words, reader_of_program, run  # noqa: E402
 
@@ -76,9 +78,8 @@ def taken_apart(text: str, hints: str) -> Page:
     return Page(f"{before}DATA{after}", json.loads(unpacked(data)), hints)
 
 
-def true_page(launcher: Launcher, program: Path, desk: Path, folder: Path) -> Page:
-    """the page of the example, with what it checks itself by"""
-    page = folder / "true.html"
+def hand_program(launcher: Launcher, desk: Path) -> None:
+    """gives the launcher the program as WebAssembly that a desk carries"""
     carried = re.search(r'id="data">(.*?)</script>', desk.read_text(encoding="utf-8"))
     if not carried:
         sys.exit(f"bench/forged_pages.py: {desk} is no desk")
@@ -89,10 +90,15 @@ def true_page(launcher: Launcher, program: Path, desk: Path, folder: Path) -> Pa
     path.write_bytes(wasm)
     path.chmod(0o755)
     path.with_name("built").write_text(f"railplan-built 1\nkit none\n{place}\t-\t{hashlib.sha256(wasm).hexdigest()}\n")
-    station, log, hints = TOP / "examples/station.xml", folder / "log", folder / "hints"
-    sheet = folder / "sheet"
-    status, _, said = launcher.run("--html", str(page), "draw", str(station))
-    if status or run([program, "draw", station, "--log", log], sheet).status or run([program, "trim", station, sheet, log, hints]).status:
+
+
+def true_page(launcher: Launcher, program: Path, folder: Path, *options: str) -> Page:
+    """the page of the example, with what it checks itself by"""
+    page, sheet, log, hints = (folder / it for it in ("true.html", "sheet", "log", "hints"))
+    station, stops = TOP / "examples/station.xml", 4 if options else 0
+    status, _, said = launcher.run("--html", str(page), "draw", str(station), *options)
+    drawn = run([program, "draw", station, *options, "--log", log], sheet)
+    if status != stops or drawn.status != stops or run([program, "trim", station, sheet, log, hints]).status:
         sys.exit(f"bench/forged_pages.py: the example isn't drawn: {said}")
     return taken_apart(page.read_text(encoding="utf-8"), hints.read_text(encoding="utf-8"))
 
@@ -140,6 +146,14 @@ def other_order(chance: random.Random, page: Page) -> Page:
     return page.with_sheet(page.sheet.replace(found[0], f"order {' '.join(order)}"))
 
 
+def other_badge(chance: random.Random, page: Page) -> Page:
+    """of a search that stopped: the claim that it ended, or that it settled more"""
+    found = re.search(r"(?m)^end conflicts (\d)$", page.sheet)
+    assert found
+    ending = chance.choice(["best", *[f"conflicts {it}" for it in range(int(found[1]) + 1, 4)]])
+    return page.with_sheet(page.sheet.replace(found[0], f"end {ending}"))
+
+
 def other_hints(chance: random.Random, page: Page) -> Page:
     """without its Refuted lines, or cut off before the last of them"""
     lines = page.hints.split("\n")
@@ -163,6 +177,13 @@ KINDS: dict[str, tuple[Callable[[random.Random, Page], Page], str]] = {
     "order": (other_order, "the hinted lines certify what the sheet claims"),
     "hints": (other_hints, "the hinted lines certify what the sheet claims"),
 }
+
+# those of which a page of a search that stopped is forged
+OF_STOPPED: dict[str, tuple[Callable[[random.Random, Page], Page], str]] = {
+    "badge": (other_badge, "the hinted lines certify what the sheet claims: "),
+}
+# so many learnt clauses the search is let, in turn
+BUDGETS = ("3", "5", "6")
 
 CLAIM = "made by a program whose proofs passed: as its maker says"
 
@@ -226,7 +247,7 @@ def handed_over(launcher: Launcher, desk: Desk, text: str, path: Path) -> tuple[
     return status, answer, str(desk.tab.run("[...document.querySelectorAll('.judged li')].map(it => it.textContent).join('\\n')"))
 
 
-def said_by(tab: Tab, page: Page, path: Path) -> tuple[str, str]:
+def said_by(tab: Tab | Firefox, page: Page, path: Path) -> tuple[str, str]:
     """whether a page is right, by itself, and what it says of itself"""
     path.write_text(page.written(), encoding="utf-8")
     tab.open(path)
@@ -234,7 +255,7 @@ def said_by(tab: Tab, page: Page, path: Path) -> tuple[str, str]:
     while time.time() < until:
         state = tab.run("document.body.dataset.checked ?? (!document.querySelector('script.program') && 'without a program')")
         if state:
-            return state, tab.run("document.querySelector('.checked').textContent")
+            return str(state), str(tab.run("document.querySelector('.checked').textContent"))
         time.sleep(0.02)
     raise Gone(f"{path} isn't checked after {SECONDS} s")
 
@@ -243,21 +264,28 @@ def main() -> int:
     parser = reader_of_program(__doc__)
     parser.add_argument("--desk", type=Path, required=True, help="a desk, which `./railplan browser DESK.html` writes")
     parser.add_argument("--count", type=int, default=20, help="forged pages of each kind (20)")
+    parser.add_argument("--firefox", action="store_true", help="drive firefox")
     words: argparse.Namespace = read_words(parser)
     passed = failed = 0
-    with tempfile.TemporaryDirectory() as base, Browser() as browser:
-        folder, chance, tab = Path(base), random.Random(1), Tab(browser)
+    with ExitStack() as opened:
+        tab: Tab | Firefox = opened.enter_context(Firefox()) if words.firefox else Tab(opened.enter_context(Browser()))
+        folder, chance = Path(opened.enter_context(tempfile.TemporaryDirectory())), random.Random(1)
         launcher = Launcher(words.program, folder)
-        page = true_page(launcher, words.program, words.desk, folder)
+        hand_program(launcher, words.desk)
+        stopped = [true_page(launcher, words.program, folder, "--conflicts", it) for it in BUDGETS]
+        page = true_page(launcher, words.program, folder)
         tried = [("the true page", page, "right", TRUE)]
+        tried += [(f"the true page of {budget} conflicts", it, "right", "lawful: checked here") for budget, it in zip(BUDGETS, stopped)]
         tried += [(f"{kind} {at}", make(chance, page), "wrong", f"it isn't so that {text}")
                   for kind, (make, text) in KINDS.items() for at in range(words.count)]
+        tried += [(f"{kind} {at}", make(chance, stopped[at % len(stopped)]), "wrong", f"it isn't so that {text}")
+                  for kind, (make, text) in OF_STOPPED.items() for at in range(words.count)]
         tried += [(f"the maker's claim {at}", other_claim(chance, page), "right", CLAIM) for at in range(words.count)]
         for name, forged, wanted, text in tried:
             state, said = said_by(tab, forged, folder / "forged.html")
             is_so = state == wanted and text in said and not tab.requests()
             passed, failed = passed + is_so, failed + (not is_so)
-            if not is_so or forged is page:
+            if not is_so or name.startswith("the true page"):
                 print(f"{name}: {state}: {said}", flush=True)
         desk, text = Desk(tab, words.desk), page.written()
         given = [("the true page", text, 0, "right it is built, to the byte, as this version builds the page of its run")]

@@ -208,6 +208,16 @@ def ladder(k):
     return station
 
 
+def fullest():
+    """as many nodes and pieces of track as there may be, 128 and 160: a ladder with a siding above and below at each of its steps"""
+    station = ladder(12)
+    for i in range(12):
+        at = 3000 * i
+        station.siding(station.tracks[3], at + 600, at + 1300, True)
+        station.siding(station.tracks[0], at + 1200, at + 1900, False)
+    return station
+
+
 EVERYDAY = (
     [(f"passing places {k}", passing(k, sidings)) for k, sidings in ((2, 1), (4, 0), (5, 2))]
     + [(f"through station {a} {b}", through(a, b, crossed)) for a, b, crossed in ((1, 1, False), (2, 1, True), (2, 2, True), (3, 2, False))]

@@ -33,7 +33,7 @@ FORMS: dict[str, dict[int, bytes]] = {
     "verify": {0: rb"lawful(?: [0-9]+){4}\n", 1: INPUT + b"|" + SHEET, 8: BROKEN},
     "check": {0: CERTIFIED, **CHECKED},
     "recheck": {0: CERTIFIED, **CHECKED},
-    "trim": {0: rb"trimmed [0-9]+ [0-9]+\n", **CHECKED},
+    "trim": {0: rb"trimmed [0-9]+ [0-9]+\n", **CHECKED, 4: rb"(?:check Room line [0-9]+|trim Room)\n"},
     "make": {0: rb"(?s).*"},
     "trial": {0: rb"trial [0-9]+ nodes [0-9]+ edges [0-9]+ height [0-9]+ width [0-9]+\n", 3: rb"trial [0-9]+ none\n",
               4: rb"trial [0-9]+ (?:conflicts|room)\n"},

@@ -1,11 +1,13 @@
 #!/usr/bin/env python3
 """Holds the clauses of a station against drawings that are found without them.
 
-`laws.lp` says the seven laws anew, from docs/laws.md, and clingo finds the drawings that keep them. The clauses are the Formula lines of the log
-that `draw` writes. It takes of the program only how its variables are numbered (`Numbering`), so that a model is a drawing.
-Of all stations of up to four nodes, on grids up to 5 by 2, the drawings of the models are to be exactly those that keep the laws.
-With --plant clauses are taken away one by one, and one is added that a lawful drawing doesn't meet, in each small station. Each of the
-second kind is to be seen; of the first it is said in how many stations one was, as most clauses say what others say too. It needs Debian's packages gringo, g++ and libcadical-dev, and ends with 1 where something differs."""
+`laws.lp` says the seven laws anew, from docs/laws.md, and clingo finds the drawings that keep them. The clauses are the Formula
+lines of the log that `draw` writes. Of the program only the numbering of its variables is taken (`Numbering`), so that a model
+is a drawing. Of all stations of up to four nodes, on grids up to 5 by 2, the drawings of the models are to be exactly those that
+keep the laws; for larger ones there is `larger.py`.
+With --plant clauses are taken away one by one, and one is added that a lawful drawing doesn't meet, in each small station. Each
+of the second kind is to be seen; of the first it is said how many were, as most clauses say what others say too. It needs
+Debian's packages gringo, g++ and libcadical-dev, and ends with 1 where something differs."""
 from __future__ import annotations
 
 import argparse
@@ -18,32 +20,24 @@ import sys
 import tempfile
 from collections import Counter
 from concurrent.futures import ProcessPoolExecutor
-from dataclasses import dataclass
 from functools import partial
 from pathlib import Path
-from typing import Any, Iterator
+from typing import Any, Iterable, Iterator
 
 sys.dont_write_bytecode = True
 HERE = Path(__file__).resolve().parent
 TOP = HERE.parent.parent
 sys.path.append(str(HERE))
+import cadical  # noqa: E402
 import graph as graphs  # noqa: E402
+from drawing import Grid  # noqa: E402
 
+BUILT = TOP / "crates/railplan_main/out/railplan_main"
 MOST = 400000
 # so many clauses are taken away in turn, as most say what others say too
-LOST = 12
+LOST = 40
 Line = tuple[int, int, int, int, int]
 Shown = tuple[tuple[tuple[int, int], ...], tuple[Line, ...]]
-
-
-@dataclass(frozen=True)
-class Grid:
-    width: int
-    height: int
-    least: int = 1
-
-    def words(self) -> list[str]:
-        return ["--width", str(self.width), "--height", str(self.height), "--least", str(self.least)]
 
 
 # ---- small stations
@@ -52,8 +46,9 @@ class Grid:
 def track(number: int, west: int, east: int, ends: tuple[str, str], inner: str = "") -> str:
     """a track that rises; an end is a connection, or open"""
     names = [f"t{number}w", f"t{number}e"]
-    begin, end = (f'<{kind} id="{name}" pos="{mileage - west}" absPos="{mileage}">{inside}</{kind}>' for kind, name, mileage, inside in zip(
-        ("trackBegin", "trackEnd"), names, (west, east), ends))
+    parts = zip(("trackBegin", "trackEnd"), names, (west, east), ends)
+    begin, end = (f'<{kind} id="{name}" pos="{mileage - west}" absPos="{mileage}">{inside}</{kind}>'
+                  for kind, name, mileage, inside in parts)
     connections = f"<connections>{inner}</connections>" if inner else ""
     return f'<track id="t{number}"><trackTopology>{begin}{end}{connections}</trackTopology></track>'
 
@@ -91,20 +86,23 @@ def small_stations() -> Iterator[tuple[str, bytes]]:
                               track(3, 2, 3, (joined("d", "c"), OPEN)))
     for west, east, begin, end in itertools.product(range(4), repeat=4):
         if west < east and begin < end and (west, east) <= (begin, end) and in_ranks(west, east, begin, end):
-            yield f"two tracks {west} {east} {begin} {end}", whole(track(1, west, east, (OPEN, OPEN)), track(2, begin, end, (OPEN, OPEN)))
+            both = track(1, west, east, (OPEN, OPEN)), track(2, begin, end, (OPEN, OPEN))
+            yield f"two tracks {west} {east} {begin} {end}", whole(*both)
     for branch, is_own in itertools.product(("upper", "lower"), (False, True)):
         for through, aside in ((2, 2), (2, 3), (3, 2)):
             name = f"a switch, {branch}{', its track diverges' if is_own else ''}, {through} {aside}"
             yield f"{name}, legs east", whole(track(1, 0, through, (OPEN, OPEN), switch("a", 1, 0, "east", branch, is_own)),
                                              track(2, 1, aside, (joined("ar", "a"), OPEN)))
-            yield f"{name}, legs west", whole(track(1, 3 - through, 3, (OPEN, OPEN), switch("a", 2, 3 - through, "west", branch, is_own)),
+            inner = switch("a", 2, 3 - through, "west", branch, is_own)
+            yield f"{name}, legs west", whole(track(1, 3 - through, 3, (OPEN, OPEN), inner),
                                              track(2, 3 - aside, 2, (OPEN, joined("ar", "a"))))
     for branch, is_own, other_own in itertools.product(("upper", "lower"), (False, True), (False, True)):
         # the second track is the upper one where the first switch says so, and the second switch says the same
         second = branch if not is_own else "lower" if branch == "upper" else "upper"
         other = second if not other_own else "lower" if second == "upper" else "upper"
+        inner = switch("a", 1, 0, "east", branch, is_own) + switch("b", 2, 0, "west", other, other_own)
         yield (f"a loop, {branch} {is_own} {other_own}", whole(
-            track(1, 0, 3, (OPEN, OPEN), switch("a", 1, 0, "east", branch, is_own) + switch("b", 2, 0, "west", other, other_own)),
+            track(1, 0, 3, (OPEN, OPEN), inner),
             track(2, 1, 2, (joined("ar", "a"), joined("br", "b")))))
 
 
@@ -123,14 +121,16 @@ def facts(graph: Any, grid: Grid) -> str:
             lines.append(f"joint({number[node]},{node.path[0].number},{node.path[1].number}).")
         elif node.kind == "switch":
             turns = 1 if node.legs == "east" else -1, 1 if node.side == "upper" else -1
-            lines.append("switch({},{},{},{},{},{}).".format(number[node], *turns, node.trunk.number, node.straight.number, node.diverging.number))
+            edges = (edge.number for edge in (node.trunk, node.straight, node.diverging))
+            lines.append("switch({},{},{},{},{},{}).".format(number[node], *turns, *edges))
         else:
             parts = [*node.rising, *node.falling]
             lines.append("crossing({},{},{},{},{}).".format(number[node], *(edge.number for edge in parts)))
     for edge in graph.edges:
         lines.append(f"edge({edge.number},{number[edge.west]},{number[edge.east]}).")
     lines += [f"above({one},{other})." for one, other in sorted(graph.above)]
-    lines += [f"overlap({one.number},{other.number})." for one, other in itertools.combinations(graph.edges, 2) if one.overlaps(other)]
+    pairs = itertools.combinations(graph.edges, 2)
+    lines += [f"overlap({one.number},{other.number})." for one, other in pairs if one.overlaps(other)]
     return "\n".join(lines) + "\n"
 
 
@@ -144,7 +144,7 @@ def shown(text: str) -> Shown:
         key, *rest = map(int, values.split(","))
         found[name][key] = rest
     points = tuple((found["x"][node][0], found["y"][node][0]) for node in sorted(found["x"]))
-    lines = tuple((found["first"][edge][0], found["first"][edge][1], found["level"][edge][0], *found["last"][edge]) for edge in sorted(found["level"]))
+    lines = tuple((*found["first"][edge], *found["level"][edge], *found["last"][edge]) for edge in sorted(found["level"]))
     return points, lines  # type: ignore[return-value]
 
 
@@ -165,8 +165,8 @@ def lawful(graph: Any, grid: Grid, *words: str) -> list[Shown]:
 
 
 class Numbering:
-    """Which variable says what: of each node, from west to east, its rows from 1 and then its columns from 1; then of each edge six for
-    its shape, and for each column those of the line there."""
+    """Which variable says what: of each node, from west to east, its rows from 1 and then its columns from 1; then of each edge
+    six for its shape, and for each column those of the line there."""
 
     def __init__(self, graph: Any, grid: Grid) -> None:
         self.graph, self.grid, self.last = graph, grid, 0
@@ -192,7 +192,16 @@ class Numbering:
 
     def counting(self) -> list[int]:
         """the variables of which a drawing follows"""
-        return [*itertools.chain(*self.rows.values(), *self.columns.values()), *itertools.chain(*itertools.chain(*self.steps.values()))]
+        of_nodes = itertools.chain(*self.rows.values(), *self.columns.values())
+        return [*of_nodes, *itertools.chain(*itertools.chain(*self.steps.values()))]
+
+    def of_points(self, points: Iterable[tuple[int, int]]) -> list[int]:
+        """what the points of the nodes say of their variables"""
+        found = []
+        for number, (x, y) in enumerate(points):
+            for variables, value in ((self.columns[number], x), (self.rows[number], y)):
+                found += [variable if place < value else -variable for place, variable in enumerate(variables)]
+        return found
 
     def literals(self, drawing: Shown) -> list[int]:
         """what a drawing says of these variables"""
@@ -224,7 +233,8 @@ class Numbering:
 
 def line_of(slopes: list[int]) -> Line | None:
     runs = [(slope, len(list(group))) for slope, group in itertools.groupby(slopes)]
-    if not runs or len(runs) > 3 or len(runs) > 1 and [slope == 0 for slope, _ in runs].count(True) != 1 or len(runs) == 3 and runs[1][0] != 0:
+    level = [slope for slope, _ in runs].count(0)
+    if not runs or len(runs) > 3 or len(runs) > 1 and level != 1 or len(runs) == 3 and runs[1][0] != 0:
         return None
     if len(runs) == 1 and runs[0][0] != 0:
         return (*runs[0], 0, 0, 0)
@@ -238,7 +248,8 @@ class Clauses:
 
     def __init__(self, words: argparse.Namespace, file: Path, grid: Grid, room: Path) -> None:
         log = room / "log"
-        subprocess.run([words.program, "draw", file, *grid.words(), "--order", "height", "--log", log], stdout=subprocess.DEVNULL, check=False)
+        command = [words.program, "draw", file, *grid.words(), "--order", "height", "--log", log]
+        subprocess.run(command, stdout=subprocess.DEVNULL, check=False)
         found = [line.split()[1:] for line in log.read_text(encoding="ascii").split("\n") if line.startswith("f ")]
         self.models, self.clauses = words.models, [[int(literal) for literal in line[:-1]] for line in found]
 
@@ -271,23 +282,25 @@ def hold_small(words: argparse.Namespace, case: tuple[str, bytes, Grid]) -> tupl
             return Counter(), [f"{name} on {grid}: no clause is in the log"]
         wanted, (found, strange) = set(lawful(graph, grid, "0")), clauses.drawings(numbering)
         counts = Counter({"small stations on grids": 1, "drawings": len(wanted)})
-        said = [f"{name} on {grid}: {len(wanted - found)} lawful drawings are no model, {len(found - wanted)} models are unlawful, {strange} "
-                "are no drawing"] if wanted != found or strange else []
+        said = [f"{name} on {grid}: {len(wanted - found)} lawful drawings are no model, {len(found - wanted)} models are "
+                f"unlawful, {strange} are no drawing"] if wanted != found or strange else []
         if words.plant and not said:
             counts += planted(clauses, numbering, wanted, random.Random(f"{name} {grid}"))
     return counts, said
 
 
 def planted(clauses: Clauses, numbering: Numbering, wanted: set[Shown], chance: random.Random) -> Counter[str]:
-    """whether a lost clause and a false one are seen"""
+    """Whether a lost clause and a false one are seen. Without a lost one those models are found that it forbade."""
     counts: Counter[str] = Counter()
-    sound, seen = clauses.clauses, False
+    sound, seen = clauses.clauses, 0
     for at in chance.sample(range(len(sound)), min(LOST, len(sound))):
-        clauses.clauses = sound[:at] + sound[at + 1:]
+        clauses.clauses = [*sound[:at], *sound[at + 1:], *([-literal] for literal in sound[at])]
         found, strange = clauses.drawings(numbering)
-        seen = seen or found != wanted or strange > 0
-        counts["lost clauses tried"] += 1
-    counts["stations in which a lost clause is seen" if seen else "stations in which no lost clause changes the drawings"] += 1
+        seen += not found <= wanted or strange > 0
+        # where there are more models, but none of another drawing, the clause speaks of variables that no drawing follows from
+        counts[f"lost clauses that allow {'other models' if found or strange else 'no other model'}"] += 1
+    counts["lost clauses seen"] += seen
+    counts["stations on grids in which a lost clause is seen" if seen else "stations on grids in which none is"] += 1
     if wanted:
         literals = numbering.literals(chance.choice(sorted(wanted)))
         clauses.clauses = [*sound, [-literal for literal in chance.sample(literals, min(3, len(literals)))]]
@@ -299,7 +312,7 @@ def planted(clauses: Clauses, numbering: Numbering, wanted: set[Shown], chance: 
 
 def asked() -> argparse.Namespace:
     parser = argparse.ArgumentParser(description=__doc__, formatter_class=argparse.RawDescriptionHelpFormatter)
-    parser.add_argument("program", type=Path, nargs="?", default=TOP / "crates/railplan_main/out/railplan_main", metavar="PROGRAM")
+    parser.add_argument("program", type=Path, nargs="?", default=BUILT, metavar="PROGRAM")
     parser.add_argument("--width", type=int, default=5, help="the greatest width of the small grids (5)")
     parser.add_argument("--height", type=int, default=2, help="their greatest height (2)")
     parser.add_argument("--plant", action="store_true", help="plants a lost clause and a false one in each small station")
@@ -310,8 +323,7 @@ def asked() -> argparse.Namespace:
 def main() -> int:
     words, counts, failures = asked(), Counter[str](), 0
     with tempfile.TemporaryDirectory() as room, ProcessPoolExecutor(words.jobs) as pool:
-        words.models = Path(room) / "models"
-        subprocess.run(["g++", "-O2", "-o", words.models, TOP / "bench/programs/models.cc", "-lcadical"], check=True)
+        words.models = cadical.built(Path(room))
         grids = [Grid(width, height) for width in range(1, words.width + 1) for height in range(words.height + 1)]
         small = [(name, text, grid) for name, text in small_stations() for grid in [*grids, Grid(words.width, words.height, 2)]]
         for more, said in pool.map(partial(hold_small, words), small):

@@ -1,5 +1,6 @@
 """Drawings: lines, the seven laws, values; sheets, read and written, and pictures."""
 import re
+from dataclasses import dataclass
 from itertools import combinations
 
 from reading import LIMIT, Refused, write_metres
@@ -9,6 +10,17 @@ CRITERIA = ("height", "bends", "diagonal", "width")
 LEVEL, UP, DOWN = 0, 1, -1
 SHAPES = {(LEVEL,), (UP,), (DOWN,), (UP, LEVEL), (DOWN, LEVEL), (LEVEL, UP), (LEVEL, DOWN), (UP, LEVEL, UP), (UP, LEVEL, DOWN),
           (DOWN, LEVEL, UP), (DOWN, LEVEL, DOWN)}
+
+
+@dataclass(frozen=True)
+class Grid:
+    """the greatest column and row, and over how many columns each edge goes at the least"""
+    width: int
+    height: int
+    least: int = 1
+
+    def words(self) -> list[str]:
+        return ["--width", str(self.width), "--height", str(self.height), "--least", str(self.least)]
 
 
 def slopes(points):
@@ -68,6 +80,30 @@ class Drawing:
     def is_off(self, grid, point):
         return point[0] > grid.width or point[1] > grid.height
 
+    def is_ordered(self, one, other):
+        """law 2 of two nodes"""
+        x, other_x = self.points[one.number][0], self.points[other.number][0]
+        return x == other_x if one.mileage == other.mileage else (x <= other_x if one.mileage < other.mileage else x >= other_x)
+
+    def joins(self, grid, edge):
+        """law 3 of an edge"""
+        line, ends = self.lines[edge.number], [self.points[node.number] for node in (edge.west, edge.east)]
+        return [line[0], line[-1]] == ends and line[-1][0] - line[0][0] >= grid.least
+
+    def is_loose(self, grid):
+        """whether each line has one of the shapes, and laws 1 and 3 hold"""
+        every = [*self.points, *(point for line in self.lines for point in line)]
+        return (all(slopes(line) in SHAPES for line in self.lines) and not any(self.is_off(grid, point) for point in every)
+                and all(self.joins(grid, edge) for edge in self.graph.edges))
+
+    def meets(self, law, parties):
+        """whether a law of 2, 4, 5, 6 and 7 holds of these nodes or edges, by number"""
+        several = self.graph.nodes if law in (2, 4, 5) else self.graph.edges
+        one, other = several[parties[0]], several[parties[-1]]
+        return {2: lambda: self.is_ordered(one, other), 4: lambda: self.keeps_slopes(one),
+                5: lambda: self.points[one.number] != self.points[other.number], 6: lambda: self.is_over(one, other),
+                7: lambda: self.is_over(one, other) or self.is_over(other, one)}[law]()
+
     def broken(self, grid):
         """the parties of the first law that is broken, with its number; none where the drawing is lawful"""
         nodes, edges = self.graph.nodes, self.graph.edges
@@ -76,13 +112,10 @@ class Drawing:
         for party in node_off + edge_off:
             return 1, (party,)
         for one, other in combinations(nodes, 2):
-            x, other_x = self.points[one.number][0], self.points[other.number][0]
-            if (one.mileage > other.mileage and x < other_x or one.mileage < other.mileage and x > other_x
-                    or one.mileage == other.mileage and x != other_x):
+            if not self.is_ordered(one, other):
                 return 2, (("node", one), ("node", other))
         for edge in edges:
-            line, ends = self.lines[edge.number], [self.points[node.number] for node in (edge.west, edge.east)]
-            if [line[0], line[-1]] != ends or line[-1][0] - line[0][0] < grid.least:
+            if not self.joins(grid, edge):
                 return 3, (("edge", edge),)
         for node in nodes:
             if not self.keeps_slopes(node):
@@ -188,6 +221,18 @@ class SheetReader:
         self.hold(self.numbers(fields[1:])[0] == due, 3)
 
     def drawing(self, sheet, fields, is_second):
+        sheet.drawing = self.drawn(fields, is_second)
+        fields = self.line()
+        self.hold(fields[0] == b"values" and len(fields) == 5)
+        self.hold(tuple(self.numbers(fields[1:])) == sheet.drawing.values(), 5)
+        fields = self.line()
+        if fields == [b"end", b"best"]:
+            sheet.ending, sheet.settled = "best", len(sheet.order)
+        else:
+            self.ending(sheet, fields, len(sheet.order))
+
+    def drawn(self, fields, is_second=True):
+        """the lines from that of the nodes, whose fields are these, to those of the edges"""
         graph, points, lines = self.graph, [], []
         self.count(fields, b"nodes", len(graph.nodes))
         for node in graph.nodes:
@@ -209,15 +254,7 @@ class SheetReader:
             line = list(zip(rest[::2], rest[1::2]))
             self.hold(slopes(line) in SHAPES, 4)
             lines.append(line)
-        sheet.drawing = Drawing(graph, points, lines)
-        fields = self.line()
-        self.hold(fields[0] == b"values" and len(fields) == 5)
-        self.hold(tuple(self.numbers(fields[1:])) == sheet.drawing.values(), 5)
-        fields = self.line()
-        if fields == [b"end", b"best"]:
-            sheet.ending, sheet.settled = "best", len(sheet.order)
-        else:
-            self.ending(sheet, fields, len(sheet.order))
+        return Drawing(graph, points, lines)
 
 
 def read_sheet(graph, text, wants_drawing=False):

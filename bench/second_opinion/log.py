@@ -175,13 +175,17 @@ class Written:
 class Judge:
     """judges the lines of a log in turn"""
 
-    def __init__(self, sheet, lines, written):
-        self.sheet, self.lines = sheet, lines
-        bounds = [line[1][0] for line in lines if not isinstance(line, int) and line[0] == "b"]
-        self.caps = {name: min(bounds.count(name), greatest(sheet, written.graph, name)) for name in CRITERIA}
-        self.expected, self.is_whole = written.expected(sheet.order, self.caps)
+    def __init__(self, lines, expected, is_whole=True):
+        self.lines, self.expected, self.is_whole = lines, expected, is_whole
         self.propagation, self.at, self.greatest, self.query = Propagation(), 0, 0, None
         self.refuted, self.bounds = [], {}
+
+    @classmethod
+    def of_sheet(cls, sheet, lines, written):
+        """of the log of a sheet's search"""
+        bounds = [line[1][0] for line in lines if not isinstance(line, int) and line[0] == "b"]
+        caps = {name: min(bounds.count(name), greatest(sheet, written.graph, name)) for name in CRITERIA}
+        return cls(lines, *written.expected(sheet.order, caps))
 
     def refuse(self, why, number, status=8):
         raise Refused(f"check {why} line {number}".encode(), status)
@@ -232,12 +236,12 @@ class Judge:
             self.refuse(why, number)
         self.propagation.add(clause)
 
-    def lacking(self):
+    def lacking(self, sheet):
         """the first place whose value isn't certified as least; none where all that is claimed are"""
-        if not self.sheet.drawing:
-            return 0 if self.sheet.ending == "none" and set() not in self.refuted else None
-        values, allowed = dict(zip(CRITERIA, self.sheet.drawing.values())), set()
-        for place, name in enumerate(self.sheet.order[:self.sheet.settled], 1):
+        if not sheet.drawing:
+            return 0 if sheet.ending == "none" and set() not in self.refuted else None
+        values, allowed = dict(zip(CRITERIA, sheet.drawing.values())), set()
+        for place, name in enumerate(sheet.order[:sheet.settled], 1):
             least = self.bounds.get((name, values[name]))
             if values[name] and not any(clause <= allowed | {least} for clause in self.refuted):
                 return place
@@ -259,9 +263,9 @@ def check(graph, sheet_text, log_text, written):
         lines = read_log(log_text)
         if lines is None:
             raise Refused(b"log 1 Header line 1")
-        judge = Judge(sheet, lines, written)
+        judge = Judge.of_sheet(sheet, lines, written)
         judge.judge()
-        place = judge.lacking()
+        place = judge.lacking(sheet)
         return (0, b"certified %d\n" % sheet.settled) if place is None else (8, b"check Lacks place %d\n" % place)
     except Refused as why:
         return why.status, why.line + b"\n"
