@@ -9,6 +9,7 @@ from functools import cache
 from checking.crates import DOCUMENTS, TOP, crates, handed_on, read, show, spans, stands_on
 from checking.numbers import WORDS_OF_NUMBERS, Missing, constant, criteria, faults, laws, options, source, statuses, usual_order
 from checking import shell as table
+from checking.style import MOST_BYTES
 
 README, GUIDE, FORMATS, TRUSTED, THEOREM, MAP = (
     "README.md", "docs/guide.md", "docs/formats.md", "docs/trusted.md", "THEOREM.md", "crates/README.md")
@@ -99,7 +100,7 @@ SENTENCES = [
     (TRUSTED, "A log holds, with {Done}, {NoDrawing} and {Unfinished}, the text"),
     (TRUSTED, "Nothing goes there with {Refused}, {WordsRefused} and {Unread}."),
     (THEOREM, "`draw` that ends with {Done} has printed"),
-    (THEOREM, "`draw` that ends with {NoDrawing} says"),
+    (THEOREM, "Where `draw` ends with {NoDrawing} no drawing"),
     (THEOREM, "`draw` that ends with {Unfinished} has learnt"),
     (THEOREM, "`check` and `recheck` that end with {Done}:"),
     (THEOREM, "Of a run that ends with {cut}, or by a signal"),
@@ -107,19 +108,20 @@ SENTENCES = [
     (THEOREM, "| {NoDrawing}: a sheet with `end none`"),
     (THEOREM, "| {Unfinished}: `end conflicts S` or"),
     (THEOREM, "| {Broken}: it isn't;"),
-    (THEOREM, "{Refused}: the line has the fault that is looked for first"),
-    (THEOREM, "{Unread}: an input wasn't read;"),
+    (THEOREM, "{Refused}: the line has the first fault of those"),
+    (THEOREM, "{Unread}: an input wasn't read, by `answer` alone."),
     (THEOREM, "{WordsRefused}: the line has the fault of the words."),
     (THEOREM, "It has {asked} `requires`."),
     (THEOREM, "`IsCutShort` is {cut}."),
     (THEOREM, "shows the {laws} laws in pictures"),
-    (THEOREM, "Where `check` ends with {Broken} and names no law"),
+    (THEOREM, "Where `check`, `recheck` or `trim` ends with {Broken} and names no law"),
     (THEOREM, "Status {numbered}."),
     (THEOREM, "or with {WordsRefused}, {cut}. `main` ends with {unstarted} where"),
     (THEOREM, "The launcher also ends with {unstarted} and {stopped},"),
     (THEOREM, "Rattle's crates {kit} state"),
     ("bench/tried.md", "On {apart} tracks that nothing joins"),
     ("docs/style.md", "Take the kit's crates ({kit_listed})"),
+    ("docs/style.md", "and `docs/` {most_bytes} by hand"),
     (MAP, "{Unwritten} comes from `crates/schematic_main/src/running.rt`"),
     (MAP, "{Broken} comes from `crates/run_check/src`"),
     (MAP, "laws {in_node_laws} in `node_laws`, {in_edge_laws} in `edge_laws`"),
@@ -230,6 +232,7 @@ def of_sources():
             "apart": one(r"^tracks_64 +(\d+) tracks that nothing joins", "cases/stations/README"),
             "cases": one(r"\"seeds\".*?default=(\d+)", "bench/second_opinion/run"),
             "in_node_laws": laws_in("cnf_laws/src/node_laws.rt"), "in_edge_laws": laws_in("cnf_laws/src/edge_laws.rt"),
+            "most_bytes": f"{MOST_BYTES:,}",
             "bad_value": next(number for number, word in faults("plan_words/src/fault.rt") if word == "BadValue"),
             **dict(zip(("first", "second"), usual_order())), **of_laws(), **of_editions()}
 

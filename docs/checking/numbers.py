@@ -44,7 +44,7 @@ ANSWERS = {"Done": ["the drawing text, the graph text, `lawful"],
            "Refused": ["`long I`", "`text NO", "`topology NO", "`graph NO", "`order 1", "`signal NO", "`sheet NO", "`log NO",
                        "`hints NO"],
            "WordsRefused": ["`words NO"], "NoDrawing": ["the sheet with `end none`"],
-           "Unfinished": ["the sheet with `end conflicts S` or `end room S`", "`check Room line N`"],
+           "Unfinished": ["the sheet with `end conflicts S` or `end room S`", "`check Room line N`", "`trim Room`"],
            "Unread": ["`read failed I`"], "Unwritten": ["nothing, or a prefix of what was wanted: the output or a file"],
            "NoMemory": ["nothing, or a prefix of what was wanted: there was no memory"],
            "Broken": ["`broken law L PARTY`", "`check REFUSAL line N`, but with Room, or `check Lacks"]}
@@ -217,7 +217,7 @@ def laws_list():
 def kinds_table():
     """The kinds of changes that prepare makes."""
     return ["| word | what is in the file | what is written |", "|---|---|---|",
-            *(f"| `{it['word']}` | {it['found']} | {it['written']} |" for it in shell.table()["kinds"])]
+            *(f"| `{it['word']}` | {it['found']} | {it['written']} |" for it in shell.data("mending_kinds.js"))]
 
 
 TABLES_MADE = {"kinds": kinds_table, "limits": limits_table, "options": options_table, "statuses": statuses_table,

@@ -17,9 +17,14 @@ def whole(text):
 
 
 @cache
+def data(name):
+    """A data module of the shell, which is one JSON text behind `export default`."""
+    return json.loads(read(TOP / "shell/both" / name).split("\nexport default", 1)[1].strip().rstrip(";"))
+
+
 def table():
-    """shell/both/commands.js, which is one JSON text behind `export default`."""
-    return json.loads(read(TOP / "shell/both/commands.js").split("\nexport default", 1)[1].strip().rstrip(";"))
+    """The table of commands and options."""
+    return data("commands.js")
 
 
 def options_of(listed):
