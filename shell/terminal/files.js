@@ -369,11 +369,19 @@ export async function hashed(name) {
  * @param {string} name
  */
 export function makeFolders(name) {
-    if (!stateOf(name)?.isDirectory()) {
-        if (dirname(name) !== name) {
-            makeFolders(dirname(name));
-        }
+    if (stateOf(name)?.isDirectory()) {
+        return;
+    }
+    if (dirname(name) !== name) {
+        makeFolders(dirname(name));
+    }
+    try {
         mkdirSync(path(name));
+    } catch (error) {
+        // another run may have made it meanwhile
+        if (codeOf(error) !== "EEXIST" || !stateOf(name)?.isDirectory()) {
+            throw error;
+        }
     }
 }
 

@@ -158,3 +158,14 @@ test("locks of runs that are gone don't pile up, and a young one may be just beg
     sweep(folder);
     assert.deepEqual(readdirSync(folder).sort(), ["mine", "young"]);
 });
+
+test("folders that four runs make at once", async (it) => {
+    const folder = folderOf(it);
+    const script = `import { makeFolders } from ${JSON.stringify(new URL("../terminal/files.js", import.meta.url).href)};
+for (let number = 0; number < 500; number++) { makeFolders(\`${folder}/\${number}/some/more\`); }`;
+    const jobs = [1, 2, 3, 4].map(() => new Started(spawn(process.execPath, ["--input-type=module", "-e", script])));
+    for (const job of jobs) {
+        assert.equal(await job.ended, 0, job.err);
+    }
+    assert.equal(readdirSync(folder).length, 500);
+});
