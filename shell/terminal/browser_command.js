@@ -7,6 +7,7 @@ import { Otherwise } from "../engine/kit.js";
 import { NotBundled } from "../engine/packed.js";
 import { VERSION } from "../both/version.js";
 import { find, findProved, list, look } from "./built.js";
+import { packAll } from "./bundle.js";
 import { needRt } from "./building.js";
 import { Output, Refused, remove } from "./files.js";
 import { end, say } from "./say.js";
@@ -87,6 +88,7 @@ export async function run(asking, line) {
     let output;
     try {
         output = new Output(out);
+        packAll(clone.top);
         const { program, kit } = await wasmFor(asking);
         output.write(deskOf(clone.top, { ...program, kit }));
     } catch (error) {

@@ -12,8 +12,9 @@ import { end } from "./say.js";
 /** where scripts are kept, and the module with which each begins */
 const KEPT = "out/shell";
 const ENTRIES = { page: "page/opened.js", worker: "page/desk_worker.js", desk: "page/desk_opened.js", begin: "page/desk_begin.js" };
+const KINDS = /** @type {(keyof typeof ENTRIES)[]} */ (Object.keys(ENTRIES));
 /** how many scripts there are */
-export const SCRIPTS = Object.keys(ENTRIES).length;
+export const SCRIPTS = KINDS.length;
 
 /** @param {string} shell the folder of the shell @returns {string} what the modules of pages are, as one hash */
 const sumOf = (shell) => sumOfModules(shell, ["both", "page"]);
@@ -89,13 +90,22 @@ export function packedScript(top, kind) {
 }
 
 /**
+ * Packs all scripts, or keeps that they are packed: what lacks for it shows before a long build.
+ * @param {string} top
+ * @throws {NotBundled}
+ */
+export function packAll(top) {
+    for (const kind of KINDS) packedScript(top, kind);
+}
+
+/**
  * All scripts by their places below the top, as far as they are there or can be packed.
  * @param {string} top
  * @returns {Map<string, string>}
  */
 export function packedScripts(top) {
     const sum = sumOf(join(top, "shell")), found = new Map();
-    for (const kind of /** @type {(keyof typeof ENTRIES)[]} */ (Object.keys(ENTRIES))) {
+    for (const kind of KINDS) {
         try {
             found.set(`${KEPT}/${kind}-${sum}.js`, packedScript(top, kind));
         } catch (error) {

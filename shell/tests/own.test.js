@@ -9,6 +9,7 @@ import { bash, zsh } from "../both/completions.js";
 import { allCommands, manPage, ofCommand, overview } from "../both/manual.js";
 import { VERSION } from "../both/version.js";
 import { COMMANDS, OPTIONS, OWN_OPTIONS, PAGE_WORDS, fault, read } from "../both/words.js";
+import { NO_BUNDLER } from "../engine/packed.js";
 import { TIMES } from "../terminal/own.js";
 
 const COMMANDS_ALL = [...allCommands().values()];
@@ -235,4 +236,14 @@ test("completions of zsh name every word", () => {
 test("completions of zsh are a script", has("zsh"), () => {
     const ran = spawnSync("zsh", ["-n"], { input: zsh(), encoding: "utf-8" });
     assert.deepEqual([ran.status, ran.stderr], [0, ""]);
+});
+
+test("a desk that can't be packed is no reason for a build", (it) => {
+    const clone = new InClone(it), tools = join(clone.top, "tools");
+    mkdirSync(tools);
+    symlinkSync(process.execPath, join(tools, "node"));
+    symlinkSync(join(clone.top, "bin/rt"), join(tools, "rt"));
+    const [status, , said] = clone.launch(["browser", "desk.html"], { PATH: tools });
+    assert.deepEqual([status, said], [10, `railplan: desk.html isn't written: ${NO_BUNDLER}\n`]);
+    assert.deepEqual([clone.text("asked"), existsSync(join(clone.top, "desk.html"))], ["", false]);
 });
