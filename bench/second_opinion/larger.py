@@ -24,7 +24,7 @@ from collections import Counter
 from concurrent.futures import ProcessPoolExecutor
 from functools import partial
 from pathlib import Path
-from typing import Any, Union
+from typing import Any, Callable, Union
 
 sys.dont_write_bytecode = True
 HERE = Path(__file__).resolve().parent
@@ -291,23 +291,28 @@ def too_many_open(counts: Counter[str], number: int) -> bool:
     return unjudged * 20 > number
 
 
+def judged(pool: ProcessPoolExecutor, case: Callable[[int], Told], number: int, head: str = "") -> int:
+    """judges so many cases, prints what was seen and how often, and says how many failures there were"""
+    counts, began, failures = Counter[str](), time.monotonic(), 0
+    for more, said in pool.map(case, range(number)):
+        counts += more
+        failures += len(said)
+        for line in said:
+            print(line, flush=True)
+    failures += sum(count for what, count in counts.items() if what.isupper()) + too_many_open(counts, number)
+    for what, count in sorted(counts.items()):
+        print(f"{head}{what}: {count}")
+    print(f"{head}{time.monotonic() - began:.0f} s", flush=True)
+    return failures
+
+
 def main() -> int:
-    words, failures = asked(), 0
+    words = asked()
     with tempfile.TemporaryDirectory() as room, ProcessPoolExecutor(words.jobs) as pool:
         words.models = cadical.built(Path(room))
-        for hold, number in ((hold_best, words.best), (hold_made, words.made), (hold_samples, words.sampled)):
-            counts, began = Counter[str](), time.monotonic()
-            for more, said in pool.map(partial(hold, words), range(number)):
-                counts += more
-                failures += len(said)
-                for line in said:
-                    print(line, flush=True)
-            failures += sum(count for what, count in counts.items() if what.isupper())
-            failures += too_many_open(counts, number)
-            for what, count in sorted(counts.items()):
-                print(f"{what}: {count}")
-            print(f"{time.monotonic() - began:.0f} s", flush=True)
-    return int(failures > 0)
+        kinds = ((hold_best, words.best), (hold_made, words.made), (hold_samples, words.sampled))
+        failures = [judged(pool, partial(hold, words), number) for hold, number in kinds]
+    return int(any(failures))
 
 
 if __name__ == "__main__":

@@ -19,7 +19,6 @@ import random
 import subprocess
 import sys
 import tempfile
-import time
 from collections import Counter
 from concurrent.futures import ProcessPoolExecutor
 from functools import partial
@@ -36,7 +35,7 @@ from cadical import GivenUp  # noqa: E402
 from clauses import Numbering  # noqa: E402
 from drawing import CRITERIA, Drawing, Grid, SheetReader, numbers, read_sheet, sheet_text  # noqa: E402
 from encoder import Law, laws_of  # noqa: E402
-from larger import BUILT, CONFLICTS, DEFAULT, Told, larger_station, made_station, too_many_open  # noqa: E402
+from larger import BUILT, CONFLICTS, DEFAULT, Told, judged, larger_station, made_station  # noqa: E402
 from moved import Moved, drawing_clauses, faults_of_counting, faults_of_log, last_of, moved_clauses, read_moved  # noqa: E402
 from optima import Optima, Point, moved_of  # noqa: E402
 from reading import Refused  # noqa: E402
@@ -329,23 +328,12 @@ def asked() -> argparse.Namespace:
 
 
 def main() -> int:
-    words, failures = asked(), 0
+    words = asked()
     words.program = words.program.resolve()
     with tempfile.TemporaryDirectory() as room, ProcessPoolExecutor(words.jobs) as pool:
         words.models = cadical.built(Path(room))
-        for kind in words.kinds:
-            counts, began = Counter[str](), time.monotonic()
-            for more, said in pool.map(partial(case_of, words, kind), range(words.cases)):
-                counts += more
-                failures += len(said)
-                for line in said:
-                    print(line, flush=True)
-            failures += sum(count for what, count in counts.items() if what.isupper())
-            failures += too_many_open(counts, words.cases)
-            for what, count in sorted(counts.items()):
-                print(f"{kind}: {what}: {count}")
-            print(f"{kind}: {time.monotonic() - began:.0f} s", flush=True)
-    return int(failures > 0)
+        failures = [judged(pool, partial(case_of, words, kind), words.cases, f"{kind}: ") for kind in words.kinds]
+    return int(any(failures))
 
 
 if __name__ == "__main__":
