@@ -1,5 +1,5 @@
 #!/usr/bin/env python3
-"""Measures all tables of docs/measured.md anew, writes them into bench/results, and makes the page of them.
+"""Measures all tables of docs/work/measured.md anew, writes them into bench/results, and makes the page of them.
 
 Nothing else should run meanwhile. Two scripts run side by side; what is measured by the clock comes last, and alone. A script that
 needs what this machine hasn't is left out, and its table stays as it was. The last lines say how long each took by the clock."""

@@ -1,7 +1,7 @@
 #!/usr/bin/env python3
 """Draws the station of a file, trims the log, and changes one digit of the hints by chance, so many times.
 
-`recheck` judges each text, and so does bench/hostile/hint_judge.py, by the sentences of docs/formats.md: it shares nothing
+`recheck` judges each text, and so does bench/hostile/hint_judge.py, by the sentences of docs/formats/hints.md: it shares nothing
 with the program but the Formula lines of the log, in which a search that has ended tells all clauses that are expected for
 its caps. Where the two differ the text's line is printed, and the status is 1. Other caps than the log's it can't judge."""
 from __future__ import annotations

@@ -1,6 +1,6 @@
 #!/usr/bin/env python3
 """Draws a folder of everyday stations on a cluster: Slurm with one controller and two nodes, all on this machine, started for this
-and stopped behind it. Four parts are drawn by a job array, and a job that waits for them makes the index, as docs/folders.md has it.
+and stopped behind it. Four parts are drawn by a job array, and a job that waits for them makes the index, as docs/use/folders.md has it.
 Then this is done again, and one node is killed in the midst, with all that runs on it: the index names what no part has drawn, the
 part is given again, and the index is whole. At last the same folder is drawn by one run with `-j`. It needs root and Debian's
 packages slurm-wlm and munge, and nothing else should run meanwhile. It ends with 1 where something isn't as it is to be."""
@@ -175,7 +175,7 @@ class Trial(Launcher):
         print(f"{'as it is to be' if holds else 'OTHERWISE'}: {what}", flush=True)
 
     def give_parts(self, out: str, parts: str) -> str:
-        # the two lines of docs/folders.md, with the grid of these stations
+        # the two lines of docs/use/folders.md, with the grid of these stations
         line = f"./railplan folder IN {out} -j {self.cluster.processors} --shard \"$SLURM_ARRAY_TASK_ID/{PARTS}\" {' '.join(GRID)}"
         return self.cluster.give(self.clone, f"--array={parts}", f"--cpus-per-task={self.cluster.processors}", f"--job-name={out}",
                                  "--output=part-%a.said", "--wrap", line)

@@ -76,7 +76,7 @@ def reader_of_program(about: str | None) -> argparse.ArgumentParser:
 
 def with_write(parser: argparse.ArgumentParser) -> argparse.ArgumentParser:
     """the same words, and whether the table is written"""
-    parser.add_argument("--write", action="store_true", help="write the table into bench/results, from which docs/measured.md is made")
+    parser.add_argument("--write", action="store_true", help="write the table into bench/results, from which docs/work/measured.md is made")
     return parser
 
 

@@ -1,6 +1,6 @@
 #!/usr/bin/env python3
 """Prints crates/plan_core/proofs/Sampled.antt: drawings taken at random over a few track graphs, and
-what this judge says of each. The judge is written from the laws in words, in docs/definitions.md, and not
+what this judge says of each. The judge is written from the laws in words, in docs/trust/definitions.md, and not
 from the definitions in specs/, so the two can be compared: the check proves that they agree. `rt fmt` in
 crates/plan_core then puts the file into its form."""
 import argparse

@@ -1,4 +1,4 @@
-"""The commands that README.md and docs/*.md print, as the steps of a case for each page.
+"""The commands that README.md and the pages of docs/ print, as the steps of a case for each page.
 
 Run are, in the order in which they stand on a page:
 - each line `$ COMMAND` of a block of code; the lines under it, up to the next one, are what it prints on standard output;
@@ -14,7 +14,7 @@ from collections import namedtuple
 from pathlib import Path
 
 TOP = Path(__file__).resolve().parent.parent
-PAGES = [TOP / "README.md"] + sorted((TOP / "docs").glob("*.md"))
+PAGES = [TOP / "README.md"] + [path for folder in ("use", "trust", "formats", "work") for path in sorted((TOP / "docs" / folder).glob("*.md"))]
 Command = namedtuple("Command", "page line words wanted is_file")
 
 

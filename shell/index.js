@@ -1,6 +1,6 @@
 /**
  * railplan as a module for other programs of Node: it finds the program of its clone, installation or release, runs it over files in
- * memory, and gives the answers that `--json` prints. docs/module.md shows how it is used.
+ * memory, and gives the answers that `--json` prints. docs/formats/module.md shows how it is used.
  */
 import { fileURLToPath } from "node:url";
 import { answerOf } from "./both/answer.js";

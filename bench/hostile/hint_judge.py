@@ -1,4 +1,4 @@
-"""An exact judge of hinted lines: what `recheck` is to answer, by the sentences of docs/formats.md.
+"""An exact judge of hinted lines: what `recheck` is to answer, by the sentences of docs/formats/hints.md.
 
 It shares nothing with the program. The clauses that are expected of a station are taken from the log that `draw` wrote. For
 other caps than that log's it can't tell them: then `Unknown` is raised, unless the text has a fault before a line is judged."""

@@ -10,7 +10,7 @@ at the same size, that is, and the power of the work with which the seconds grow
 slow where its last line has more than --times of the ordinary seconds, or where a run takes longer than --limit; less than
 --floor seconds are never slow. `--count` says how many sizes there are.
 
-`--write` puts each family's last size into bench/results/slow.csv, from which docs/measured.md is made. There the power is that
+`--write` puts each family's last size into bench/results/slow.csv, from which docs/work/measured.md is made. There the power is that
 from the first size that takes 0.02 seconds to the last."""
 from __future__ import annotations
 

@@ -27,7 +27,7 @@ from pathlib import Path
 from known import KNOWN
 
 TOP = Path(__file__).resolve().parents[2]
-# what long runs came to, from which docs/measured.md is made
+# what long runs came to, from which docs/work/measured.md is made
 TABLE = TOP / "bench/results/hostile.csv"
 HEAD = ["script", "seed", "cases", "runs", "wrong", "s", "program"]
 # a run that takes longer is said to hang

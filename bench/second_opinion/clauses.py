@@ -1,7 +1,7 @@
 #!/usr/bin/env python3
 """Holds the clauses of a station against drawings that are found without them.
 
-`laws.lp` says the seven laws anew, from docs/laws.md, and clingo finds the drawings that keep them. The clauses are the Formula
+`laws.lp` says the seven laws anew, from docs/trust/laws.md, and clingo finds the drawings that keep them. The clauses are the Formula
 lines of the log that `draw` writes. Of the program only the numbering of its variables is taken (`Numbering`), so that a model
 is a drawing. Of all stations of up to four nodes, on grids up to 5 by 2, the drawings of the models are to be exactly those that
 keep the laws; for larger ones there is `larger.py`.

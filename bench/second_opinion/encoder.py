@@ -1,4 +1,4 @@
-"""Clauses of the drawings of a station, of another make: from docs/laws.md alone, with nothing of the program.
+"""Clauses of the drawings of a station, of another make: from docs/trust/laws.md alone, with nothing of the program.
 
 A node has a variable for each column, and for each row one that says that it lies there or higher. A line has for each column
 whether it is there and how high, and for each step to the next column whether it rises, is level or falls."""

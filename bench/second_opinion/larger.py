@@ -4,7 +4,7 @@
 Each station has eight nodes or more, made by chance, and follows from its number; with --made some are of the kinds of
 `made_stations.py`, of a size by chance.
 - The least values: `draw` on the default grid, and on others, is compared with the least that cadical finds of the clauses of
-  `encoder.py`, which were written from docs/laws.md: the values in the order that is asked for, or that no drawing is lawful.
+  `encoder.py`, which were written from docs/trust/laws.md: the values in the order that is asked for, or that no drawing is lawful.
 - Drawings by chance: clingo finds lawful ones on 8 by 3 from `laws.lp`. Each has to satisfy the clauses of `draw`'s log. Then a
   node is moved or a line changed, and the clauses have to allow the drawing where `drawing.py` finds it lawful, and else not.
 With --plant the second encoder loses a law of each station, and then has a false one, by which no drawing is as narrow as the

@@ -1,4 +1,4 @@
-% The drawings of a station that keep the seven laws, as answers of clingo: written from docs/laws.md, and from nothing of the program.
+% The drawings of a station that keep the seven laws, as answers of clingo: written from docs/trust/laws.md, and from nothing of the program.
 % Facts: node(N), rank(N,R) by mileage; edge(E,West,East); end(N,E), joint(N,E,F), switch(N,Legs,Branch,Trunk,Straight,Diverging) with
 % Legs 1 in the east and -1 in the west, Branch 1 upper and -1 lower; crossing(N,RisingWest,RisingEast,FallingWest,FallingEast);
 % above(E,F), overlap(E,F). Numbers: width, height, least.

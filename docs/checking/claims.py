@@ -38,7 +38,7 @@ def names_that_fail():
         if path.suffix in (".rt", ".antt") and "proofs" not in path.parts:
             known.update(re.findall(r"[A-Za-z_]\w*", read(path)))
     found = []
-    for name in ("crates/README.md", "THEOREM.md", "docs/definitions.md", "docs/trusted.md", "docs/DECISIONS.md"):
+    for name in ("crates/README.md", "THEOREM.md", "docs/trust/definitions.md", "docs/trust/trusted.md", "docs/work/decisions.md"):
         text = " ".join(spans(read(TOP / name)))
         named = {word for word in re.findall(r"[A-Za-z_]\w+", text) if not word.isupper()}
         found += [f"{name}: nothing is named {word}" for word in sorted(named - known - WORDS_OF_RATTLE)]
@@ -76,13 +76,13 @@ def is_there(span, section, contracts, words):
 
 def citations_that_fail(contracts, words):
     found, section = [], []
-    for paragraph in re.split(r"\n(?=\n|- |#|  \*By\*)", read(TOP / "docs" / "trusted.md")):
+    for paragraph in re.split(r"\n(?=\n|- |#|  \*By\*)", read(TOP / "docs" / "trust" / "trusted.md")):
         text = paragraph.strip()
         if text.startswith("#"):
             section = [span for span in spans(text) if span in crates()]
         elif text.startswith("*By*"):
             near = section + [span for span in spans(text) if span in crates()]
-            found += [f"docs/trusted.md: {span} isn't there, in {', '.join(near) or 'no crate'}"
+            found += [f"docs/trust/trusted.md: {span} isn't there, in {', '.join(near) or 'no crate'}"
                       for span in spans(text) if not is_there(span, near, contracts, words)]
     return found
 
@@ -90,13 +90,13 @@ def citations_that_fail(contracts, words):
 def claims_without_citation():
     """Claims of the sections that name crates, of which no clause is told."""
     found, section = [], False
-    paragraphs = re.split(r"\n(?=\n|- |#)", read(TOP / "docs" / "trusted.md"))
+    paragraphs = re.split(r"\n(?=\n|- |#)", read(TOP / "docs" / "trust" / "trusted.md"))
     for paragraph in paragraphs:
         text = paragraph.strip()
         if text.startswith("## "):
             section = any(span in crates() for span in spans(text))
         elif section and text.startswith("- ") and "*By* " not in text:
-            found.append(f"docs/trusted.md: no clause is told of: {text.splitlines()[0][2:70]}")
+            found.append(f"docs/trust/trusted.md: no clause is told of: {text.splitlines()[0][2:70]}")
     return found
 
 
@@ -107,11 +107,11 @@ def of_the_commands():
 def calls_untold():
     """Calls that crates hand out and no document names, and laws of whole runs, by the name of their file, that aren't claimed."""
     named = {path: set(re.findall(r"\w+", " ".join(spans(read(path))))) for path in DOCUMENTS}
-    anywhere, claimed = set().union(*named.values()), named[TOP / "docs" / "trusted.md"]
+    anywhere, claimed = set().union(*named.values()), named[TOP / "docs" / "trust" / "trusted.md"]
     calls = [(crate, path, name) for crate in crates() for path, name in calls_handed_out(crate)]
     return [f"docs: no document names {name}, which {crate} hands out"
             for crate, _, name in calls if name not in anywhere] + [
-            f"docs/trusted.md: no claim names the law {name} of {crate}"
+            f"docs/trust/trusted.md: no claim names the law {name} of {crate}"
             for crate, path, name in calls if crate in of_the_commands() and path.stem.endswith("laws") and name not in claimed]
 
 

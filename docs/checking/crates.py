@@ -17,6 +17,9 @@ def show(path):
 
 
 def read(path):
+    """A file's text; of a folder all its pages, one behind the other."""
+    if path.is_dir():
+        return "\n".join(map(read, sorted(path.glob("*.md"))))
     return path.read_text(encoding="utf-8")
 
 

@@ -12,9 +12,9 @@ from checking import shell as table
 from checking.style import MOST_BYTES
 
 README, GUIDE, FORMATS, TRUSTED, THEOREM, MAP = (
-    "README.md", "docs/guide.md", "docs/formats.md", "docs/trusted.md", "THEOREM.md", "crates/README.md")
+    "README.md", "docs/use/guide.md", "docs/formats", "docs/trust/trusted.md", "THEOREM.md", "crates/README.md")
 # pages whose names are looked for in the files and crates in which they are said to be
-PLACED = (MAP, THEOREM, TRUSTED, FORMATS, README, "docs/DECISIONS.md", "docs/definitions.md")
+PLACED = (MAP, THEOREM, TRUSTED, FORMATS, README, "docs/work/decisions.md", "docs/trust/definitions.md")
 
 SENTENCES = [
     (README, "keeps {laws} laws"),
@@ -120,8 +120,8 @@ SENTENCES = [
     (THEOREM, "The launcher also ends with {unstarted} and {stopped},"),
     (THEOREM, "Rattle's crates {kit} state"),
     ("bench/tried.md", "On {apart} tracks that nothing joins"),
-    ("docs/style.md", "Take the kit's crates ({kit_listed})"),
-    ("docs/style.md", "and `docs/` {most_bytes} by hand"),
+    ("docs/work/style.md", "Take the kit's crates ({kit_listed})"),
+    ("docs/work/style.md", "and `docs/` {most_bytes} by hand"),
     (MAP, "{Unwritten} comes from `crates/schematic_main/src/running.rt`"),
     (MAP, "{Broken} comes from `crates/run_check/src`"),
     (MAP, "laws {in_node_laws} in `node_laws`, {in_edge_laws} in `edge_laws`"),
@@ -267,7 +267,7 @@ def commands_misnamed():
     found = []
     names = {word: [name["word"] for name in command.names] for word, command in {**table.COMMANDS, **table.OWN}.items()}
     known = {name for it in names.values() for name in it}
-    for page in (README, GUIDE, FORMATS, TRUSTED, "docs/folders.md", "docs/other-checkers.md"):
+    for page in (README, GUIDE, FORMATS, TRUSTED, "docs/use/folders.md", "docs/trust/other-checkers.md"):
         for span in spans(read(TOP / page)):
             first, *rest = span.removeprefix("./railplan ").split()
             told = [word for word in rest if re.fullmatch(r"[A-Z]+", word)]

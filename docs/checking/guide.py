@@ -1,4 +1,4 @@
-"""The pictures of docs/guide.md, drawn as pages draw them.
+"""The pictures of docs/use/guide.md, drawn as pages draw them.
 
 The remark at the guide's end names runs, the file in examples/ that has the answer of each, and its pictures. So no program is
 needed here. The gate runs these commands too and compares the answers; `docs/printed` asks for them anew."""
@@ -9,7 +9,7 @@ import subprocess
 
 from checking.crates import TOP, read, show
 
-GUIDE = TOP / "docs" / "guide.md"
+GUIDE = TOP / "docs" / "use" / "guide.md"
 MADE = TOP / "docs" / "made"
 ANSWER = r"`\./railplan\s([^`]+)`\s+prints\s+`(examples/[^`]+)`(?:\s+\(([\w ]+)\))?"
 MOST_BYTES = 20_000
@@ -34,5 +34,5 @@ def all_failures():
     shown = read(GUIDE)
     return [f"{show(path)}: {len(text.encode())} bytes, and {MOST_BYTES} are the most"
             for path, text in pictures().items() if len(text.encode()) > MOST_BYTES] + [
-            f"{show(path)}: docs/guide.md doesn't show it" for path in sorted({*pictures(), *MADE.glob("guide_*.svg")})
-            if f"(made/{path.name})" not in shown or path not in pictures()]
+            f"{show(path)}: docs/use/guide.md doesn't show it" for path in sorted({*pictures(), *MADE.glob("guide_*.svg")})
+            if f"(../made/{path.name})" not in shown or path not in pictures()]

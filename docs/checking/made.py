@@ -44,7 +44,7 @@ def glossary_text():
     words = [word for crate in crates() for word in words_of(crate)]
     cited = words_of_public_contracts(contracts, words)
     lines = ["# The words of the contracts", "",
-             "Each definition that a public contract cites, with the remark beside it. `docs/definitions.md` has those by which the",
+             "Each definition that a public contract cites, with the remark beside it. `docs/trust/definitions.md` has those by which the",
              "product is judged. `docs/check --write` makes this page."]
     place = None
     for word in words:

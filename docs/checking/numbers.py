@@ -11,8 +11,8 @@ from checking import results, rooms, shell, theorem
 from checking.crates import DOCUMENTS, TOP, head, read, show
 
 README = TOP / "README.md"
-FORMATS = TOP / "docs" / "formats.md"
-LAWS = TOP / "docs" / "laws.md"
+FORMATS = TOP / "docs" / "formats"
+LAWS = TOP / "docs" / "trust" / "laws.md"
 
 # the constants of the table of limits, in its order
 LIMITS = [("plan_core", "MAX_FILE_BYTES"), ("plan_core", "MAX_LOG_BYTES"), ("railml_read", "MAX_DEPTH"),
@@ -21,8 +21,8 @@ LIMITS = [("plan_core", "MAX_FILE_BYTES"), ("plan_core", "MAX_LOG_BYTES"), ("rai
           ("plan_words", "MAX_SEED"), ("outside_io", "MAX_NUMBER"), ("plan_write", "MAX_METRES"), ("cnf_core", "LAST_VAR"),
           ("cnf_core", "VARS"), ("cnf_core", "ROOM")]
 
-# where the faults of a section of docs/formats.md are, in the order in which the sections stand
-FAULTS = {"Words": "plan_words/src/fault.rt", "A railML file": "railml_text/src/fault.rt",
+# where the faults of a section of docs/formats are, in the order in which the sections stand
+FAULTS = {"Words": "plan_words/src/fault.rt", "The text of a file": "railml_text/src/fault.rt",
           "The topology": "railml_faults/src/fault.rt", "The drawing text, or sheet": "plan_text/src/sheet_fault.rt",
           "The track graph, and the graph text": "port_graph/src/fault.rt", "The log text": "refute_log/src/fault.rt",
           "The answer of signals": "plan_objects/src/fault.rt", "The text of hinted lines": "hint_log/src/text_fault.rt"}
@@ -39,7 +39,7 @@ ENDINGS = {"Done": "what was asked for was printed", "Refused": "an input was re
            "Unwritten": "the output or a file couldn't be written", "NoMemory": "there was no memory",
            "Broken": "verify, check, trim, recheck: a law is broken; check, trim, recheck: the log is refused"}
 
-# texts behind `- **N**: ` that docs/formats.md has of each status
+# texts behind `- **N**: ` that docs/formats has of each status
 ANSWERS = {"Done": ["the drawing text, the graph text, `lawful"],
            "Refused": ["`long I`", "`text NO", "`topology NO", "`graph NO", "`order 1", "`signal NO", "`sheet NO", "`log NO",
                        "`hints NO"],
@@ -243,17 +243,17 @@ def missing_tables():
 
 
 def section(path, title):
-    found = re.search(rf"^## {re.escape(title)}\n(.*?)(?=^## |\Z)", read(path), re.M | re.S)
+    found = re.search(rf"^##? {re.escape(title)}\n(.*?)(?=^##? |\Z)", read(path), re.M | re.S)
     return found.group(1) if found else ""
 
 
 def fault_lists_that_differ():
-    """The lists of faults of docs/formats.md, whose numbers, words and order are those of the sources."""
+    """The lists of faults of docs/formats, whose numbers, words and order are those of the sources."""
     found = []
     for title, path in FAULTS.items():
         told = [(int(number), word) for number, word in re.findall(r"^- \*\*(\d+) (\w+)\*\*: \S", section(FORMATS, title), re.M)]
         if told != faults(path):
-            found.append(f"docs/formats.md: the faults under {title} aren't those of crates/{path}, in their order")
+            found.append(f"docs/formats: the faults under {title} aren't those of crates/{path}, in their order")
     return found
 
 
@@ -269,10 +269,10 @@ def fault_lines_that_fail():
 
 
 def refusals_that_differ():
-    """Why a line of a log is refused, in the order in which docs/formats.md tells it."""
+    """Why a line of a log is refused, in the order in which docs/formats tells it."""
     words = re.findall(r"Refusal::\w+ => \"(\w+)\"", source("log_check/src/verdict.rt"))
     told = re.findall(r"`check (\w+) line N`", section(FORMATS, "The answer on a log"))
-    return [] if told == words else ["docs/formats.md: what check answers isn't what crates/log_check/src/verdict.rt has, in its order"]
+    return [] if told == words else ["docs/formats: what check answers isn't what crates/log_check/src/verdict.rt has, in its order"]
 
 
 def help_options():
@@ -281,17 +281,17 @@ def help_options():
 
 
 def statuses_that_fail():
-    """The statuses of the launcher's help and of docs/formats.md."""
+    """The statuses of the launcher's help and of docs/formats."""
     found, told = [], shell.endings()
     section_text = " ".join(section(FORMATS, "Faults and statuses").split())
     for number, name, _ in statuses():
         if told.get(number) != ENDINGS.get(name):
             found.append(f"shell/both/manual.js: says of status {number} '{told.get(number)}', but {name} is '{ENDINGS.get(name)}'")
-        found += [f"docs/formats.md: no answer of status {number} begins with {answer}"
+        found += [f"docs/formats: no answer of status {number} begins with {answer}"
                   for answer in ANSWERS[name] if f"- **{number}**: {answer}" not in section_text]
     numbers = {number for number, _, _ in statuses()} | {10, 130}
     beyond = set(told) - numbers | {int(number) for number in re.findall(r"- \*\*(\d+)\*\*", section_text)} - numbers
-    return found + [f"shell/both/manual.js, docs/formats.md: there is no status {number}" for number in sorted(beyond)]
+    return found + [f"shell/both/manual.js, docs/formats: there is no status {number}" for number in sorted(beyond)]
 
 
 def help_that_fails():
@@ -316,20 +316,20 @@ def help_that_fails():
 
 
 def laws_that_fail():
-    """The laws' sections in docs/laws.md and their sentences in docs/definitions.md."""
+    """The laws' sections in docs/trust/laws.md and their sentences in docs/trust/definitions.md."""
     found = []
     titles = [int(number) for number in re.findall(r"^## Law (\d): ", read(LAWS), re.M)]
     if titles != sorted(laws()):
-        found.append(f"docs/laws.md: has the laws {titles}")
-    told = re.findall(r"^- `(\w+)`.*?: \*\*law (\d)\*\*", read(TOP / "docs" / "definitions.md"), re.M)
+        found.append(f"docs/trust/laws.md: has the laws {titles}")
+    told = re.findall(r"^- `(\w+)`.*?: \*\*law (\d)\*\*", read(TOP / "docs" / "trust" / "definitions.md"), re.M)
     if [int(number) for _, number in told] != sorted(laws()):
-        found.append(f"docs/definitions.md: has the laws {[number for _, number in told]}")
-    return found + [f"docs/definitions.md: {word} isn't under law {number} in crates/plan_core/specs/Laws.antt"
+        found.append(f"docs/trust/definitions.md: has the laws {[number for _, number in told]}")
+    return found + [f"docs/trust/definitions.md: {word} isn't under law {number} in crates/plan_core/specs/Laws.antt"
                     for word, number in told if word not in laws().get(int(number), ("", []))[1]]
 
 
 def prose_that_fails():
-    """What README says of the example's values and of the order, and docs/formats.md of how many names a command has."""
+    """What README says of the example's values and of the order, and docs/formats of how many names a command has."""
     height, bends, diagonal, width = re.search(r"^values (\d+) (\d+) (\d+) (\d+)$", read(TOP / "examples/station.sheet"), re.M).groups()
     *front, last = usual_order()
     names = {word: WORDS_OF_NUMBERS[number] for word, number in commands().items()}

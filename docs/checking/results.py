@@ -1,4 +1,4 @@
-"""The tables of docs/measured.md and its plots, from the CSV files that the scripts of bench/ write."""
+"""The tables of docs/work/measured.md and its plots, from the CSV files that the scripts of bench/ write."""
 import csv
 import re
 from functools import partial
@@ -110,10 +110,10 @@ def unwritten():
 
 
 def unknown_headings():
-    """Words of docs/measured.md that are set as a table's heading and that no table has."""
+    """Words of docs/work/measured.md that are set as a table's heading and that no table has."""
     heads = {word.lower() for path in RESULTS.glob("*.csv") for word in rows_of(path.stem)[0]}
-    text = re.sub(r"<!-- made: .*?<!-- end -->|\*\*[^*]*\*\*", "", read(TOP / "docs" / "measured.md"), flags=re.S)
-    return [f"docs/measured.md: no table has a heading {word}" for word in re.findall(r"(?<!\*)\*([^*\n]+)\*(?!\*)", text)
+    text = re.sub(r"<!-- made: .*?<!-- end -->|\*\*[^*]*\*\*", "", read(TOP / "docs" / "work" / "measured.md"), flags=re.S)
+    return [f"docs/work/measured.md: no table has a heading {word}" for word in re.findall(r"(?<!\*)\*([^*\n]+)\*(?!\*)", text)
             if word.lower() not in heads]
 
 

@@ -8,7 +8,7 @@ import re
 from checking.crates import TOP, read
 from checking.numbers import constants, told_number
 
-DEFINITIONS, FORMATS, LAWS, README = "docs/definitions.md", "docs/formats.md", "docs/laws.md", "README.md"
+DEFINITIONS, FORMATS, LAWS, README = "docs/trust/definitions.md", "docs/formats", "docs/trust/laws.md", "README.md"
 
 # (crate, constant, how many more the page says, page, pattern), each number of a page being where `#` stands in the pattern
 NUMBERS = [
@@ -23,11 +23,11 @@ NUMBERS = [
     ("plan_core", "MAX_BUDGET", 0, README, r"says, up to #\."),
     ("plan_core", "MAX_WIDTH", 0, README, r"on \d+ of them, # by \d+,"),
     ("plan_core", "MAX_HEIGHT", 0, README, r"on \d+ of them, \d+ by #,"),
-    ("plan_core", "MAX_WIDTH", 0, "docs/guide.md", r"lawful on # by \d+ either"),
-    ("plan_core", "MAX_HEIGHT", 0, "docs/guide.md", r"lawful on \d+ by # either"),
-    ("plan_words", "DEFAULT_BUDGET", 0, "docs/guide.md", r"may learn # clauses"),
-    ("plan_core", "MAX_BUDGET", 0, "docs/guide.md", r"`--conflicts #`, for fewer"),
-    ("cdcl_core", "RESTART", 0, "docs/DECISIONS.md", r"restart every # conflicts stays"),
+    ("plan_core", "MAX_WIDTH", 0, "docs/use/guide.md", r"lawful on # by \d+ either"),
+    ("plan_core", "MAX_HEIGHT", 0, "docs/use/guide.md", r"lawful on \d+ by # either"),
+    ("plan_words", "DEFAULT_BUDGET", 0, "docs/use/guide.md", r"may learn # clauses"),
+    ("plan_core", "MAX_BUDGET", 0, "docs/use/guide.md", r"`--conflicts #`, for fewer"),
+    ("cdcl_core", "RESTART", 0, "docs/work/decisions.md", r"restart every # conflicts stays"),
     ("plan_words", "MAX_SEED", 0, FORMATS, r"that of `make` and of `trial` 0 to #"),
     ("plan_core", "MAX_FILE_BYTES", 0, FORMATS, r"A file of up to # bytes"),
     ("plan_core", "MAX_LOG_BYTES", 0, FORMATS, r"the log with up to # bytes"),
@@ -50,8 +50,8 @@ NUMBERS = [
     ("plan_objects", "MAX_SIGNALS", 0, FORMATS, r"more than # signals"),
     ("plan_objects", "MAX_SIGNALS", 1, FORMATS, r"it is the #th\."),
     ("plan_objects", "SIGNALS_OF_AN_EDGE", 1, FORMATS, r"it is the #th signal"),
-    ("plan_core", "MAX_FILE_BYTES", 1, "docs/trusted.md", r"one byte: # bytes for `draw`"),
-    ("plan_core", "MAX_LOG_BYTES", 1, "docs/trusted.md", r"`verify`, # of a log"),
+    ("plan_core", "MAX_FILE_BYTES", 1, "docs/trust/trusted.md", r"one byte: # bytes for `draw`"),
+    ("plan_core", "MAX_LOG_BYTES", 1, "docs/trust/trusted.md", r"`verify`, # of a log"),
     ("plan_core", "MAX_EDGES", 0, "crates/README.md", r"one more \(#, \d+\) in"),
     ("plan_core", "MAX_EDGES", 1, "crates/README.md", r"one more \(\d+, #\) in"),
 ]
@@ -156,7 +156,7 @@ SAYINGS = [
     ("station_make/specs/Station.antt", "returning i = 1000 * i + 800", [(FORMATS, "B is 1000 I + 800")]),
     ("station_make/specs/Station.antt", "main_length n = 1000 * loops n", [(FORMATS, "L is 1000 K")]),
     ("run_draw_front/src/trialling.rt", "const TRIAL_GRID: (u16, u16) = (64, 2);",
-     [(FORMATS, "on a grid of 64 by 2"), ("docs/trusted.md", "on a grid of 64 by 2")]),
+     [(FORMATS, "on a grid of 64 by 2"), ("docs/trust/trusted.md", "on a grid of 64 by 2")]),
     ("run_draw_front/src/trialling.rt", "Order::new(&[Criterion::Height, Criterion::Width])", [(FORMATS, "in the order `height,width`")]),
     ("plan_core/src/limits.rt", "MAX_FILE_BYTES: usize = 4_194_304;", [(README, "4 MiB")]),
     # around the program
@@ -169,7 +169,7 @@ SAYINGS = [
     ("shell/terminal/built.js", 'FIRST_BUILD = "most of an hour on four processors"; export const UNPROVED_BUILD = "two to three minutes";',
      [(README, "`railplan prove` takes most of an hour on four processors"), (README, "builds the program without proofs, in two to three minutes")]),
     ("shell/terminal/install.js", 'line.words[1] ?? "~/.local"', [(README, "`./railplan install ~/.local` copies what it needs into `~/.local`")]),
-    ("shell/both/page/columns.js", 'PAPERS = new Map([["A4", [297, 210]], ["A3", [420, 297]], ["A2", [594, 420]], ["A1", [841, 594]]]);', [("docs/guide.md", "A4 to A1 go as well")]),
+    ("shell/both/page/columns.js", 'PAPERS = new Map([["A4", [297, 210]], ["A3", [420, 297]], ["A2", [594, 420]], ["A1", [841, 594]]]);', [("docs/use/guide.md", "A4 to A1 go as well")]),
     (".ci/run", "{ rt ci echo $? >out/gate.status times >&2 } | tee out/gate.log", [(README, "`.ci/run` is the gate. It runs `rt ci` (proofs, tests, edits that must fail)")]),
     (".ci/run", "rm -f out/railplan.wasm out/desk.html cases/as_wasm >&2 || status=1 shell/check >&2 || status=1 "
      "cases/run $program >&2 || status=1 cases/real/run $program >&2 || status=1 [ ! -e out/desk.html ] || bench/desk.py --short out/desk.html >&2 "

@@ -8,7 +8,7 @@ WORDS_NOT_USED = ("due", "told", "stands", "is put", "was put", "are put", "were
 MADE = TOP / "docs" / "made"
 MOST_BYTES = 147_800
 # pages with bounds of their own: words a sentence, lines, bytes
-OWN_BOUNDS = {TOP / "README.md": (15, 120, None), TOP / "docs/definitions.md": (None, None, 12_288), TOP / "crates/README.md": (None, None, 20_480),
+OWN_BOUNDS = {TOP / "README.md": (15, 120, None), TOP / "docs/trust/definitions.md": (None, None, 12_288), TOP / "crates/README.md": (None, None, 20_480),
               TOP / "THEOREM.md": (None, None, 30_000)}
 
 

@@ -1,6 +1,6 @@
 /**
  * A run's answer as one object of plain fields, for other programs: `--json` prints it, and index.js gives it. Each field is listed in
- * answer_fields.js, which docs/json.md shows. The program's own text is in it to the byte; what is said of it is no part of what is
+ * answer_fields.js, which docs/formats/json.md shows. The program's own text is in it to the byte; what is said of it is no part of what is
  * proved.
  */
 import { ENDINGS } from "./manual.js";

@@ -1,5 +1,5 @@
 /**
- * The fields of an answer (answer.js), each with its type and what it is, once: for docs/json.md, which is made of it, and for the test
+ * The fields of an answer (answer.js), each with its type and what it is, once: for docs/formats/json.md, which is made of it, and for the test
  * that holds answers to it. Behind `export default` it is one JSON text. `[]` is each member of a list.
  */
 export default [

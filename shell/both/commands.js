@@ -238,7 +238,7 @@ export default {
         },
         {
             "word": "--json",
-            "what": "prints the answer as one JSON object: its fields, or the fault with its place and what to do (docs/json.md)",
+            "what": "prints the answer as one JSON object: its fields, or the fault with its place and what to do (docs/formats/json.md)",
             "takes": "nothing"
         }
     ],

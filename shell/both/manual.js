@@ -134,7 +134,7 @@ export function overview(called, times) {
     lines.push(...rowsOf(optionRows(PAGE_WORDS.values())));
     lines.push("", "Before the command", ...rowsOf(optionRows(FRONT_WORDS.values())), "", "A run ends with", ...rowsOf(ENDINGS, 7));
     lines.push("", "Of the environment", ...rowsOf(SETTINGS));
-    lines.push("", "README.md says more, and docs/formats.md has every text and every fault.");
+    lines.push("", "README.md says more, and docs/formats has every text and every fault.");
     return `${lines.join("\n")}\n`;
 }
 
@@ -192,6 +192,6 @@ export function manPage(version) {
     lines.push(".SH PAGES", ...manRows(optionRows(PAGE_WORDS.values())));
     lines.push(".SH BEFORE THE COMMAND", ...manRows(optionRows(FRONT_WORDS.values())));
     lines.push(".SH EXAMPLES", ".nf", ...commands.flatMap((it) => it.examples.map((line) => escaped(`railplan ${line}`))));
-    lines.push(".fi", ".SH EXIT STATUS", ...manRows(ENDINGS), ".SH ENVIRONMENT", ...manRows(SETTINGS), ".SH SEE ALSO", "README.md and docs/formats.md of the clone.");
+    lines.push(".fi", ".SH EXIT STATUS", ...manRows(ENDINGS), ".SH ENVIRONMENT", ...manRows(SETTINGS), ".SH SEE ALSO", "README.md and docs/formats of the clone.");
     return `${lines.join("\n")}\n`;
 }

@@ -1,4 +1,4 @@
-/** What a sheet's own points measure, by the definitions of docs/definitions.md: the values that its line `values` is to have. */
+/** What a sheet's own points measure, by the definitions of docs/trust/definitions.md: the values that its line `values` is to have. */
 import { NoPage, VALUES, readSheet } from "./page/texts.js";
 
 /** @typedef {import("./page/texts.js").Drawing} Drawing */

@@ -41,7 +41,7 @@ proofs   ${proofs}
 tools    ${tools}
 
 The gate of this commit passed: the kit checked every proof, and the program was built from what it proved.
-THEOREM.md says what each answer means, and docs/trusted.md what isn't proved. The line \`proofs\` is the
+THEOREM.md says what each answer means, and docs/trust/trusted.md what isn't proved. The line \`proofs\` is the
 last one that the kit's command \`rt ci\` printed. All sums are SHA-256. \`native\` is the program for Linux
 on 64-bit Intel and AMD processors, \`wasm\` the same program as WebAssembly, for Node on any other
 system; it was tried on Linux alone.

@@ -124,7 +124,7 @@ test("words of the launcher are refused, and a run is stopped", { skip: !hasProg
 });
 
 test("the example of the page", { skip: !hasProgram }, () => {
-    const page = readFileSync(`${TOP}docs/module.md`, "utf8"), example = /```js\n(.*?)```/s.exec(page)?.[1] ?? "";
+    const page = readFileSync(`${TOP}docs/formats/module.md`, "utf8"), example = /```js\n(.*?)```/s.exec(page)?.[1] ?? "";
     const ran = spawnSync("node", ["--input-type=module", "-"], { cwd: TOP, input: example, encoding: "utf8" });
     assert.match(ran.stdout, /^(proved|unproved|unknown) best 7 \d+\n$/, ran.stderr);
 });

@@ -129,7 +129,7 @@ test("no word has two meanings", () => {
 });
 
 test("the table of options is that of the documents", () => {
-    const text = readFileSync(`${TOP}/docs/formats.md`, "utf-8");
+    const text = readFileSync(`${TOP}/docs/formats/words.md`, "utf-8");
     const rows = [...text.matchAll(/^\| `(--\w+)` \| [^|]+ \| ([^|]+) \| ([^|]+) \|$/gm)];
     assert.deepEqual(rows.map((it) => it[1]), [...words.OPTIONS.keys()]);
     for (const [, word, value, usual] of rows) {

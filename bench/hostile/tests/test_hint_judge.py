@@ -1,4 +1,4 @@
-"""The judge of hints, by the sentences of docs/formats.md."""
+"""The judge of hints, by the sentences of docs/formats/hints.md."""
 import unittest
 
 import hint_judge

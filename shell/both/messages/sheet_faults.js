@@ -78,7 +78,7 @@ function form(seen, at, usage) {
         return at.line === 1 ? "the sheet is empty. draw prints one"
             : "the sheet ends too early, or this line is empty. Was it copied to its end?";
     }
-    return savedOtherwise(seen, at) || "this line hasn't the form that a sheet has here. docs/formats.md shows each line; draw writes them";
+    return savedOtherwise(seen, at) || "this line hasn't the form that a sheet has here. docs/formats/sheet.md shows each line; draw writes them";
 }
 
 /** @param {Seen} seen @param {Place} at @returns {string} */
@@ -116,7 +116,7 @@ export const SHEET = new Map([
     ["Graph", () => "this line isn't the station's: a count, a number, a name, a mileage or an end differs from the file. Is "
         + "the sheet of another file, or was the file changed since? draw makes a new one"],
     ["Shape", () => "these points are no line: a line goes from west to east, level or rising or falling by one row a column, "
-        + "in at most three parts. docs/laws.md shows the eleven shapes"],
+        + "in at most three parts. docs/trust/laws.md shows the eleven shapes"],
     ["Values", values],
 ]);
 
