@@ -18,8 +18,7 @@ DRAW, CHECK, VERIFY, ASKS = (*ROWS, "DrawIsSo"), (*ROWS, "CheckIsSo"), (*ROWS, "
 
 # what draw's answer, and with it its log, rest on first, and the laws with what a best drawing is
 ANSWER = [("run_draw_front", "Drawn", name) for name in ("IsDrawAnswer", "IsDrawn", "HasSearched")] + [
-    ("search_least", "Outcome", name) for name in ("IsOutcome", "IsSearched", "IsBestEnd", "IsNoneEnd", "IsUnfinishedEnd")] + [
-    ("refute_log", "Cause", "IsCause")] + [
+    ("search_least", "Outcome", name) for name in ("IsOutcome", "IsSearched", "IsBestEnd", "IsNoneEnd", "IsStoppedEnd", "IsUnfinishedEnd")] + [
     ("refute_log", "Certified", name) for name in ("IsOutOfReach", "RefutesLess", "IsCertifiedLeast", "Certifies", "CertifiesNone")]
 LAWS = [("plan_core", "Values", name) for name in ("IsBest", "Better")] + [
     ("plan_core", "Lawful", name) for name in ("Lawful", "Meets")] + [
