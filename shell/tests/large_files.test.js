@@ -12,13 +12,15 @@ import { MOST_OF_LINE } from "../both/file_kinds.js";
 import { elsewhere, wholeOf } from "../both/line/judged.js";
 import { mendedLine } from "../both/line/mended.js";
 import { cutLine } from "../both/line/stations.js";
+import { knownOf } from "../both/messages/topology_faults.js";
 import { judge } from "../both/mending/judge.js";
 import { mended } from "../both/prepare.js";
-import { read } from "../both/railml.js";
+import * as railml from "../both/railml.js";
 import { Walked } from "../both/surroundings.js";
 
 /** @typedef {import("../../cases/real/ground.js").Ground} Ground */
 
+const { read } = railml;
 const TOP = new URL("../../", import.meta.url).href, encoder = new TextEncoder(), decoder = new TextDecoder();
 
 /** @param {number} stations @returns {Ground} a line of two tracks, with many objects at each */
@@ -76,8 +78,9 @@ function cutWhole(data) {
  */
 function steps(body) {
     let count = 0;
-    const list = /** @type {Record<string, Function>} */ (/** @type {unknown} */ (Array.prototype)), { get } = Map.prototype;
-    const names = ["indexOf", "filter", "find", "findIndex", "some", "every", "map", "flatMap", "includes"], kept = names.map((name) => list[name]);
+    const list = /** @type {Record<string | symbol, Function>} */ (/** @type {unknown} */ (Array.prototype)), { get } = Map.prototype;
+    const names = ["indexOf", "filter", "find", "findIndex", "some", "every", "map", "flatMap", "includes", Symbol.iterator];
+    const kept = names.map((name) => list[name]);
     Map.prototype.get = function counted(/** @type {unknown} */ key) {
         count++;
         return get.call(this, key);
@@ -101,6 +104,61 @@ test("what is done of a line grows with the line, and not with its square", () =
         const times = large.count / small.count / (large.size / small.size);
         assert.ok(times < 1.03, `${name}: of a file ${(large.size / small.size).toFixed(1)} times as long `
             + `${(large.count / small.count).toFixed(1)} times as much is done`);
+    }
+});
+
+/** @param {number} count @returns {Uint8Array} tracks one behind the other, the longest of them last, the first counted otherwise */
+function chain(count) {
+    const joined = (/** @type {string} */ id, /** @type {string} */ ref, /** @type {boolean} */ isJoined) =>
+        (isJoined ? `<connection id="${id}" ref="${ref}"/>` : `<openEnd id="${id}"/>`);
+    const track = (/** @type {number} */ at) => {
+        const length = at === count - 1 ? 20 : 10, from = at ? 10 * at : 5000, place = `pos="0" absPos="${from}"`;
+        return `<track id="t${at}"><trackTopology><trackBegin id="b${at}" ${place}>${joined(`cb${at}`, `ce${at - 1}`, at > 0)}</trackBegin>`
+            + `<trackEnd id="e${at}" pos="${length}" absPos="${from + length}">${joined(`ce${at}`, `cb${at + 1}`, at < count - 1)}`
+            + "</trackEnd></trackTopology></track>";
+    };
+    return encoder.encode(`<railml version="2.2"><infrastructure><tracks>${Array.from({ length: count }, (_, at) => track(at)).join("")}`
+        + "</tracks></infrastructure></railml>");
+}
+
+/** @param {number} count @returns {Uint8Array} a track with many switches and signals, counted otherwise than what is joined to it */
+function comb(count) {
+    const of = (/** @type {(at: number) => string} */ each) => Array.from({ length: count }, (_, at) => each(at)).join("");
+    const points = of((at) => `<switch id="w${at}" pos="${10 * at + 5}" absPos="${9000 + 10 * at}"><connection id="cw${at}" ref="cb${at}" `
+        + 'orientation="outgoing" course="left"/></switch>');
+    const signals = of((at) => `<signal id="s${at}" pos="${10 * at + 7}" absPos="${9002 + 10 * at}" dir="up"/>`);
+    const branches = of((at) => `<track id="t${at}"><trackTopology><trackBegin id="b${at}" pos="0" absPos="${10 * at + 5}"><connection id="cb${at}" `
+        + `ref="cw${at}"/></trackBegin><trackEnd id="e${at}" pos="4" absPos="${10 * at + 9}"><openEnd id="o${at}"/></trackEnd></trackTopology></track>`);
+    return encoder.encode('<railml version="2.2"><infrastructure><tracks><track id="m"><trackTopology><trackBegin id="mb" pos="0" absPos="8995">'
+        + `<openEnd id="mo"/></trackBegin><trackEnd id="me" pos="${10 * count}" absPos="${8995 + 10 * count}"><openEnd id="mp"/></trackEnd>`
+        + `<connections>${points}</connections></trackTopology><ocsElements><signals>${signals}</signals></ocsElements></track>${branches}`
+        + "</tracks></infrastructure></railml>");
+}
+
+/** @param {number} count @returns {Uint8Array} ends that all refer to one that isn't there */
+function lost(count) {
+    return encoder.encode(decoder.decode(chain(count)).replaceAll(/ref="[^"]*"/g, 'ref="out"'));
+}
+
+/** @param {Uint8Array} data counts its tracks as one */
+function counted(data) {
+    const { changes } = mended("l", data, "railplan", { isOneKm: true });
+    assert.match(changes[0], /^l:1:\d+: track (t0|m) is counted with track t\d+: from 0 to /);
+}
+
+/** @type {[string, (count: number) => Uint8Array, (data: Uint8Array) => void][]} */
+const GROWING = [
+    ["a chain of tracks is counted as one", chain, counted],
+    ["a track is counted with its many branches", comb, counted],
+    ["ends lead nowhere, and what is meant is looked for", lost, (data) => assert.equal(knownOf(read(data)).backs.get("out")?.length,
+        railml.connections(read(data)).length)],
+];
+
+test("what is joined is counted as one, and what a ref may mean is found, in steps that grow with the file and not with its square", () => {
+    for (const [name, file, body] of GROWING) {
+        const [small, large] = [200, 800].map(file).map((data) => ({ size: data.length, count: steps(() => body(data)) }));
+        assert.ok(large.count / small.count < 1.1 * large.size / small.size, `${name}: of a file ${(large.size / small.size).toFixed(1)} times as `
+            + `long ${(large.count / small.count).toFixed(1)} times as much is done`);
     }
 });
 

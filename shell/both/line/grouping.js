@@ -3,7 +3,7 @@
  * tracks.
  */
 import { isPoint, micrometres, mileageOf, positionOf } from "./network.js";
-import { listUnder, stretch } from "../searching.js";
+import { Least, listUnder, stretch } from "../searching.js";
 
 /** @typedef {import("../railml.js").Element} Element */
 /** @typedef {import("./network.js").Network} Network */
@@ -143,48 +143,6 @@ export function parted(network, points, near = NEAR) {
     return [...parted(network, sorted.slice(0, half), METRE), ...parted(network, sorted.slice(half), METRE)];
 }
 
-/** A queue of nodes by their distance, the nearest first. */
-class Nearest {
-    constructor() {
-        /** @type {{far: number, node: Element, ref: string}[]} a heap */
-        this.heap = [];
-    }
-
-    /**
-     * @param {number} far
-     * @param {Element} node
-     * @param {string} ref
-     */
-    add(far, node, ref) {
-        const { heap } = this;
-        let at = heap.push({ far, node, ref }) - 1;
-        while (at > 0 && heap[(at - 1) >> 1].far > heap[at].far) {
-            const up = (at - 1) >> 1;
-            [heap[up], heap[at]] = [heap[at], heap[up]];
-            at = up;
-        }
-    }
-
-    take() {
-        const { heap } = this, first = heap[0], last = heap.pop();
-        if (!last || !first || heap.length === 0) {
-            return first;
-        }
-        heap[0] = last;
-        for (let at = 0; ;) {
-            let least = at;
-            for (const below of [2 * at + 1, 2 * at + 2]) {
-                least = below < heap.length && heap[below].far < heap[least].far ? below : least;
-            }
-            if (least === at) {
-                return first;
-            }
-            [heap[least], heap[at]] = [heap[at], heap[least]];
-            at = least;
-        }
-    }
-}
-
 /**
  * The operational points of a file: their names and codes, the switches that name one, and places on tracks that name one.
  * @param {Network} network
@@ -222,28 +180,29 @@ export function operationalPoints(network) {
  * @param {ReturnType<typeof operationalPoints>} known
  */
 function nearestPoints(network, { own, named }) {
-    const queue = new Nearest();
-    own.forEach((ref, node) => queue.add(0, node, ref));
+    const queue = /** @type {Least<{node: Element, ref: string}>} */ (new Least());
+    own.forEach((ref, node) => queue.add(0, { node, ref }));
     for (const [track, spots] of named) {
         spots.sort((one, other) => one.at - other.at);
         for (const { one, other } of network.tracks.get(track)?.pieces ?? []) {
             const [begin, end] = [positionOf(one), positionOf(other)];
             for (const { at, ref } of stretch(spots, (it) => it.at, begin, end)) {
-                queue.add(at - begin, network.nodeOf(one), ref);
-                queue.add(end - at, network.nodeOf(other), ref);
+                queue.add(at - begin, { node: network.nodeOf(one), ref });
+                queue.add(end - at, { node: network.nodeOf(other), ref });
             }
         }
     }
     /** @type {Map<Element, string>} */
     const found = new Map();
     for (let next = queue.take(); next; next = queue.take()) {
-        if (found.has(next.node) || next.far > FAR) {
+        const { by: far, it: { node: here, ref } } = next;
+        if (found.has(here) || far > FAR) {
             continue;
         }
-        found.set(next.node, next.ref);
-        for (const { node, length } of network.beyond(next.node)) {
+        found.set(here, ref);
+        for (const { node, length } of network.beyond(here)) {
             if (!found.has(node)) {
-                queue.add(next.far + length, node, next.ref);
+                queue.add(far + length, { node, ref });
             }
         }
     }

@@ -5,6 +5,7 @@
 import { Decimal } from "../decimal.js";
 import { joinsOf, lengthOf, spotsOf } from "../one_mileage.js";
 import * as railml from "../railml.js";
+import { Least, firstAt } from "../searching.js";
 import { TrackGraph } from "../track_graph.js";
 import { asRead } from "./numbers.js";
 
@@ -12,6 +13,8 @@ import { asRead } from "./numbers.js";
 /** @typedef {import("../railml.js").Element} Element */
 /** @typedef {import("../edits.js").Edit} Edit */
 /** @typedef {1 | -1} Way whether mileages rise or fall from a track's begin to its end */
+/** @typedef {{it: Element, node: number, at: number, given: number | null, own: number | null}} Place an end, switch or crossing: the
+ * number of its node, its position, the mileage that is written there, and that with which it is read */
 
 /** two mileages of one place that are no further apart are no fault, in metres */
 const NEAR = 1;
@@ -21,11 +24,6 @@ const PART = 0.1;
 const STEP = 0.001;
 /** of so many tracks each is tried as the one from which the others are counted */
 const TRIED = 24;
-
-/** @param {Element} it @returns {number | null} the mileage that the file writes at a place */
-function given(it) {
-    return railml.metres(it.attributes.get("absPos"))?.toNumber() ?? null;
-}
 
 /** @param {Element} it @returns {number} */
 function positionOf(it) {
@@ -37,7 +35,7 @@ function written(metres) {
     return asRead(String(Decimal.of(metres.toFixed(3))));
 }
 
-/** Tracks that are joined, and which way each leads where one of them rises. */
+/** Tracks that are joined, and which way each leads where one of them rises. What the file says of each place is read once. */
 class Group {
     /** @param {TrackGraph} graph @param {Element} first */
     constructor(graph, first) {
@@ -50,7 +48,12 @@ class Group {
             this.follow(track);
         }
         this.tracks = [...this.ways.keys()];
-        this.spots = this.tracks.flatMap(spotsOf);
+        /** @type {Map<Element, number>} */
+        this.numbers = new Map();
+        /** @type {number[][]} which of the tracks have a place at each node */
+        this.tracksAt = [];
+        this.places = new Map(this.tracks.map((track, number) => [track, spotsOf(track).map((it) => this.placeOf(number, it))]));
+        this.spots = [...this.places.values()].flat();
     }
 
     /** @param {Element} track */
@@ -63,6 +66,20 @@ class Group {
             }
         }
     }
+
+    /** @param {number} track which one @param {Element} it @returns {Place} */
+    placeOf(track, it) {
+        const element = this.graph.node(it), node = this.numbers.get(element) ?? this.tracksAt.push([]) - 1;
+        this.numbers.set(element, node);
+        this.tracksAt[node].push(track);
+        return { it, node, at: positionOf(it), given: railml.metres(it.attributes.get("absPos"))?.toNumber() ?? null,
+            own: railml.mileage(it)?.toNumber() ?? null };
+    }
+
+    /** @param {Element} track @returns {Place[]} */
+    placesOf(track) {
+        return this.places.get(track) ?? [];
+    }
 }
 
 /** One way to count a group: from one of its tracks, with its mileage rising or falling. */
@@ -73,70 +90,78 @@ class Count {
         this.first = first;
         /** whether the ways of the group are turned */
         this.sign = way * (group.ways.get(first) ?? 1);
-        /** @type {Map<Element, number>} of each node */
-        this.mileages = new Map();
+        /** of each node; of what isn't counted no number */
+        this.mileages = new Float64Array(group.tracksAt.length).fill(NaN);
         this.isSound = true;
-        const start = spotsOf(first).find((it) => given(it) !== null);
+        const start = group.placesOf(first).find((it) => it.given !== null);
         if (start) {
-            this.mileages.set(group.graph.node(start), Number(given(start)));
+            this.mileages[start.node] = Number(start.given);
             this.countAll();
         }
-        this.isSound &&= start !== undefined && this.mileages.size > 0;
-        this.changed = group.spots.filter((it) => given(it) !== null && Math.abs(Number(given(it)) - this.at(it)) >= NEAR).length;
+        this.isSound &&= start !== undefined;
+        this.changed = group.spots.filter((it) => it.given !== null && Math.abs(it.given - this.at(it)) >= NEAR).length;
         /** how many places have another mileage than they are read with */
         this.otherwise = group.spots.filter((it) => differs(it, this)).length;
     }
 
-    /** @param {Element} it @returns {number} */
+    /** @param {Place} it @returns {number} */
     at(it) {
-        return this.mileages.get(this.group.graph.node(it)) ?? NaN;
+        return this.mileages[it.node];
     }
 
-    /** counts each track once something of it is known, that which was known longest first */
+    /** @param {Place} it @returns {boolean} */
+    isKnown(it) {
+        return !Number.isNaN(this.at(it));
+    }
+
+    /** counts each track once something of it is known, of those that are known the one that the group has first */
     countAll() {
-        const { graph } = this.group, left = new Set(this.group.tracks);
-        for (let track = /** @type {Element | undefined} */ (this.first); track; ) {
-            left.delete(track);
-            this.count(track);
-            track = [...left].find((it) => spotsOf(it).some((spot) => this.mileages.has(graph.node(spot))));
+        const { group } = this, known = new Set([this.first]), queue = /** @type {Least<Element>} */ (new Least());
+        queue.add(0, this.first);
+        for (let next = queue.take(); next; next = queue.take()) {
+            this.count(next.it);
+            for (const other of group.placesOf(next.it).flatMap((it) => group.tracksAt[it.node])) {
+                if (!known.has(group.tracks[other])) {
+                    known.add(group.tracks[other]);
+                    queue.add(other, group.tracks[other]);
+                }
+            }
         }
     }
 
     /** @param {Element} track */
     count(track) {
-        const { graph, ways } = this.group, way = (ways.get(track) ?? 1) * this.sign, spots = spotsOf(track);
-        const known = spots.filter((it) => this.mileages.has(graph.node(it)));
-        const isGood = this.fits(track, known[0], way);
-        const fixed = spots.flatMap((it) => {
-            const mileage = this.mileages.get(graph.node(it)) ?? (isGood ? given(it) : null);
-            return mileage === null ? [] : [{ at: positionOf(it), mileage }];
+        const way = (this.group.ways.get(track) ?? 1) * this.sign, places = this.group.placesOf(track);
+        const known = places.find((it) => this.isKnown(it)), isGood = known !== undefined && this.fits(places, known, way);
+        const fixed = places.flatMap((it) => {
+            const mileage = this.isKnown(it) ? this.at(it) : isGood ? it.given : null;
+            return mileage === null ? [] : [{ at: it.at, mileage }];
         });
-        for (const it of spots) {
-            const node = graph.node(it);
-            if (!this.mileages.has(node)) {
-                this.mileages.set(node, Math.round(between(fixed, positionOf(it), way) / STEP) * STEP);
+        for (const it of places) {
+            if (!this.isKnown(it)) {
+                this.mileages[it.node] = Math.round(between(fixed, it.at, way) / STEP) * STEP;
             }
         }
-        this.isSound &&= spots.every((it, at) => !at || way * (this.at(it) - this.at(spots[at - 1])) >= 0);
+        this.isSound &&= places.every((it, number) => !number || way * (this.at(it) - this.at(places[number - 1])) >= 0);
     }
 
-    /** @param {Element} track @param {Element} from a place of it that is known @param {number} way @returns {boolean} whether
-     * the mileages that the
-     * file gives are those of its lengths */
-    fits(track, from, way) {
-        const base = this.at(from), places = spotsOf(track).filter((it) => given(it) !== null);
-        const areFit = places.every((it) => {
-            const length = positionOf(it) - positionOf(from), gap = Number(given(it)) - (base + way * length);
+    /** @param {Place[]} places those of a track @param {Place} from the first that is known @param {number} way @returns {boolean}
+     * whether the mileages that the file gives are those of its lengths */
+    fits(places, from, way) {
+        const base = this.at(from), given = places.filter((it) => it.given !== null);
+        const areFit = given.every((it) => {
+            const length = it.at - from.at, gap = Number(it.given) - (base + way * length);
             return Math.abs(gap) <= Math.max(NEAR, Math.abs(length) * PART);
         });
-        return areFit && places.every((it, at) => !at || way * (Number(given(it)) - Number(given(places[at - 1]))) >= 0);
+        return areFit && given.every((it, number) => !number || way * (Number(it.given) - Number(given[number - 1].given)) >= 0);
     }
 }
 
 /** @param {{at: number, mileage: number}[]} fixed places of a track with their mileages, by position @param {number} at @param {number} way
  * @returns {number} the mileage of a place: between two of them by its part of their distance, else by its length */
 function between(fixed, at, way) {
-    const before = [...fixed].reverse().find((it) => it.at <= at), after = fixed.find((it) => it.at >= at);
+    const before = fixed[firstAt(fixed.length, (number) => fixed[number].at > at) - 1];
+    const after = fixed[firstAt(fixed.length, (number) => fixed[number].at >= at)];
     if (before && after) {
         const length = after.at - before.at;
         return length ? before.mileage + (after.mileage - before.mileage) * (at - before.at) / length : before.mileage;
@@ -155,17 +180,16 @@ function countsOf(group) {
 
 /** @param {Prepared} it @param {Element} track @param {Count} count @returns {Edit[]} its mileages, with those of its signals */
 function recounted(it, track, count) {
-    const spots = spotsOf(track), fixed = spots.map((spot) => ({ at: positionOf(spot), mileage: count.at(spot) }));
+    const places = count.group.placesOf(track), fixed = places.map((place) => ({ at: place.at, mileage: count.at(place) }));
     const way = (count.group.ways.get(track) ?? 1) * count.sign;
     const placed = railml.signals(track).filter((signal) => signal.attributes.has("pos"));
-    return [...spots.map((spot) => it.edits.setting(spot, "absPos", written(count.at(spot)))),
+    return [...places.map((place) => it.edits.setting(place.it, "absPos", written(count.at(place)))),
         ...placed.map((signal) => it.edits.setting(signal, "absPos", written(between(fixed, positionOf(signal), way))))];
 }
 
-/** @param {Element} spot @param {Count} count @returns {boolean} whether a place has another mileage than it is read with */
-function differs(spot, count) {
-    const own = railml.mileage(spot)?.toNumber();
-    return own === undefined || Math.abs(own - count.at(spot)) >= NEAR;
+/** @param {Place} place @param {Count} count @returns {boolean} whether a place has another mileage than it is read with */
+function differs(place, count) {
+    return place.own === null || Math.abs(place.own - count.at(place)) >= NEAR;
 }
 
 /** @param {Prepared} it @param {Group} group @returns {Edit[]} */
@@ -184,19 +208,17 @@ function counting(it, group) {
         return [];
     }
     const turned = others.find((count) => count.sign !== best.sign && count.changed === best.changed && count.otherwise === best.otherwise);
-    const tracks = group.tracks.filter((track) => spotsOf(track).some((spot) => differs(spot, best)));
+    const tracks = group.tracks.filter((track) => group.placesOf(track).some((place) => differs(place, best)));
     if (tracks.length && turned) {
         it.guess(first, `the mileages of track ${first.id} and of what is joined to it may rise or fall from its begin: nothing in `
             + "the file says which. Write the absPos of both its ends");
         return [];
     }
     for (const track of tracks) {
-        const [from, to] = [0, -1].map((at) => /** @type {Element} */ (spotsOf(track).at(at))),
-            was = [from, to].map((spot) => railml.mileage(spot) ?? "nothing");
-        it.changed(
-            track, `track ${track.id} is counted with track ${best.first.id}: from ${written(
-            best.at(from))} to ${written(best.at(to))}, not from `
-            + `${was[0]} to ${was[1]}`);
+        const ends = [0, -1].map((at) => /** @type {Place} */ (group.placesOf(track).at(at)));
+        const [from, to] = ends.map((end) => written(best.at(end))), was = ends.map((end) => railml.mileage(end.it) ?? "nothing");
+        it.changed(track, `track ${track.id} is counted with track ${best.first.id}: from ${from} to ${to}, not from ${was[0]} to `
+            + `${was[1]}`);
         it.isRebuilt = it.isRecounted = true;
     }
     return tracks.flatMap((track) => recounted(it, track, best));

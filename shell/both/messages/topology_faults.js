@@ -6,6 +6,7 @@ import { near } from "../near.js";
 import { ofByte } from "../places.js";
 import { quoted } from "../quoted.js";
 import * as railml from "../railml.js";
+import { listUnder } from "../searching.js";
 
 /** @typedef {import("../railml.js").Element} Element */
 /** @typedef {import("../railml.js").Document} Document */
@@ -205,7 +206,7 @@ export function knownOf(document) {
     const known = railml.byId(document), refOf = (/** @type {string} */ id) => known.get(id)?.attributes.get("ref") ?? "";
     /** @type {Map<string, string[]>} */
     const backs = new Map();
-    known.forEach((_, id) => backs.set(refOf(id), [...backs.get(refOf(id)) ?? [], id]));
+    known.forEach((_, id) => listUnder(backs, refOf(id), id));
     return { connections: [...known.keys()].filter((id) => refOf(refOf(id)) !== id), backs,
         owners: new Map(owners.map((it) => [it.id, it])) };
 }
