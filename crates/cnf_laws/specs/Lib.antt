@@ -1,4 +1,4 @@
-pub mod Guards
+pub mod Orders
 pub mod Stands
 pub mod Rank
 pub mod LawClauses
