@@ -1,7 +1,7 @@
 /** What stops a run: an interrupt, an end, a lost terminal and a quit, so that it leaves no files and no programs. */
 import { constants } from "node:os";
 
-const STOPPING = ["SIGINT", "SIGTERM", "SIGHUP", "SIGQUIT"];
+export const STOPPING = ["SIGINT", "SIGTERM", "SIGHUP", "SIGQUIT"];
 // those that a run was started to ignore stay ignored: under nohup a lost terminal stops nothing, behind a shell's & a quit
 const HEARD_UNLESS_IGNORED = ["SIGHUP", "SIGQUIT"];
 

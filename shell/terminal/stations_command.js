@@ -4,16 +4,16 @@
 import { mkdirSync, readdirSync } from "node:fs";
 import { join } from "node:path";
 import { LISTING, listingText } from "../both/line/listing.js";
-import { judgedFile, wholeOf } from "../both/line/judged.js";
+import { whyOther, wholeOf } from "../both/line/judged.js";
 import { mendedLine } from "../both/line/mended.js";
 import { micrometres } from "../both/line/network.js";
-import { cutLine } from "../both/line/stations.js";
+import { cutsOf } from "../both/line/stations.js";
 import { unread } from "../both/messages/telling.js";
 import { MOST_OF_LINE, lineTooLong } from "../both/file_kinds.js";
 import { quoted } from "../both/quoted.js";
 import { OWN } from "../both/words.js";
-import { processors } from "./building.js";
 import { front, writeWhole } from "./files.js";
+import { finderOf } from "./finding.js";
 import { ownOptions } from "./own_options.js";
 import { called, end, say, why } from "./say.js";
 import { SEEN } from "./seen_files.js";
@@ -82,12 +82,12 @@ function readLine(name) {
 /**
  * Refuses a folder that has one of the files already: what is there isn't written over.
  * @param {string} out
- * @param {StationFile[]} files
+ * @param {string[]} names of the files, without their endings
  */
-function refuseThere(out, files) {
+function refuseThere(out, names) {
     try {
         mkdirSync(out, { recursive: true });
-        const there = new Set(readdirSync(out)), found = [...files.map((it) => `${it.name}.xml`), LISTING].find((it) => there.has(it));
+        const there = new Set(readdirSync(out)), found = [...names.map((it) => `${it}.xml`), LISTING].find((it) => there.has(it));
         if (found) {
             end(2, `${join(out, found)} is there already. Name an empty folder`);
         }
@@ -102,50 +102,100 @@ function refuseThere(out, files) {
 /**
  * Writes the list of the stations in their order, by which the index of a folder has them.
  * @param {string} out
- * @param {StationFile[]} files those that are written
+ * @param {import("../both/line/listing.js").Listed[]} listed those that are written
  */
-function writeListing(out, files) {
+function writeListing(out, listed) {
     try {
-        writeWhole(join(out, LISTING), listingText(files.map((it) => it.listed)));
+        writeWhole(join(out, LISTING), listingText(listed));
     } catch (error) {
         end(6, `${join(out, LISTING)} couldn't be written: ${why(error)}`);
     }
 }
 
 /**
- * The stations of a file, and what each is held against. The elements of the file, which take most memory, are gone by then.
+ * The stations of a file, and what each is held against.
  * @param {string} source
  * @param {import("../both/line/grouping.js").Asked} part
- * @param {boolean} isList whether nothing is held against anything
  */
-function stationsIn(source, part, isList) {
+function stationsIn(source, part) {
     const document = readLine(source);
     if (document.trouble) {
         end(1, `${source}: line ${document.trouble.line}: ${document.trouble.what}`);
     }
-    return { ...cutLine(document, part), whole: isList ? null : wholeOf(document) };
+    return { document, cuts: cutsOf(document, part) };
 }
 
 /**
  * What comes of each thing, in their order, while it is worked on some of those behind it.
  * @template T
  * @template R
- * @param {T[]} things @param {number} count on how many it is worked at once @param {(it: T) => Promise<R>} work
+ * @param {Iterable<T>} things @param {number} count on how many it is worked at once @param {(it: T) => Promise<R>} work
  * @returns {AsyncGenerator<[T, R]>}
  */
 async function* ahead(things, count, work) {
     /** @type {[T, Promise<R>][]} */
     const begun = [];
-    for (let at = 0; at < things.length || begun.length;) {
-        while (at < things.length && begun.length < count) {
-            const made = work(things[at]);
-            // one that fails is waited for in its turn
-            made.catch(() => null);
-            begun.push([things[at++], made]);
+    for (const it of things) {
+        const made = work(it);
+        // one that fails is waited for in its turn
+        made.catch(() => null);
+        begun.push([it, made]);
+        if (begun.length === count) {
+            const [first, done] = /** @type {[T, Promise<R>]} */ (begun.shift());
+            yield [first, await done];
         }
-        const [it, made] = /** @type {[T, Promise<R>]} */ (begun.shift());
+    }
+    for (const [it, made] of begun) {
         yield [it, await made];
     }
+}
+
+/**
+ * Writes a station's file.
+ * @param {string} name
+ * @param {Uint8Array} bytes
+ * @param {StationFile} file
+ */
+function writeStation(name, bytes, file) {
+    try {
+        writeWhole(name, bytes);
+    } catch (error) {
+        end(6, `${name} couldn't be written: ${why(error)}`);
+    }
+    say(`${name}: ${file.title}, ${file.points.length} switches and crossings${file.notes.length ? `; ${file.notes.join("; ")}` : ""}`);
+}
+
+/**
+ * Writes each station's file that is as in the whole file, while the next ones are cut and looked into.
+ * @param {{engine: Engine, signal: AbortSignal}} context
+ * @param {ReturnType<typeof stationsIn>} line
+ * @param {string} out
+ * @returns {Promise<import("../both/line/listing.js").Listed[]>} those that are written
+ */
+async function writeStations({ engine, signal }, { document, cuts }, out) {
+    const whole = wholeOf(document), finder = finderOf(engine, cuts.names.length, signal), written = [];
+    const looked = (/** @type {StationFile} */ file) => {
+        const bytes = new TextEncoder().encode(file.text);
+        return finder.found(`${file.name}.xml`, bytes).then((found) => ({ bytes, found }));
+    };
+    try {
+        for await (const [file, { bytes, found }] of ahead(cuts.files(), 2 * finder.count, looked)) {
+            const name = join(out, `${file.name}.xml`);
+            if (found.wasStopped) {
+                end(130, "stopped");
+            }
+            const reason = whyOther(whole, file, bytes, found);
+            if (reason) {
+                say(`${name} isn't written (${file.title}, ${file.points.length} switches and crossings): ${reason}`);
+                continue;
+            }
+            writeStation(name, bytes, file);
+            written.push(file.listed);
+        }
+    } finally {
+        finder.close();
+    }
+    return written;
 }
 
 /**
@@ -154,41 +204,23 @@ async function* ahead(things, count, work) {
  * @param {import("../both/words.js").Line} line
  * @returns {Promise<number>}
  */
-export async function run({ engine, signal }, line) {
+export async function run(context, line) {
     const { names, options } = ownOptions(STATIONS, line.words.slice(1)), isList = options.has("--list"), part = partOf(options);
     if (names.length !== 2 && !(isList && names.length === 1)) {
         end(2, `${USE}: ${called()} stations IN OUT`);
     }
-    const [source, out] = names, { files, said, isWhole, whole } = stationsIn(source, part, isList);
-    if (!whole) {
+    const [source, out] = names, found = stationsIn(source, part), { cuts } = found, count = cuts.names.length;
+    if (isList) {
+        const files = [...cuts.files()];
         files.forEach((it) => say(`${it.name}: ${it.title}, ${it.points.length} switches and crossings`));
-        said.forEach((text) => say(text));
+        cuts.closing().forEach((text) => say(text));
         return 0;
     }
-    refuseThere(out, files);
-    const written = new Set();
-    let refused = 0;
-    for await (const [file, { bytes, reason, wasStopped }] of ahead(files, processors(), (it) => judgedFile(engine, whole, it, signal))) {
-        const name = join(out, `${file.name}.xml`);
-        if (wasStopped) {
-            end(130, "stopped");
-        }
-        if (reason) {
-            refused++;
-            say(`${name} isn't written (${file.title}, ${file.points.length} switches and crossings): ${reason}`);
-            continue;
-        }
-        try {
-            writeWhole(name, bytes);
-        } catch (error) {
-            end(6, `${name} couldn't be written: ${why(error)}`);
-        }
-        written.add(file.name);
-        say(`${name}: ${file.title}, ${file.points.length} switches and crossings${file.notes.length ? `; ${file.notes.join("; ")}` : ""}`);
-    }
-    writeListing(out, files.filter((it) => written.has(it.name)));
-    said.forEach((text) => say(text));
-    say(`${files.length - refused} of ${files.length} files are written. ${called()} folder ${quoted(out)} DRAWN draws them all`);
+    refuseThere(out, cuts.names);
+    const written = await writeStations(context, found, out);
+    writeListing(out, written);
+    cuts.closing().forEach((text) => say(text));
+    say(`${written.length} of ${count} files are written. ${called()} folder ${quoted(out)} DRAWN draws them all`);
     const isAsked = part.range !== null || part.tracks !== undefined;
-    return refused || !files.length || !isWhole && !isAsked ? 1 : 0;
+    return written.length < count || !count || !cuts.isWhole && !isAsked ? 1 : 0;
 }

@@ -112,16 +112,63 @@ export function differing(whole, file, graph) {
     });
 }
 
+/** @param {Uint8Array} bytes a station's file @returns {Map<string, string>} between which two each of its signals lies */
+function signalsIn(bytes) {
+    return new Walked(read(bytes)).signals();
+}
+
 /**
  * The first signal of a station's file that lies between other switches or crossings than in the whole file; nothing where all
  * lie as there.
  * @param {Map<string, string>} whole between which two each signal of the whole file lies
  * @param {StationFile} file
+ * @param {Map<string, string>} [here] the same of the station's file
  */
-export function elsewhere(whole, file) {
-    const here = new Walked(read(new TextEncoder().encode(file.text))).signals(), inside = new Set(file.points);
+export function elsewhere(whole, file, here = signalsIn(new TextEncoder().encode(file.text))) {
+    const inside = new Set(file.points);
     return [...here].find(([id, ends]) => (whole.get(id) ?? "").split(" and ")
         .some((name) => inside.has(name) && !ends.split(" and ").includes(name)))?.[0];
+}
+
+/** @typedef {{status: number, text: string, signals: Map<string, string>, wasStopped: boolean}} Found what the program says of a station's
+ * file, its track graph where it ends with 0; and between which two each signal lies */
+
+/** @param {Uint8Array} bytes @returns {boolean} whether a station's file is longer than the program reads */
+function isTooLong(bytes) {
+    return bytes.length > (MOST_BYTES.get("railml") ?? 0);
+}
+
+/**
+ * What is found in a station's file, by which it is held against the whole.
+ * @param {import("../engine.js").Engine} engine
+ * @param {string} name
+ * @param {Uint8Array} bytes
+ * @param {AbortSignal} [signal]
+ * @returns {Promise<Found>}
+ */
+export async function foundIn(engine, name, bytes, signal) {
+    if (isTooLong(bytes)) {
+        return { status: 1, text: "", signals: new Map(), wasStopped: false };
+    }
+    const { output, status, wasStopped } = await engine.run({ words: ["graph", name], files: new Map([[name, bytes]]), signal });
+    return { status, text: new TextDecoder().decode(output), signals: status || wasStopped ? new Map() : signalsIn(bytes), wasStopped };
+}
+
+/**
+ * Why it isn't known that each switch, crossing and signal of a station's file is there as in the whole file.
+ * @param {Whole} whole
+ * @param {StationFile} file
+ * @param {Uint8Array} bytes
+ * @param {Found} found
+ * @returns {string} "" where it is known
+ */
+export function whyOther(whole, file, bytes, { status, text, signals, wasStopped }) {
+    if (status !== 0 || wasStopped) {
+        return isTooLong(bytes) ? "it has more than 4 MiB" : `the program says of it: ${text.trim()}`;
+    }
+    const other = differing(whole.forks, file, readGraph(text)), lost = elsewhere(whole.signals, file, signals);
+    return other !== undefined ? `it can't be shown that ${other} has the same legs, sides and mileage there`
+        : lost !== undefined ? `signal ${lost} would be on another piece of track` : "";
 }
 
 /**
@@ -135,17 +182,6 @@ export function elsewhere(whole, file) {
  *     crossing is there as in the whole file; "" where it is known
  */
 export async function judgedFile(engine, whole, file, signal) {
-    const bytes = new TextEncoder().encode(file.text), name = `${file.name}.xml`;
-    if (bytes.length > (MOST_BYTES.get("railml") ?? 0)) {
-        return { bytes, reason: "it has more than 4 MiB", wasStopped: false };
-    }
-    const { output, status, wasStopped } = await engine.run({ words: ["graph", name], files: new Map([[name, bytes]]), signal });
-    const text = new TextDecoder().decode(output);
-    if (status !== 0) {
-        return { bytes, reason: `the program says of it: ${text.trim()}`, wasStopped };
-    }
-    const other = differing(whole.forks, file, readGraph(text)), lost = elsewhere(whole.signals, file);
-    const reason = other !== undefined ? `it can't be shown that ${other} has the same legs, sides and mileage there`
-        : lost !== undefined ? `signal ${lost} would be on another piece of track` : "";
-    return { bytes, reason, wasStopped };
+    const bytes = new TextEncoder().encode(file.text), found = await foundIn(engine, `${file.name}.xml`, bytes, signal);
+    return { bytes, reason: whyOther(whole, file, bytes, found), wasStopped: found.wasStopped };
 }

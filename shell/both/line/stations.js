@@ -30,24 +30,84 @@ function fileName(wanted, taken) {
     return name;
 }
 
-/**
- * The ids of signals that no file has.
- * @param {Network} network
- * @param {StationFile[]} files
- */
-function lostSignals(network, files) {
-    const there = new Set(files.flatMap((it) => [...it.text.matchAll(/<signal [^>]*?\bid="([^"]*)"/g)].map((found) => found[1])));
-    return network.document.tracks().flatMap(signals).map((it) => it.id).filter((id) => !there.has(escaped(id)));
+/** A line that is cut into its stations one after another, so that the file of one can be worked on while the next is cut. */
+class Cuts {
+    /**
+     * @param {Document} document
+     * @param {import("./grouping.js").Asked} asked
+     */
+    constructor(document, asked) {
+        this.network = new Network(document);
+        this.fault = this.network.fault();
+        const { stations, said } = this.fault ? { stations: [], said: [`nothing can be cut: ${this.fault}`] } : stationsOf(this.network, asked);
+        this.stations = stations;
+        /** what is to be said of all, but for what lacks in the files */
+        this.said = said;
+        this.stationOf = new Map(stations.flatMap((station) => station.points.map((it) => /** @type {const} */ ([it, station]))));
+        /** @type {Set<string>} */
+        const taken = new Set();
+        /** of each file, without an ending */
+        this.names = stations.map(({ name }) => fileName(name, taken));
+        /** @type {Set<Element>} the tracks of which a file has a piece */
+        this.tracks = new Set();
+        /** @type {Set<string>} the ids of signals that a file has, as they are written */
+        this.signals = new Set();
+        const points = this.fault ? [] : [...this.network.points(), ...this.network.left()];
+        /** how many switches and crossings there are, and the ids of those that no station has */
+        this.count = points.length;
+        this.left = points.filter((it) => !this.stationOf.has(it)).map((it) => it.id);
+        this.isWhole = !this.fault && this.left.length === 0;
+    }
+
+    /** @returns {Generator<StationFile>} the files in the order of their mileages */
+    *files() {
+        for (const [at, station] of this.stations.entries()) {
+            yield this.file(station, this.names[at]);
+        }
+    }
+
+    /**
+     * @param {import("./grouping.js").Station} station
+     * @param {string} name
+     * @returns {StationFile}
+     */
+    file(station, name) {
+        const cutting = new Cutting(this.network, station, this.stationOf), { title, points } = station, text = cutting.text();
+        const kilometres = points.map((it) => mileageOf(it)).filter((it) => it !== undefined).map((it) => Number(it) / 1e9);
+        const [from, to] = kilometres.length ? [Math.min(...kilometres), Math.max(...kilometres)] : [0, 0];
+        [...cutting.kept, ...cutting.cut.keys()].forEach((piece) => this.tracks.add(piece.track));
+        for (const [, id] of text.matchAll(/<signal [^>]*?\bid="([^"]*)"/g)) {
+            this.signals.add(id);
+        }
+        return { name, title, text, points: points.map((it) => it.id), origins: cutting.origins, notes: [...cutting.notes],
+            listed: { name, title, from, to, leads: [...cutting.leads] } };
+    }
+
+    /** @returns {string[]} what is to be said of all once each file is cut */
+    closing() {
+        const { network, stations, left } = this;
+        if (this.fault) {
+            return this.said;
+        }
+        const others = [...network.tracks.keys()].filter((it) => !this.tracks.has(it)).map((it) => it.attributes.get("name") || it.id);
+        const lost = network.document.tracks().flatMap(signals).map((it) => it.id).filter((id) => !this.signals.has(escaped(id)));
+        const rest = left.length ? `; in no file: ${listed(left)}` : "";
+        return [...this.said,
+            ...others.length ? [`${others.length} ${others.length === 1 ? "track is" : "tracks are"} in no file: ${listed(others)}`] : [],
+            ...lost.length ? [`${lost.length} ${lost.length === 1 ? "signal is" : "signals are"} in no file: ${listed(lost)}`] : [],
+            `${stations.length} ${stations.length === 1 ? "file" : "files"} with ${this.count - left.length} of ${this.count} switches and `
+                + `crossings${rest}`];
+    }
 }
 
 /**
- * The tracks that no file has a piece of.
- * @param {Network} network
- * @param {Cutting[]} cuttings
+ * A line that is to be cut into its stations.
+ * @param {Document} document
+ * @param {import("./grouping.js").Asked} asked
+ * @returns {Cuts}
  */
-function inNoFile(network, cuttings) {
-    const there = new Set(cuttings.flatMap((it) => [...it.kept, ...it.cut.keys()].map((piece) => piece.track)));
-    return [...network.tracks.keys()].filter((track) => !there.has(track)).map((track) => track.attributes.get("name") || track.id);
+export function cutsOf(document, asked) {
+    return new Cuts(document, asked);
 }
 
 /**
@@ -58,31 +118,6 @@ function inNoFile(network, cuttings) {
  *     and whether each switch and crossing of the file is in one
  */
 export function cutLine(document, asked) {
-    const network = new Network(document), fault = network.fault();
-    if (fault) {
-        return { files: [], said: [`nothing can be cut: ${fault}`], isWhole: false };
-    }
-    const { stations, said } = stationsOf(network, asked);
-    const stationOf = new Map(stations.flatMap((station) => station.points.map((it) => /** @type {const} */ ([it, station]))));
-    /** @type {Set<string>} */
-    const taken = new Set();
-    const cuttings = stations.map((station) => new Cutting(network, station, stationOf));
-    const files = cuttings.map((cutting) => {
-        const { name: wanted, title, points } = cutting.station, text = cutting.text(), name = fileName(wanted, taken);
-        const kilometres = points.map((it) => mileageOf(it)).filter((it) => it !== undefined).map((it) => Number(it) / 1e9);
-        const [from, to] = kilometres.length ? [Math.min(...kilometres), Math.max(...kilometres)] : [0, 0];
-        return { name, title, text, points: points.map((it) => it.id), origins: cutting.origins, notes: [...cutting.notes],
-            listed: { name, title, from, to, leads: [...cutting.leads] } };
-    });
-    const points = [...network.points(), ...network.left()], left = points.filter((it) => !stationOf.has(it)).map((it) => it.id);
-    const others = inNoFile(network, cuttings), lost = lostSignals(network, files);
-    if (others.length) {
-        said.push(`${others.length} ${others.length === 1 ? "track is" : "tracks are"} in no file: ${listed(others)}`);
-    }
-    if (lost.length) {
-        said.push(`${lost.length} ${lost.length === 1 ? "signal is" : "signals are"} in no file: ${listed(lost)}`);
-    }
-    const rest = left.length ? `; in no file: ${listed(left)}` : "";
-    said.push(`${files.length} ${files.length === 1 ? "file" : "files"} with ${points.length - left.length} of ${points.length} switches and crossings${rest}`);
-    return { files, said, isWhole: left.length === 0 };
+    const cuts = cutsOf(document, asked), files = [...cuts.files()];
+    return { files, said: cuts.closing(), isWhole: cuts.isWhole };
 }
