@@ -17,7 +17,7 @@ function file(number) {
 }
 
 /**
- * @param {string} script what stands in the place of the program
+ * @param {string} script what is run in place of the program
  * @param {(engine: NativeEngine) => Promise<void>} body
  */
 async function withProgram(script, body) {

@@ -2,6 +2,7 @@
 import assert from "node:assert/strict";
 import { test } from "node:test";
 import { nothing } from "../both/infrastructure.js";
+import { dxf } from "../both/page/cad.js";
 import { Scene, draw } from "../both/page/drawing.js";
 import { gapsOf } from "../both/page/gaps.js";
 import { MEANINGS, sample } from "../both/page/signs.js";
@@ -70,6 +71,16 @@ test("a gap has a sign between its tracks that says so, and a meaning in the leg
     assert.doesNotMatch(signs(made(`${GRAPH}above 3 4\n`).station), /sign gap/);
     assert.match(MEANINGS.get("gap") ?? "", /^nothing says which/);
     assert.match(String(sample("gap", false)), /class="question"/);
+});
+
+test("a CAD drawing has the sign of a gap too, between its tracks, on a layer of its own", () => {
+    /** @param {string} graph @returns {string[]} the texts of the layer, each with its place */
+    const found = (graph) => {
+        const { drawing, station } = made(graph), scene = new Scene(drawing, station);
+        return [...dxf(scene, draw(scene)).matchAll(/0\r\nTEXT\r\n8\r\nGAP\r\n[^]*?\r\n1\r\n(.*)\r\n72\r\n1\r\n11\r\n(.*)\r\n21\r\n(.*)\r\n/g)]
+            .map(([, text, x, y]) => `${text} ${Number(x) > 0} ${Number(y) > 0}`);
+    };
+    assert.deepEqual([found(GRAPH), found(`${GRAPH}above 3 4\n`)], [["? true true"], []]);
 });
 
 test("no gap is seen between tracks that have another between them", () => {

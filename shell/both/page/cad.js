@@ -6,6 +6,7 @@
  */
 import { kilometres } from "../messages/law_words.js";
 import { MM, Strip, heightAt, neighbours } from "./columns.js";
+import { gapsOf } from "./gaps.js";
 import { fixed } from "./numbers.js";
 import { edgesBetween, isAbove, signOf } from "./objects_drawn.js";
 import { SIZES } from "./places.js";
@@ -19,7 +20,10 @@ import { headSign, linesOf } from "./signs.js";
 /** @typedef {[number, string | number]} Code a code of DXF and its value */
 
 /** @type {[string, number][]} */
-const LAYERS = [["TRACK", 7], ["MAIN", 7], ["NODE", 1], ["NAME", 3], ["SIGNAL", 5], ["OBJECT", 6], ["KILOMETRE", 8]];
+const LAYERS = [["TRACK", 7], ["MAIN", 7], ["NODE", 1], ["NAME", 3], ["SIGNAL", 5], ["OBJECT", 6], ["KILOMETRE", 8],
+    ["GAP", 2]];
+/** how large a sign of a gap is, as a letter of pictures, and how far around it there is no other, in millimetres */
+const GAP = 12, AROUND = 2.4;
 // how high a capital is, of a letter's size
 const CAP = 0.716;
 const MARGIN = 30;
@@ -147,6 +151,22 @@ class Entities {
         }
     }
 
+    /** puts a question mark between two tracks of which nothing says which lies above, where no name or sign is */
+    putGaps() {
+        const { drawing, station } = this.scene, taken = this.places();
+        for (const { at } of gapsOf(drawing, station)) {
+            const spots = at.map((spot) => this.#at(spot)), isFree = (/** @type {Spot} */ [x, y]) =>
+                !taken.some(([u, v]) => Math.abs(x - u) < AROUND && Math.abs(y - v) < AROUND);
+            const [x, y] = spots.find(isFree) ?? spots[0];
+            this.#text("GAP", "?", [x, y - GAP * CAP / MM / 2], GAP);
+        }
+    }
+
+    /** @returns {Spot[]} where texts and points of signs are by now */
+    places() {
+        return this.codes.flatMap(([code, x], at) => (code === 11 || code === 10 ? [/** @type {Spot} */ ([Number(x), Number(this.codes[at + 1][1])])] : []));
+    }
+
     putSignals() {
         for (const signal of this.scene.signals) {
             const [x, level] = this.#at(signal.point);
@@ -199,6 +219,7 @@ export function dxf(scene, picture) {
     entities.putNodes();
     entities.putSignals();
     entities.putObjects();
+    entities.putGaps();
     /** @type {Code[]} */
     const codes = [...tables(), ...entities.codes, [0, "ENDSEC"], [0, "EOF"]];
     return codes.map(([code, value]) => `${code}\r\n${value}\r\n`).join("");
