@@ -4,6 +4,7 @@
  * it finds what is written wrongly.
  */
 import * as railml from "./railml.js";
+import { firstAt } from "./searching.js";
 import { TrackGraph } from "./track_graph.js";
 
 /** @typedef {import("./railml.js").Element} Element */
@@ -61,6 +62,32 @@ export function spotsOf(track) {
     const found = begin && end ? [begin, ...railml.points(track).sort(railml.byPosition), end] : [];
     knownSpots.set(track, found);
     return found;
+}
+
+/**
+ * What gives the mileages of a track's objects between two of its places that have theirs, in metres: a track of a line may have
+ * ten thousands of objects and thousands of places.
+ * @param {Element} track
+ * @returns {(it: Element) => number | null} null where it isn't between two, or their mileages aren't known
+ */
+export function betweenPlaces(track) {
+    const spots = spotsOf(track), positions = spots.map(railml.position);
+    /** @type {import("./decimal.js").Decimal[]} the greatest position up to each place */
+    const furthest = [];
+    for (const at of positions) {
+        const most = furthest[furthest.length - 1] ?? at;
+        furthest.push(at.compare(most) > 0 ? at : most);
+    }
+    return (it) => {
+        const at = railml.position(it), behind = firstAt(spots.length, (number) => furthest[number].compare(at) >= 0);
+        const [one = null, other = null] = [spots[behind - 1], spots[behind]].map((spot) => spot && mileageOf(spot));
+        if (one === null || other === null) {
+            return null;
+        }
+        const length = positions[behind].minus(positions[behind - 1]).toNumber();
+        const part = length ? at.minus(positions[behind - 1]).toNumber() / length : 0;
+        return Math.round((one + (other - one) * part) * 1000) / 1000;
+    };
 }
 
 /** @param {number | null} one @param {number | null} other @returns {boolean} */

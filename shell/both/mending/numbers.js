@@ -1,9 +1,8 @@
 /** Numbers of metres as they are read, and mileages that the file itself says. */
 import { Decimal } from "../decimal.js";
 import { knownOf, lacks, leadsNowhere, wrongCourse, wrongOrientation } from "../messages/topology_faults.js";
-import { mileageOf, spotsOf } from "../one_mileage.js";
+import { betweenPlaces } from "../one_mileage.js";
 import * as railml from "../railml.js";
-import { firstAt } from "../searching.js";
 
 /** @typedef {import("./prepared.js").Prepared} Prepared */
 /** @typedef {import("../railml.js").Element} Element */
@@ -147,32 +146,6 @@ export function mendMileages(it) {
     it.isRebuilt ||= edits.length > 0;
     it.replace(edits);
     mendSignals(it);
-}
-
-/**
- * What gives the mileages of a track's objects between two of its places that have theirs, in metres: a track of a line may have
- * ten thousands of objects and thousands of places.
- * @param {Element} track
- * @returns {(it: Element) => number | null}
- */
-function betweenPlaces(track) {
-    const spots = spotsOf(track), positions = spots.map(railml.position);
-    /** @type {Decimal[]} the greatest position up to each place */
-    const furthest = [];
-    for (const at of positions) {
-        const most = furthest[furthest.length - 1] ?? at;
-        furthest.push(at.compare(most) > 0 ? at : most);
-    }
-    return (it) => {
-        const at = railml.position(it), behind = firstAt(spots.length, (number) => furthest[number].compare(at) >= 0);
-        const [one = null, other = null] = [spots[behind - 1], spots[behind]].map((spot) => spot && mileageOf(spot));
-        if (one === null || other === null) {
-            return null;
-        }
-        const length = positions[behind].minus(positions[behind - 1]).toNumber();
-        const part = length ? at.minus(positions[behind - 1]).toNumber() / length : 0;
-        return Math.round((one + (other - one) * part) * 1000) / 1000;
-    };
 }
 
 /** @param {Prepared} it writes the mileage of signals where that of their track falls: without absPos it is counted as if it

@@ -1,6 +1,6 @@
 /** What a file leaves open or says twice, so that its drawing may be other than the station: for standard error and for
  * pages. */
-import { mileageOf, spotsOf } from "../one_mileage.js";
+import { betweenPlaces, mileageOf, spotsOf } from "../one_mileage.js";
 import * as railml from "../railml.js";
 import { Orders } from "../sides/confirmed.js";
 import { sidesOf } from "../sides/said.js";
@@ -28,19 +28,6 @@ function listed(names, what) {
     return names.slice(0, SHOWN).join(", ") + (more > 0 ? ` and ${more} more ${what}` : "");
 }
 
-/** @param {Element} track @param {Element} it @returns {number | null} the mileage of what is between two places of a track, in metres */
-export function between(track, it) {
-    const spots = spotsOf(track), at = railml.position(it);
-    const behind = spots.findIndex((spot) => railml.position(spot).compare(at) >= 0);
-    if (behind < 1) {
-        return null;
-    }
-    const [before, after] = [spots[behind - 1], spots[behind]], one = mileageOf(before), other = mileageOf(after);
-    const length = railml.position(after).minus(railml.position(before)).toNumber();
-    const part = length ? at.minus(railml.position(before)).toNumber() / length : 0;
-    return one === null || other === null ? null : Math.round((one + (other - one) * part) * 1000) / 1000;
-}
-
 /** @param {Document} document @returns {string[]} signals that are taken as if their track's mileage rose, though it falls */
 function unsaidSignals(document) {
     return document.tracks().flatMap((track) => {
@@ -49,7 +36,7 @@ function unsaidSignals(document) {
         if (one === null || other === null || other >= one || !unsaid.length) {
             return [];
         }
-        const names = unsaid.map((it) => `absPos="${between(track, it) ?? ".."}" at ${railml.what(it)}`);
+        const mileageAt = betweenPlaces(track), names = unsaid.map((it) => `absPos="${mileageAt(it) ?? ".."}" at ${railml.what(it)}`);
         const count = unsaid.length === 1 ? "1 signal has" : `${unsaid.length} signals have`;
         return [`the mileage of track ${track.id} falls, and ${count} no absPos: counted as if it rose, they may lie on `
             + `another piece. Write ${listed(names, "signals")}`];
