@@ -32,11 +32,9 @@ use Rattle.edge_shape.proofs.PlaceLemmas.{blocks, column_there, inside_there, he
 use Rattle.edge_shape.proofs.SizeLemmas.{edge_there}
 use Rattle.cnf_laws.specs.Stands.{DrawingVars, ReadsPoint, ReadsShape, ReadsDrawing, IsJoinedOnGrid}
 use Rattle.cnf_laws.specs.Rank.{west_rank}
-use Rattle.cnf_laws.specs.declared.aligned.EndOf.{EndOf}
-use Rattle.cnf_laws.specs.Parties.{slope_of}
 use Rattle.cnf_laws.proofs.RankLemmas.{IsAtPlace, rank_below, rank_once, at_place}
 use Rattle.cnf_laws.specs.Expected.{ints_at_place, edges_first, edge_first, drawing_vars, laws_first, node_clauses, edge_part, base_clauses}
-use Rattle.cnf_laws.proofs.ThereLemmas.{AreVars, EdgeThere, WholeThere, SlopeThere, end_there}
+use Rattle.cnf_laws.proofs.ThereLemmas.{AreVars, EdgeThere, WholeThere}
 use Rattle.cnf_laws.proofs.InstanceLemmas.{shape_stays}
 
 -- what laws read is less than the line
@@ -425,10 +423,6 @@ base_extends g grid d v is size few loose =
 -- the six variables of the whole line are there
 pub edge_whole : (e : EdgeSpot) (vars : ℕ) → EdgeIsPlaced e.first e.high e.width → e.first + edge_size e.high e.width ≤ vars + 1 → WholeThere vars (lits_of e)
 edge_whole e vars p to = (edge_literals e.first e.high e.width vars p to).whole
-
-pub slope_there_at : (vars : ℕ) (a : EndOf) → EdgeIsPlaced a.edge.now.first a.edge.now.high a.edge.now.width →
-    a.edge.now.first + edge_size a.edge.now.high a.edge.now.width ≤ vars + 1 → SlopeThere vars (slope_of a)
-slope_there_at vars a p to = end_there vars (lits_of a.edge.now) a.west (edge_whole a.edge.now vars p to)
 
 pub spot_within : (g : Graph) (grid : GridSize) (e : ℕ) → e < length g.edges → edge_first g grid e + edge_size grid.height grid.width ≤ laws_first g grid
 spot_within g grid e lt = let all = blocks (edge_size grid.height grid.width) (length g.edges) e lt in omega arith

@@ -1,5 +1,5 @@
 -- Calls whose arguments are spelt otherwise.
-use Rattle.std.proofs.Common.{◌≡◌, ℕ, zero, suc, ◌+◌, ◌*◌, ◌-◌, ◌≤◌, ◌<◌, ◌∙◌, ap, subst, List, arith}
+use Rattle.std.proofs.Common.{◌≡◌, ℕ, zero, suc, ◌+◌, ◌*◌, ◌-◌, ◌<◌, ◌∙◌, ap, subst, List, arith}
 use Rattle.std.specs.Prelude.{Result}
 use Rattle.cnf_core.specs.declared.fault.CnfFault.{CnfFault}
 use Rattle.cnf_core.specs.declared.literal.LitOrTruth.{LitOrTruth}
@@ -10,28 +10,20 @@ use Rattle.cnf_core.specs.Added.{AddsClauses}
 use Rattle.order_int.specs.IntVars.{IntVars}
 use Rattle.order_int.specs.OrderInt.{int_clauses}
 use Rattle.edge_shape.specs.EdgeVars.{EdgeLits}
-use Rattle.edge_shape.proofs.RuleCode.{adds_as}
-use Rattle.cnf_laws.specs.Orders.{order_clauses}
-use Rattle.cnf_laws.specs.LawClauses.{SharingEdge, differ_clauses, higher_clauses}
+use Rattle.cnf_laws.specs.Guards.{two_guards, guarded_order}
+use Rattle.cnf_laws.specs.LawClauses.{SharingEdge, higher_clauses}
 
 -- the same clauses, spelt otherwise
 pub adds_same_clauses : {T : Type 0} (r : Result T CnfFault) (old new : Cnf) (xs ys : Clauses) (longest : ℕ) → xs ≡ ys → AddsClauses r old new xs longest →
     AddsClauses r old new ys longest
 adds_same_clauses r old new xs ys longest e h = subst (λ (cs : Clauses). AddsClauses r old new cs longest) e h
 
--- the same orders, of premises that are spelt otherwise, and a longer clause allowed
-pub adds_order_as : {T : Type 0} (r : Result T CnfFault) (old new : Cnf) (a b : IntVars) (plus : ℕ) (ps qs : List LitOrTruth) (unless : List Literal)
-    (shorter longest : ℕ) → ps ≡ qs → shorter ≤ longest → AddsClauses r old new (order_clauses a b plus ps unless) shorter →
-    AddsClauses r old new (order_clauses a b plus qs unless) longest
-adds_order_as r old new a b plus ps qs unless shorter longest e le h =
-    adds_as r old new _ _ shorter longest (ap (λ (l : List LitOrTruth). order_clauses a b plus l unless) e) le h
-
-pub adds_differ_as : {T : Type 0} (r : Result T CnfFault) (old new : Cnf) (less more low high : List LitOrTruth) (a b : IntVars) (unless : List Literal)
-    (shorter longest : ℕ) → less ≡ low → more ≡ high → shorter ≤ longest → AddsClauses r old new (differ_clauses less more a b unless) shorter →
-    AddsClauses r old new (differ_clauses low high a b unless) longest
-adds_differ_as r old new less more low high a b unless shorter longest e k le h =
-    adds_as r old new _ _ shorter longest (ap (λ (l : List LitOrTruth). differ_clauses l more a b unless) e
-    ∙ ap (λ (l : List LitOrTruth). differ_clauses low l a b unless) k) le h
+pub adds_lower : {T : Type 0} (r : Result T CnfFault) (old new : Cnf) (a b : IntVars) (s t u w : LitOrTruth) (unless : List Literal) (longest : ℕ) → s ≡ u →
+    t ≡ w → AddsClauses r old new (guarded_order a b 1 (two_guards s t) unless) longest →
+    AddsClauses r old new (guarded_order a b 1 (two_guards u w) unless) longest
+adds_lower r old new a b s t u w unless longest e k h =
+    subst (λ (z : LitOrTruth). AddsClauses r old new (guarded_order a b 1 (two_guards u z) unless) longest) k
+    (subst (λ (z : LitOrTruth). AddsClauses r old new (guarded_order a b 1 (two_guards z t) unless) longest) e h)
 
 pub adds_over : {T : Type 0} (r : Result T CnfFault) (old new : Cnf) (e : SharingEdge) (f : EdgeLits) (width : ℕ) (s t : LitOrTruth) (unless : List Literal)
     (longest : ℕ) → s ≡ t → AddsClauses r old new (higher_clauses e f width s unless) longest →

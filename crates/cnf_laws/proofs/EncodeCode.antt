@@ -1,5 +1,5 @@
 -- Nodes and edges, and then the laws.
-use Rattle.std.proofs.Common.{◌≡◌, ℕ, ◌+◌, ◌-◌, ◌*◌, List, ◌++◌, length, ◌∙◌, ap, subst, refl, arith, Ok}
+use Rattle.std.proofs.Common.{◌≡◌, ◌⊎◌, ◌≤◌, ◌<◌, ℕ, ◌+◌, ◌-◌, ◌*◌, List, [], ◌++◌, inl, inr, length, ◌∙◌, ap, subst, refl, arith, Ok}
 use Rattle.std.specs.Prelude.{Result, IsErr, IsErrOf}
 use Rattle.plan_core.specs.Grid.{GridSize}
 use Rattle.plan_core.specs.Graph.{Graph}

@@ -1,6 +1,6 @@
 -- How many words and variables the formula has at most.
-use Rattle.std.proofs.Common.{◌≡◌, ℕ, zero, suc, ◌+◌, ◌-◌, ◌*◌, ◌≤◌, ◌<◌, Bool, true, false, cond, List, [], ◌∷◌, ◌++◌, length, refl, ◌∙◌, ap, arith}
-use Rattle.std.specs.Prelude.{◌||◌, not}
+use Rattle.std.proofs.Common.{◌≡◌, ℕ, zero, suc, ◌+◌, ◌-◌, ◌*◌, ◌≤◌, ◌<◌, Bool, true, false, cond, List, [], ◌∷◌, ◌++◌, map, length, refl, ◌∙◌, ap, arith}
+use Rattle.std.specs.Prelude.{⊤, ◌||◌, not}
 use Rattle.std.specs.Ordering.{int_cmp}
 use Rattle.std.specs.declared.cmp.Ordering.{Ordering}
 use Rattle.std.specs.declared.cmp.Ordering.TheVariants.{Less, Equal, Greater}
@@ -17,17 +17,17 @@ use Rattle.cnf_core.specs.declared.literal.LitOrTruth.{LitOrTruth}
 use Rattle.cnf_core.specs.declared.literal.LitOrTruth.TheVariants.{False}
 use Rattle.cnf_core.specs.Lit.{Literal}
 use Rattle.cnf_core.specs.Clause.{words_of}
-use Rattle.cnf_core.specs.LitOrTruth.{yes, flip}
+use Rattle.cnf_core.specs.LitOrTruth.{yes, flip, clause_of}
 use Rattle.cnf_core.specs.Formula.{each}
 use Rattle.cnf_core.proofs.ClauseLemmas.{words_append, words_each}
+use Rattle.cnf_core.proofs.GatherLemmas.{clause_words}
 use Rattle.order_int.specs.IntVars.{IntVars, size}
 use Rattle.order_int.specs.OrderInt.{int_clauses}
 use Rattle.order_int.proofs.IntLemmas.{chain_words}
 use Rattle.edge_shape.specs.EdgeVars.{edge_size}
-use Rattle.edge_shape.specs.Rules.{Rule, unless_rules}
-use Rattle.edge_shape.proofs.RuleLemmas.{rules_append}
-use Rattle.edge_shape.proofs.SizeLemmas.{unless_rules_words}
+use Rattle.edge_shape.specs.Rules.{Rule}
 use Rattle.edge_shape.proofs.WordLemmas.{edge_words, edge_vars_few}
+use Rattle.cnf_laws.specs.Guards.{pair_literals, pair_clauses, unless_rules}
 use Rattle.cnf_laws.specs.Stands.{DrawingVars, SlopeVars, slope_vars}
 use Rattle.cnf_laws.specs.LawClauses.{flat_rules, same_rules, one_more_rules, greater_rules, diverge_rules, ports_rules, apart_size, over_clauses, higher_of}
 use Rattle.cnf_laws.specs.LawClauses.{instance_clauses, laws_size, laws_clauses}
@@ -38,17 +38,45 @@ use Rattle.cnf_laws.proofs.LawWords.{ordered_words, apart_words, higher_words, l
 use Rattle.cnf_laws.proofs.BaseLemmas.{base_last, base_vars, edge_spot_in}
 
 -- THE LAW ON SLOPES: eleven rules of two literals at most, unless one literal at most is true
+abbrev pub AreShort : List Rule → Type 0
+AreShort [] = ⊤
+AreShort (r ∷ rs) = (length (pair_literals r) ≤ 2) × AreShort rs
+
+rules_words : (unless : List Literal) (rs : List Rule) → length unless ≤ 1 → AreShort rs → words_of (unless_rules unless rs) ≤ length rs * 6
+rules_words unless [] few h = omega arith
+rules_words unless (r ∷ rs) few h =
+    let short = h.0 in
+    omega (
+      arith,
+      few,
+      clause_words unless (pair_literals r),
+      words_append (clause_of unless (pair_literals r)) (pair_clauses unless (map pair_literals rs)),
+      rules_words unless rs few h.1,
+    )
+
+flat_short : (s : SlopeVars) → AreShort (flat_rules s)
+flat_short s = (omega arith, (omega arith, tt))
+
+same_short : (s t : SlopeVars) → AreShort (same_rules s t)
+same_short s t = (omega arith, (omega arith, (omega arith, (omega arith, tt))))
+
+one_more_short : (s t : SlopeVars) → AreShort (one_more_rules s t)
+one_more_short s t = (omega arith, (omega arith, (omega arith, (omega arith, tt))))
+
+greater_short : (s t : SlopeVars) → AreShort (greater_rules s t)
+greater_short s t = (omega arith, (omega arith, (omega arith, tt)))
+
 flat_words : (unless : List Literal) (s : SlopeVars) → length unless ≤ 1 → words_of (unless_rules unless (flat_rules s)) ≤ 12
-flat_words unless s few = omega (arith, few, unless_rules_words unless (flat_rules s))
+flat_words unless s few = omega (arith, rules_words unless (flat_rules s) few (flat_short s))
 
 same_words : (unless : List Literal) (s t : SlopeVars) → length unless ≤ 1 → words_of (unless_rules unless (same_rules s t)) ≤ 24
-same_words unless s t few = omega (arith, few, unless_rules_words unless (same_rules s t))
+same_words unless s t few = omega (arith, rules_words unless (same_rules s t) few (same_short s t))
 
 one_more_words : (unless : List Literal) (s t : SlopeVars) → length unless ≤ 1 → words_of (unless_rules unless (one_more_rules s t)) ≤ 24
-one_more_words unless s t few = omega (arith, few, unless_rules_words unless (one_more_rules s t))
+one_more_words unless s t few = omega (arith, rules_words unless (one_more_rules s t) few (one_more_short s t))
 
 greater_words : (unless : List Literal) (s t : SlopeVars) → length unless ≤ 1 → words_of (unless_rules unless (greater_rules s t)) ≤ 18
-greater_words unless s t few = omega (arith, few, unless_rules_words unless (greater_rules s t))
+greater_words unless s t few = omega (arith, rules_words unless (greater_rules s t) few (greater_short s t))
 
 diverge_words : (unless : List Literal) (legs : Compass) (branch : Side) (s t : SlopeVars) → length unless ≤ 1 →
     words_of (unless_rules unless (diverge_rules legs branch s t)) ≤ 24
@@ -59,7 +87,11 @@ diverge_words unless West Lower s t few = one_more_words unless s t few
 
 both_words : (unless : List Literal) (rs ss : List Rule) → words_of (unless_rules unless (rs ++ ss)) ≡ words_of (unless_rules unless rs) + words_of
     (unless_rules unless ss)
-both_words unless rs ss = ap words_of (rules_append unless rs ss) ∙ words_append (unless_rules unless rs) (unless_rules unless ss)
+both_words unless [] ss = omega arith
+both_words unless (r ∷ rs) ss =
+    let one = words_append (clause_of unless (pair_literals r)) (pair_clauses unless (map pair_literals rs)) in
+    let all = words_append (clause_of unless (pair_literals r)) (pair_clauses unless (map pair_literals (rs ++ ss))) in
+    omega (arith, one, all, both_words unless rs ss)
 
 pub ports_words : (unless : List Literal) (at : ℕ → SlopeVars) (ports : Ports) → length unless ≤ 1 → words_of (unless_rules unless (ports_rules at ports)) ≤ 66
 ports_words unless at (End e side) few = omega (arith, flat_words unless (at e) few)

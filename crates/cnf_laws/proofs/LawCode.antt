@@ -1,5 +1,5 @@
 -- Loops over instances: each call adds a list of them, with new variables behind those there.
-use Rattle.std.proofs.Common.{◌≡◌, ℕ, ◌+◌, ◌-◌, ◌<◌, ◌≤◌, List, [], ◌∷◌, ◌++◌, sym, ◌∙◌, ap, subst, arith, append_assoc, append-nil, inl, inr, Ok, Err}
+use Rattle.std.proofs.Common.{◌≡◌, ℕ, ◌+◌, ◌-◌, ◌<◌, ◌≤◌, List, [], ◌∷◌, ◌++◌, refl, sym, ◌∙◌, ap, subst, arith, append_assoc, append-nil, inl, inr, Ok, Err}
 use Rattle.std.specs.Prelude.{Result, IsErr, IsErrOf}
 use Rattle.plan_core.specs.Graph.{Graph}
 use Rattle.plan_core.specs.Lawful.{Instance}

@@ -1,4 +1,4 @@
-pub mod OrderLemmas
+pub mod GuardLemmas
 pub mod SlopeLemmas
 pub mod ApartLemmas
 pub mod OverLemmas
@@ -9,6 +9,7 @@ pub mod BaseLemmas
 pub mod MainLemmas
 pub mod JoinedLemmas
 pub mod CodeLemmas
+pub mod PairCode
 pub mod LawCode
 pub mod EdgeCode
 pub mod EncodeCode

@@ -1,5 +1,5 @@
 -- Laws 6 and 7: lines over one another.
-use Rattle.std.proofs.Common.{◌≡◌, ◌⊎◌, ℕ, ◌+◌, ◌≤◌, ◌<◌, Bool, true, false, not, List, length, inl, inr, refl, sym, ◌∙◌, ap, subst, arith}
+use Rattle.std.proofs.Common.{◌≡◌, ◌⊎◌, ℕ, ◌+◌, ◌≤◌, ◌<◌, Bool, true, false, not, cond, List, length, inl, inr, refl, sym, ◌∙◌, ap, subst, arith}
 use Rattle.std.specs.Prelude.{nat_le, nat_eq, ◌&&◌}
 use Rattle.std.proofs.lemmas.Bool.Decides.{nat_tests, leb_tells, eqb_tells}
 use Rattle.plan_core.specs.declared.point.Point.{Point}
@@ -11,15 +11,14 @@ use Rattle.plan_core.specs.Laws.{AreCompared, EdgeIsOver, EdgesAreParted}
 use Rattle.cnf_core.specs.declared.literal.LitOrTruth.{LitOrTruth}
 use Rattle.cnf_core.specs.Lit.{Literal}
 use Rattle.cnf_core.specs.Assignment.{Assignment, Satisfies, SatisfiesAll}
-use Rattle.cnf_core.specs.LitOrTruth.{yes, flip, value}
+use Rattle.cnf_core.specs.LitOrTruth.{yes, flip, value, SomeTrue}
 use Rattle.cnf_core.proofs.ClauseLemmas.{satisfies_append, satisfies_left, satisfies_right, satisfies_each, satisfies_at}
 use Rattle.cnf_core.proofs.GatherLemmas.{value-flip}
-use Rattle.order_int.specs.IntVars.{IntVars}
 use Rattle.order_int.specs.OrderInt.{int_at_least, Reads}
-use Rattle.edge_shape.specs.Rules.{AllTrue}
+use Rattle.cnf_laws.specs.Guards.{guard_list}
 use Rattle.cnf_laws.specs.Stands.{DrawingVars, ReadsDrawing, IsJoinedOnGrid}
-use Rattle.cnf_laws.specs.LawClauses.{is_end, off_west, off_east, over_premises, over_column, over_clauses, parted_clauses}
-use Rattle.cnf_laws.proofs.OrderLemmas.{Is, order_means, order_holds}
+use Rattle.cnf_laws.specs.LawClauses.{is_end, shared_west, shared_east, over_guards, over_column, over_clauses, parted_clauses}
+use Rattle.cnf_laws.proofs.GuardLemmas.{Is, guarded_means, guarded_holds}
 use Rattle.cnf_laws.proofs.ApartLemmas.{flipped}
 
 -- ends of an edge, as a test
@@ -40,29 +39,41 @@ is_end_holds g e n (inr h) = elim (eqb_tells (edge g e).west n) [
 ]
 
 -- common nodes
-off_west_says : (v : Assignment) (shares : Bool) (x : IntVars) (c p : ℕ) → Reads v x p → Is (value v (off_west shares x c)) → shares ≡ true → p + 1 ≤ c
-off_west_says v true x c p r h s =
-    let t : nat_le c p ≡ false = sym (r.each c) ∙ flipped (value v (int_at_least x c)) (sym (value-flip v (int_at_least x c)) ∙ h) in
-    grind (arith, nat_tests, t)
-off_west_says v false x c p r h s = cc
+shared_west_says : (v : Assignment) (g : Graph) (x : DrawingVars) (e f c p : ℕ) → Reads v (x.node (edge g e).west).x p → Is (value v (shared_west g x e f c)) →
+    IsEndOf g f (edge g e).west × (c ≤ p)
+shared_west_says v g x e f c p r h = cases (is_end g f (edge g e).west) refl h
+  where
+    cases : (b : Bool) → is_end g f (edge g e).west ≡ b → Is (value v (cond b (int_at_least (x.node (edge g e).west).x c) LitOrTruth.False)) →
+        IsEndOf g f (edge g e).west × (c ≤ p)
+    cases true s k = let t : nat_le c p ≡ true = sym (r.each c) ∙ k in (is_end_says g f (edge g e).west s, grind (arith, nat_tests, t))
+    cases false s k = cc
 
-off_west_holds : (v : Assignment) (shares : Bool) (x : IntVars) (c p : ℕ) → Reads v x p → (shares ≡ true → p + 1 ≤ c) → Is (value v (off_west shares x c))
-off_west_holds v true x c p r f =
-    let lt = f refl in
-    let t : nat_le c p ≡ false = grind (arith, nat_tests, lt) in
-    value-flip v (int_at_least x c) ∙ ap not (r.each c ∙ t)
-off_west_holds v false x c p r f = refl
+shared_west_holds : (v : Assignment) (g : Graph) (x : DrawingVars) (e f c p : ℕ) → Reads v (x.node (edge g e).west).x p → IsEndOf g f (edge g e).west → c ≤ p →
+    Is (value v (shared_west g x e f c))
+shared_west_holds v g x e f c p r end le =
+    let s = is_end_holds g f (edge g e).west end in
+    let t : nat_le c p ≡ true = grind (arith, nat_tests) in
+    rw s (r.each c ∙ t)
 
-off_east_says : (v : Assignment) (shares : Bool) (x : IntVars) (c p : ℕ) → Reads v x p → Is (value v (off_east shares x c)) → shares ≡ true → c + 1 ≤ p
-off_east_says v true x c p r h s = let t : nat_le (c + 1) p ≡ true = sym (r.each (c + 1)) ∙ h in grind (arith, nat_tests, t)
-off_east_says v false x c p r h s = cc
+shared_east_says : (v : Assignment) (g : Graph) (x : DrawingVars) (e f c p : ℕ) → Reads v (x.node (edge g e).east).x p → Is (value v (shared_east g x e f c)) →
+    IsEndOf g f (edge g e).east × (p ≤ c)
+shared_east_says v g x e f c p r h = cases (is_end g f (edge g e).east) refl h
+  where
+    cases : (b : Bool) → is_end g f (edge g e).east ≡ b → Is (value v (cond b (flip (int_at_least (x.node (edge g e).east).x (c + 1))) LitOrTruth.False)) →
+        IsEndOf g f (edge g e).east × (p ≤ c)
+    cases true s k =
+        let o : value v (int_at_least (x.node (edge g e).east).x (c + 1)) ≡ false = flipped (value v (int_at_least (x.node (edge g e).east).x (c + 1)))
+        (sym (value-flip v (int_at_least (x.node (edge g e).east).x (c + 1))) ∙ k) in
+        let t : nat_le (c + 1) p ≡ false = sym (r.each (c + 1)) ∙ o in
+        (is_end_says g f (edge g e).east s, grind (arith, nat_tests, t))
+    cases false s k = cc
 
-off_east_holds : (v : Assignment) (shares : Bool) (x : IntVars) (c p : ℕ) → Reads v x p → (shares ≡ true → c + 1 ≤ p) → Is (value v (off_east shares x c))
-off_east_holds v true x c p r f =
-    let lt = f refl in
-    let t : nat_le (c + 1) p ≡ true = grind (arith, nat_tests, lt) in
-    r.each (c + 1) ∙ t
-off_east_holds v false x c p r f = refl
+shared_east_holds : (v : Assignment) (g : Graph) (x : DrawingVars) (e f c p : ℕ) → Reads v (x.node (edge g e).east).x p → IsEndOf g f (edge g e).east → p ≤ c →
+    Is (value v (shared_east g x e f c))
+shared_east_holds v g x e f c p r end le =
+    let s = is_end_holds g f (edge g e).east end in
+    let t : nat_le (c + 1) p ≡ false = grind (arith, nat_tests) in
+    rw s (value-flip v (int_at_least (x.node (edge g e).east).x (c + 1)) ∙ ap not (r.each (c + 1) ∙ t))
 
 -- columns of a line
 has_column_says : (l : List Point) (c : ℕ) → (nat_le (west_end l).x c && nat_le c (east_end l).x) ≡ true → HasColumn l c
@@ -96,57 +107,36 @@ east_is : (v : Assignment) (g : Graph) (x : DrawingVars) (grid : GridSize) (d : 
     (east_end (line d e)).x ≡ (place d (edge g e).east).x
 east_is v g x grid d e r le = ap (λ (p : Point). p.x) (r.loose.joins e le).ends
 
--- all premises are true where the lines are compared
-compared_holds : (v : Assignment) (g : Graph) (x : DrawingVars) (grid : GridSize) (d : Drawing) (e f c : ℕ) (guard : LitOrTruth) → Read v g x grid d →
-    e < length g.edges → f < length g.edges → c ≤ grid.width → value v guard ≡ false → AreCompared g d e f c → AllTrue v (over_premises g x e f guard c)
-compared_holds v g x grid d e f c guard r le lf w off k = (
-  (r.reads.lines e le).inside c w ∙ has_column_holds (line d e) c k.first,
-  (
-    (r.reads.lines f lf).inside c w ∙ has_column_holds (line d f) c k.second,
-    (
-      off_west_holds v (is_end g f west) (x.node west).x c (place d west).x (r.reads.points west (r.graph.nodes e le).0).x
-          (λ s. let ne = k.no_shared_end west (inl refl) (is_end_says g f west s) in let z = west_is v g x grid d e r le in
-          let from = k.first.from_west in omega arith),
-      (
-        off_east_holds v (is_end g f east) (x.node east).x c (place d east).x (r.reads.points east (r.graph.nodes e le).1).x
-            (λ s. let ne = k.no_shared_end east (inr refl) (is_end_says g f east s) in let z = east_is v g x grid d e r le in
-            let to = k.first.to_east in omega arith),
-        (value-flip v guard ∙ ap not off, tt),
-      ),
-    ),
-  ),
+-- all guards are false where the lines are compared
+over_at : (v : Assignment) (g : Graph) (x : DrawingVars) (grid : GridSize) (d : Drawing) (e f c : ℕ) (guard : LitOrTruth) → Read v g x grid d →
+    e < length g.edges → f < length g.edges → c ≤ grid.width → value v guard ≡ false → AreCompared g d e f c →
+    SomeTrue v (guard_list (over_guards g x e f guard c)) → ⊥
+over_at v g x grid d e f c guard r le lf w off k (inl h) = cc (
+  flipped (v ((x.edge e).inside c)) h,
+  (r.reads.lines e le).inside c w
+      ∙ has_column_holds (line d e) c k.first,
 )
-  where
-    west : ℕ
-    west = (edge g e).west
-
-    east : ℕ
-    east = (edge g e).east
-
-compared_says : (v : Assignment) (g : Graph) (x : DrawingVars) (grid : GridSize) (d : Drawing) (e f c : ℕ) (guard : LitOrTruth) → Read v g x grid d →
-    e < length g.edges → f < length g.edges → c ≤ grid.width → AllTrue v (over_premises g x e f guard c) → AreCompared g d e f c
-compared_says v g x grid d e f c guard r le lf w all = record {
-  first = has_column_says (line d e) c (sym ((r.reads.lines e le).inside c w) ∙ all.0);
-  second = has_column_says (line d f) c (sym ((r.reads.lines f lf).inside c w) ∙ all.1.0);
-  no_shared_end = λ n one two is. elim one [
-    | inl at ↦
-        let lt = off_west_says v (is_end g f west) (x.node west).x c (place d west).x (r.reads.points west (r.graph.nodes e le).0).x all.1.1.0
-        (is_end_holds g f west (subst (λ m. IsEndOf g f m) (sym at) two)) in
-        let z : (place d west).x ≡ (place d n).x = ap (λ m. (place d m).x) at in
-        omega arith
-    | inr at ↦
-        let lt = off_east_says v (is_end g f east) (x.node east).x c (place d east).x (r.reads.points east (r.graph.nodes e le).1).x all.1.1.1.0
-        (is_end_holds g f east (subst (λ m. IsEndOf g f m) (sym at) two)) in
-        let z : (place d east).x ≡ (place d n).x = ap (λ m. (place d m).x) at in
-        omega arith
-  ];
-}
-  where
-    west : ℕ
-    west = (edge g e).west
-
-    east : ℕ
-    east = (edge g e).east
+over_at v g x grid d e f c guard r le lf w off k (inr (inl h)) = cc (
+  flipped (v ((x.edge f).inside c)) h,
+  (r.reads.lines f lf).inside c w
+      ∙ has_column_holds (line d f) c k.second,
+)
+over_at v g x grid d e f c guard r le lf w off k (inr (inr (inl h))) =
+    let n = (edge g e).west in
+    let s = shared_west_says v g x e f c (place d n).x (r.reads.points n (r.graph.nodes e le).0).x h in
+    let z = west_is v g x grid d e r le in
+    let from = k.first.from_west in
+    let near = s.1 in
+    k.no_shared_end n (inl refl) s.0 (omega arith)
+over_at v g x grid d e f c guard r le lf w off k (inr (inr (inr (inl h)))) =
+    let n = (edge g e).east in
+    let s = shared_east_says v g x e f c (place d n).x (r.reads.points n (r.graph.nodes e le).1).x h in
+    let z = east_is v g x grid d e r le in
+    let to = k.first.to_east in
+    let near = s.1 in
+    k.no_shared_end n (inr refl) s.0 (omega arith)
+over_at v g x grid d e f c guard r le lf w off k (inr (inr (inr (inr (inl h))))) = cc (off, h)
+over_at v g x grid d e f c guard r le lf w off k (inr (inr (inr (inr (inr h))))) = h
 
 -- LAW 6
 pub over_means : (v : Assignment) (g : Graph) (x : DrawingVars) (grid : GridSize) (d : Drawing) (e f : ℕ) (guard : LitOrTruth) (unless : List Literal) →
@@ -157,22 +147,58 @@ over_means v g x grid d e f guard unless r le lf on off h c k =
     let wide = (r.loose.joins e le).in_width in
     let z = east_is v g x grid d e r le in
     let w : c ≤ grid.width = omega arith in
-    let lt = order_means v ((x.edge f).height c) ((x.edge e).height c) (height (line d f) c) (height (line d e) c) 1 (over_premises g x e f guard c) unless
+    elim (guarded_means v ((x.edge f).height c) ((x.edge e).height c) (height (line d f) c) (height (line d e) c) 1 (over_guards g x e f guard c) unless
     ((r.reads.lines f lf).height c w) ((r.reads.lines e le).height c w) on
-    (satisfies_at v (over_column g x e f guard unless) 0 (grid.width + 1) h c (omega arith) (omega arith))
-    (compared_holds v g x grid d e f c guard r le lf w off k) in
-    omega arith
+    (satisfies_at v (over_column g x e f guard unless) 0 (grid.width + 1) h c (omega arith) (omega arith))) [
+      | inl s ↦ absurd (over_at v g x grid d e f c guard r le lf w off k s)
+      | inr lt ↦ omega arith
+    ]
+
+-- at a column a guard is true, or the lines are compared
+compared_or : (v : Assignment) (g : Graph) (x : DrawingVars) (grid : GridSize) (d : Drawing) (e f c : ℕ) (guard : LitOrTruth) → Read v g x grid d →
+    e < length g.edges → f < length g.edges → c ≤ grid.width → SomeTrue v (guard_list (over_guards g x e f guard c)) ⊎ AreCompared g d e f c
+compared_or v g x grid d e f c guard r le lf w = first (v ((x.edge e).inside c)) (v ((x.edge f).inside c)) (value v (shared_west g x e f c))
+    (value v (shared_east g x e f c)) refl refl refl refl
+  where
+    west : ℕ
+    west = (edge g e).west
+
+    east : ℕ
+    east = (edge g e).east
+
+    first : (i j a b : Bool) → v ((x.edge e).inside c) ≡ i → v ((x.edge f).inside c) ≡ j → value v (shared_west g x e f c) ≡ a →
+        value v (shared_east g x e f c) ≡ b → SomeTrue v (guard_list (over_guards g x e f guard c)) ⊎ AreCompared g d e f c
+    first false j a b ei ej ea eb = inl (inl (ap not ei))
+    first true false a b ei ej ea eb = inl (inr (inl (ap not ej)))
+    first true true true b ei ej ea eb = inl (inr (inr (inl ea)))
+    first true true false true ei ej ea eb = inl (inr (inr (inr (inl eb))))
+    first true true false false ei ej ea eb = inr (record {
+      first = has_column_says (line d e) c (sym ((r.reads.lines e le).inside c w) ∙ ei);
+      second = has_column_says (line d f) c (sym ((r.reads.lines f lf).inside c w) ∙ ej);
+      no_shared_end = λ n one two is. elim one [
+        | inl at ↦ cc (
+          ea,
+          shared_west_holds v g x e f c (place d west).x (r.reads.points west (r.graph.nodes e le).0).x
+              (subst (λ m. IsEndOf g f m) (sym at) two) (let z : (place d west).x ≡ (place d n).x = ap (λ m. (place d m).x) at in omega arith),
+        )
+        | inr at ↦ cc (
+          eb,
+          shared_east_holds v g x e f c (place d east).x (r.reads.points east (r.graph.nodes e le).1).x
+              (subst (λ m. IsEndOf g f m) (sym at) two) (let z : (place d east).x ≡ (place d n).x = ap (λ m. (place d m).x) at in omega arith),
+        )
+      ];
+    })
 
 pub over_holds : (v : Assignment) (g : Graph) (x : DrawingVars) (grid : GridSize) (d : Drawing) (e f : ℕ) (guard : LitOrTruth) (unless : List Literal) →
     Read v g x grid d → e < length g.edges → f < length g.edges → Satisfies v unless ⊎ (Is (value v guard) ⊎ EdgeIsOver g d e f) →
     SatisfiesAll v (over_clauses g x grid.width e f guard unless)
 over_holds v g x grid d e f guard unless r le lf h = satisfies_each v (over_column g x e f guard unless) 0 (grid.width + 1) (λ c from to.
     let w : c ≤ grid.width = omega arith in
-    order_holds v ((x.edge f).height c) ((x.edge e).height c) (height (line d f) c) (height (line d e) c) 1 (over_premises g x e f guard c) unless
+    guarded_holds v ((x.edge f).height c) ((x.edge e).height c) (height (line d f) c) (height (line d e) c) 1 (over_guards g x e f guard c) unless
     ((r.reads.lines f lf).height c w) ((r.reads.lines e le).height c w) (elim h [
       | inl u ↦ inl u
-      | inr (inl t) ↦ inr (λ all. absurd (cc (flipped (value v guard) (sym (value-flip v guard) ∙ all.1.1.1.1.0), t)))
-      | inr (inr over) ↦ inr (λ all. let lt = over c (compared_says v g x grid d e f c guard r le lf w all) in omega arith)
+      | inr (inl t) ↦ inr (inl (inr (inr (inr (inr (inl t))))))
+      | inr (inr over) ↦ inr (elim (compared_or v g x grid d e f c guard r le lf w) [ inl s ↦ inl s | inr k ↦ inr (let lt = over c k in omega arith) ])
     ]))
 
 -- LAW 7

@@ -18,8 +18,7 @@ use Rattle.edge_shape.specs.Rules.{FollowsRules}
 use Rattle.edge_shape.specs.Columns.{is_up, is_down}
 use Rattle.cnf_laws.specs.Stands.{DrawingVars, SlopeVars, west_slope, east_slope, slope_vars, ReadsSlope, ReadsDrawing}
 use Rattle.cnf_laws.specs.LawClauses.{flat_rules, same_rules, one_more_rules, greater_rules, diverge_rules, ports_rules, aligned_clauses}
-use Rattle.edge_shape.proofs.RuleLemmas.{unless_rules_say, unless_rules_hold}
-use Rattle.cnf_laws.proofs.OrderLemmas.{Is, follows_left, follows_right, follows_both}
+use Rattle.cnf_laws.proofs.GuardLemmas.{Is, unless_rules_say, unless_rules_hold, follows_left, follows_right, follows_both}
 
 only : {A : Type 0} → A ⊎ ⊥ → A
 only (inl a) = a

@@ -1,6 +1,6 @@
 -- The clauses of laws 2, 4, 5, 6 and 7, each for its parties, with the first of its new variables.
--- Laws 2, 5, 6 and 7 are orders of two integers that hold where some premises are true; law 4 is rules of at most two
--- literals.
+-- Laws 2, 5, 6 and 7 are orders of two integers that hold unless one of five guards is true; law 4 is rules
+-- of at most two literals.
 use Rattle.std.specs.Prelude.{ℕ, ◌+◌, Bool, ◌||◌, cond, List, [], ◌∷◌, ◌++◌, nat_eq}
 use Rattle.std.specs.Ordering.{int_cmp}
 use Rattle.std.specs.declared.cmp.Ordering.{Ordering}
@@ -12,7 +12,7 @@ use Rattle.plan_core.specs.declared.sides.Side.TheVariants.{Upper, Lower}
 use Rattle.plan_core.specs.Graph.{Graph, Ports, End, Joint, Switch, Crossing, node, edge, mileage}
 use Rattle.plan_core.specs.Lawful.{Instance, Ordered, Aligned, Apart, Over, Parted}
 use Rattle.cnf_core.specs.declared.literal.LitOrTruth.{LitOrTruth}
-use Rattle.cnf_core.specs.declared.literal.LitOrTruth.TheVariants.{True, False}
+use Rattle.cnf_core.specs.declared.literal.LitOrTruth.TheVariants.{False}
 use Rattle.cnf_core.specs.Lit.{Literal}
 use Rattle.cnf_core.specs.Clause.{Clauses}
 use Rattle.cnf_core.specs.LitOrTruth.{yes, flip}
@@ -20,8 +20,8 @@ use Rattle.cnf_core.specs.Formula.{each}
 use Rattle.order_int.specs.IntVars.{IntVars}
 use Rattle.order_int.specs.OrderInt.{int_at_least}
 use Rattle.edge_shape.specs.EdgeVars.{NodeInts, EdgeLits}
-use Rattle.edge_shape.specs.Rules.{Rule, rule, unless_rules}
-use Rattle.cnf_laws.specs.Orders.{order_clauses}
+use Rattle.edge_shape.specs.Rules.{Rule, rule}
+use Rattle.cnf_laws.specs.Guards.{Guards, guards, no_guards, one_guard, two_guards, guarded_order, unless_rules}
 use Rattle.cnf_laws.specs.Stands.{DrawingVars, SlopeVars, slope_vars}
 
 -- Law 2, by how the mileages compare.
@@ -32,9 +32,9 @@ by_mileage g u v = int_cmp (mileage g u) (mileage g v)
 
 -- the clauses of law 2 for the columns of two nodes, by how the mileages compare
 abbrev pub ordered_clauses : Ordering → IntVars → IntVars → List Literal → Clauses
-ordered_clauses Less u v unless = order_clauses u v 0 [] unless
-ordered_clauses Equal u v unless = order_clauses u v 0 [] unless ++ order_clauses v u 0 [] unless
-ordered_clauses Greater u v unless = order_clauses v u 0 [] unless
+ordered_clauses Less u v unless = guarded_order u v 0 no_guards unless
+ordered_clauses Equal u v unless = guarded_order u v 0 no_guards unless ++ guarded_order v u 0 no_guards unless
+ordered_clauses Greater u v unless = guarded_order v u 0 no_guards unless
 
 -- Law 4, by the end slopes.
 
@@ -97,28 +97,28 @@ aligned_clauses g x n unless = unless_rules unless (ports_rules (slope_vars g x 
 
 -- Law 5. Where one lies west of the other, nothing is left; else one is the lower.
 
--- where all of the first list are true, a is less than b, and where all of the second are, b is less than a
-abbrev pub differ_clauses : List LitOrTruth → List LitOrTruth → IntVars → IntVars → List Literal → Clauses
-differ_clauses less more a b unless = order_clauses a b 1 less unless ++ order_clauses b a 1 more unless
+abbrev pub apart_rows_clauses : ℕ → LitOrTruth → IntVars → IntVars → List Literal → Clauses
+apart_rows_clauses below guard a b unless =
+    guarded_order a b 1 (two_guards guard (flip (yes below))) unless
+    ++ guarded_order b a 1 (two_guards guard (yes below)) unless
 
 -- a has the smaller mileage; `first` says that a isn't west of b, the variable behind it that a is below b
 abbrev pub west_clauses : ℕ → NodeInts → NodeInts → List Literal → Clauses
 west_clauses first a b unless =
-    order_clauses a.x b.x 1 (flip (yes first) ∷ []) unless
-    ++ differ_clauses (yes first ∷ yes (first + 1) ∷ []) (yes first ∷ flip (yes (first + 1)) ∷ []) a.y b.y unless
+    guarded_order a.x b.x 1 (one_guard (yes first)) unless
+    ++ apart_rows_clauses (first + 1) (flip (yes first)) a.y b.y unless
 
 abbrev pub apart_clauses : Ordering → ℕ → NodeInts → NodeInts → List Literal → Clauses
 apart_clauses Less first u v unless = west_clauses first u v unless
-apart_clauses Equal first u v unless = differ_clauses (yes first ∷ []) (flip (yes first) ∷ []) u.y v.y unless
+apart_clauses Equal first u v unless = apart_rows_clauses first False u.y v.y unless
 apart_clauses Greater first u v unless = west_clauses first v u unless
 
 -- the same where nothing is known of their order: where `first` is false their columns differ, else their rows, and
 -- the variable behind it says that a's is the smaller
 abbrev pub anywhere_clauses : ℕ → NodeInts → NodeInts → List Literal → Clauses
 anywhere_clauses first a b unless =
-    differ_clauses (flip (yes first) ∷ yes (first + 1) ∷ []) (flip (yes first) ∷ flip (yes (first + 1)) ∷ []) a.x b.x
-    unless
-    ++ differ_clauses (yes first ∷ yes (first + 1) ∷ []) (yes first ∷ flip (yes (first + 1)) ∷ []) a.y b.y unless
+    apart_rows_clauses (first + 1) (yes first) a.x b.x unless
+    ++ apart_rows_clauses (first + 1) (flip (yes first)) a.y b.y unless
 
 abbrev pub apart_size : Ordering → ℕ
 apart_size Less = 2
@@ -130,12 +130,12 @@ apart_size Greater = 2
 abbrev pub is_end : Graph → ℕ → ℕ → Bool
 is_end g e n = nat_eq (edge g e).west n || nat_eq (edge g e).east n
 
--- in a column of e: it isn't that of e's west node, where this is an end of f too; the same of the east node
-abbrev pub off_west : Bool → IntVars → ℕ → LitOrTruth
-off_west shares x c = cond shares (flip (int_at_least x c)) True
+-- in a column of e: it is that of e's west node, which is an end of f too; the same of the east node
+abbrev pub at_west : Bool → IntVars → ℕ → LitOrTruth
+at_west shares x c = cond shares (int_at_least x c) False
 
-abbrev pub off_east : Bool → IntVars → ℕ → LitOrTruth
-off_east shares x c = cond shares (int_at_least x (c + 1)) True
+abbrev pub at_east : Bool → IntVars → ℕ → LitOrTruth
+at_east shares x c = cond shares (flip (int_at_least x (c + 1))) False
 
 -- an edge's variables, its nodes' columns, and which of its nodes are ends of the other edge
 pub record SharingEdge : Type 0 where
@@ -148,14 +148,13 @@ pub record SharingEdge : Type 0 where
 abbrev pub higher : EdgeLits → IntVars → IntVars → Bool → Bool → SharingEdge
 higher e w z sw se = record { edge = e; west = w; east = z; shares_west = sw; shares_east = se }
 
--- both lines have the column, it isn't that of a node that both edges have, and the guard isn't true
-abbrev pub higher_premises : SharingEdge → EdgeLits → LitOrTruth → ℕ → List LitOrTruth
-higher_premises e f guard c =
-    yes (e.edge.inside c) ∷ yes (f.inside c) ∷ off_west e.shares_west e.west c ∷ off_east e.shares_east e.east c
-    ∷ flip guard ∷ []
+abbrev pub higher_guards : SharingEdge → EdgeLits → LitOrTruth → ℕ → Guards
+higher_guards e f guard c =
+    guards (flip (yes (e.edge.inside c))) (flip (yes (f.inside c))) (at_west e.shares_west e.west c)
+    (at_east e.shares_east e.east c) guard
 
 abbrev pub higher_column : SharingEdge → EdgeLits → LitOrTruth → List Literal → ℕ → Clauses
-higher_column e f guard unless c = order_clauses (f.height c) (e.edge.height c) 1 (higher_premises e f guard c) unless
+higher_column e f guard unless c = guarded_order (f.height c) (e.edge.height c) 1 (higher_guards e f guard c) unless
 
 abbrev pub higher_clauses : SharingEdge → EdgeLits → ℕ → LitOrTruth → List Literal → Clauses
 higher_clauses e f width guard unless = each (higher_column e f guard unless) 0 (width + 1)
@@ -165,13 +164,19 @@ abbrev pub either_clauses : SharingEdge → SharingEdge → ℕ → ℕ → List
 either_clauses e f width greater unless =
     higher_clauses e f.edge width (flip (yes greater)) unless ++ higher_clauses f e.edge width (yes greater) unless
 
+abbrev pub shared_west : Graph → DrawingVars → ℕ → ℕ → ℕ → LitOrTruth
+shared_west g x e f c = at_west (is_end g f (edge g e).west) (x.node (edge g e).west).x c
+
+abbrev pub shared_east : Graph → DrawingVars → ℕ → ℕ → ℕ → LitOrTruth
+shared_east g x e f c = at_east (is_end g f (edge g e).east) (x.node (edge g e).east).x c
+
 abbrev pub higher_of : Graph → DrawingVars → ℕ → ℕ → SharingEdge
 higher_of g x e f =
     higher (x.edge e) (x.node (edge g e).west).x (x.node (edge g e).east).x (is_end g f (edge g e).west)
     (is_end g f (edge g e).east)
 
-abbrev pub over_premises : Graph → DrawingVars → ℕ → ℕ → LitOrTruth → ℕ → List LitOrTruth
-over_premises g x e f guard c = higher_premises (higher_of g x e f) (x.edge f) guard c
+abbrev pub over_guards : Graph → DrawingVars → ℕ → ℕ → LitOrTruth → ℕ → Guards
+over_guards g x e f guard c = higher_guards (higher_of g x e f) (x.edge f) guard c
 
 abbrev pub over_column : Graph → DrawingVars → ℕ → ℕ → LitOrTruth → List Literal → ℕ → Clauses
 over_column g x e f guard unless c = higher_column (higher_of g x e f) (x.edge f) guard unless c

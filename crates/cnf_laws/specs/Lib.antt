@@ -1,4 +1,4 @@
-pub mod Orders
+pub mod Guards
 pub mod Stands
 pub mod Rank
 pub mod LawClauses

@@ -1,19 +1,32 @@
 // Law 4: slopes at a node.
 ghost use Rattle.std.specs.Prelude.{◌≡◌, ◌≤◌, ◌+◌, length};
 ghost use Rattle.cnf_core.specs.declared.limits.TheConstants.{VARS};
+ghost use Rattle.cnf_core.specs.declared.literal.LitOrTruth.TheVariants.{False};
 ghost use Rattle.cnf_core.specs.Clause.{AreThere};
 ghost use Rattle.cnf_core.specs.LitOrTruth.{yes, flip};
 ghost use Rattle.cnf_core.specs.Added.{AddsClauses};
 ghost use Rattle.edge_shape.specs.EdgeVars.{edge_size, lits_of, EdgeIsPlaced};
-ghost use Rattle.edge_shape.specs.Rules.{unless_rules};
+ghost use Rattle.cnf_laws.specs.Guards.{pair_clauses, unless_rules, PairsWithin};
 ghost use Rattle.cnf_laws.specs.Stands.{end_slope};
 ghost use Rattle.cnf_laws.specs.LawClauses.{flat_rules, same_rules, one_more_rules, greater_rules, diverge_rules};
 ghost use Rattle.cnf_laws.specs.LawClauses.{switch_rules, falling_rules, crossing_rules};
 ghost use Rattle.cnf_laws.specs.Parties.{slope_of};
 
 use cnf_core::{CnfFault, Formula, Lit, LitOrTruth};
-use edge_shape::{EdgeVars, add_rules_unless, rule};
+use edge_shape::EdgeVars;
 use plan_core::{Compass, Side};
+
+/// Adds the clauses of these lists, which hold unless one of the literals is true.
+fn add_pairs(f: &mut Formula, lists: &[[LitOrTruth; 2]], unless: &[Lit]) -> Result<(), CnfFault>
+    requires within { PairsWithin f.old.vars lists.now }
+    requires unless { AreThere f.old.vars unless.now }
+    ensures { AddsClauses result f.old f.new (pair_clauses unless.now lists.now) (length unless.now + 2) }
+{
+    for list in lists {
+        f.add_clause(unless, list)?;
+    }
+    Ok(())
+}
 
 /// The west or the east end of an edge.
 #[derive(Clone, Copy)]
@@ -46,6 +59,8 @@ fn falls(e: &EndOf) -> LitOrTruth
     }
 }
 
+const NO: LitOrTruth = LitOrTruth::False;
+
 /// The line is level at this end.
 pub(crate) fn add_flat(f: &mut Formula, a: &EndOf, unless: &[Lit]) -> Result<(), CnfFault>
     requires a_there { a.now.edge.now.first + edge_size a.now.edge.now.high a.now.edge.now.width ≤ f.old.vars + 1 }
@@ -53,7 +68,11 @@ pub(crate) fn add_flat(f: &mut Formula, a: &EndOf, unless: &[Lit]) -> Result<(),
     ensures { AddsClauses result f.old f.new
         (unless_rules unless.now (flat_rules (slope_of a.now))) (length unless.now + 2) }
 {
-    add_rules_unless(f, unless, &[rule(&[rises(a)], &[]), rule(&[falls(a)], &[])])
+    add_pairs(
+        f,
+        &[[rises(a).negated(), NO], [falls(a).negated(), NO]],
+        unless,
+    )
 }
 
 /// Two ends have one slope.
@@ -71,15 +90,15 @@ pub(crate) fn add_same(
         (same_rules (slope_of a.now) (slope_of b.now)))
         (length unless.now + 2) }
 {
-    add_rules_unless(
+    add_pairs(
         f,
-        unless,
         &[
-            rule(&[rises(a)], &[rises(b)]),
-            rule(&[rises(b)], &[rises(a)]),
-            rule(&[falls(a)], &[falls(b)]),
-            rule(&[falls(b)], &[falls(a)]),
+            [rises(a).negated(), rises(b)],
+            [rises(b).negated(), rises(a)],
+            [falls(a).negated(), falls(b)],
+            [falls(b).negated(), falls(a)],
         ],
+        unless,
     )
 }
 
@@ -94,15 +113,15 @@ fn add_one_more(f: &mut Formula, a: &EndOf, b: &EndOf, unless: &[Lit]) -> Result
         (slope_of b.now)))
         (length unless.now + 2) }
 {
-    add_rules_unless(
+    add_pairs(
         f,
-        unless,
         &[
-            rule(&[rises(a)], &[]),
-            rule(&[falls(b)], &[]),
-            rule(&[], &[falls(a), rises(b)]),
-            rule(&[falls(a), rises(b)], &[]),
+            [rises(a).negated(), NO],
+            [falls(b).negated(), NO],
+            [falls(a), rises(b)],
+            [falls(a).negated(), rises(b).negated()],
         ],
+        unless,
     )
 }
 
@@ -116,14 +135,14 @@ fn add_greater(f: &mut Formula, a: &EndOf, b: &EndOf, unless: &[Lit]) -> Result<
         (greater_rules (slope_of a.now) (slope_of b.now)))
         (length unless.now + 2) }
 {
-    add_rules_unless(
+    add_pairs(
         f,
-        unless,
         &[
-            rule(&[falls(b)], &[]),
-            rule(&[rises(a)], &[]),
-            rule(&[], &[rises(b), falls(a)]),
+            [falls(b).negated(), NO],
+            [rises(a).negated(), NO],
+            [rises(b), falls(a)],
         ],
+        unless,
     )
 }
 

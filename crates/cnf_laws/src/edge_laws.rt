@@ -8,7 +8,7 @@ ghost use Rattle.plan_core.specs.Lawful.{Aligned, Over, Parted};
 ghost use Rattle.port_graph.specs.Plain.{plain_ports};
 ghost use Rattle.track_order.specs.Order.{is_above, is_overlap};
 ghost use Rattle.edge_shape.specs.EdgeVars.{edge_spot, edge_size, lits_of, EdgeIsPlaced};
-ghost use Rattle.edge_shape.specs.Rules.{unless_rules};
+ghost use Rattle.cnf_laws.specs.Guards.{unless_rules};
 ghost use Rattle.cnf_laws.specs.Stands.{slope_vars};
 ghost use Rattle.cnf_laws.specs.LawClauses.{flat_rules, same_rules, switch_rules, crossing_rules, aligned_clauses};
 ghost use Rattle.cnf_laws.specs.LawClauses.{over_clauses, parted_clauses};

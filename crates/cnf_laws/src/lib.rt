@@ -9,14 +9,15 @@
 //! on a grid.
 //!
 //! `specs/Expected` is the clause list, as one definition that computes, with `Sound` and `Covers`. `specs/Stands`
-//! says when an assignment means a drawing. `specs/LawClauses` has the clauses of each law, `specs/Orders` the order
-//! with premises that four of them share. `specs/WithoutLeast` is the clause list without a least length.
+//! says when an assignment means a drawing. `specs/LawClauses` has the clauses of each law, `specs/Guards` the order
+//! with guards that four of them share. `specs/WithoutLeast` is the clause list without a least length.
 //!
 //! The crate uses `edge_shape`, `port_graph` and `track_order`. `drawing_cnf` uses it and hands its calls on.
 #![tactic(auto)]
 
 mod aligned;
 mod edge_laws;
+mod guards;
 mod node_laws;
 mod nodes;
 mod one_law;
@@ -26,8 +27,9 @@ mod rank;
 mod whole;
 
 pub use edge_laws::{edge_vars, is_settled};
+pub use guards::same;
 pub use nodes::add_base;
 pub use one_law::{add_aligned_law, add_apart_law, add_ordered_law, add_over_law, add_parted_law};
-pub use order::{same, yes_var};
+pub use order::yes_var;
 pub use rank::node_vars;
 pub use whole::fill;

@@ -1,20 +1,25 @@
 // Laws 2 and 5: nodes in order, and nodes apart.
-ghost use Rattle.std.specs.Prelude.{◌≡◌, ◌≤◌, ◌<◌, ℕ, ◌+◌, ◌-◌, [], ◌∷◌, ◌++◌, length};
+ghost use Rattle.std.specs.Prelude.{◌≡◌, ◌≤◌, ◌+◌, ◌++◌, length};
 ghost use Rattle.cnf_core.specs.declared.limits.TheConstants.{VARS};
-ghost use Rattle.cnf_core.specs.Clause.{AreThere};
-ghost use Rattle.cnf_core.specs.LitOrTruth.{yes, flip, AreWithin};
+ghost use Rattle.cnf_core.specs.Clause.{AreThere, IsThere};
+ghost use Rattle.cnf_core.specs.declared.literal.LitOrTruth.TheVariants.{False};
+ghost use Rattle.cnf_core.specs.Lit.{positive_of};
+ghost use Rattle.cnf_core.specs.LitOrTruth.{yes, flip, IsWithin};
 ghost use Rattle.cnf_core.specs.Added.{AddsClauses, AddsBlock};
 ghost use Rattle.order_int.specs.IntVars.{IntIsThere};
 ghost use Rattle.edge_shape.specs.EdgeVars.{node_ints};
-ghost use Rattle.cnf_laws.specs.Orders.{order_clause, order_clauses};
-ghost use Rattle.cnf_laws.specs.LawClauses.{ordered_clauses, differ_clauses, west_clauses, anywhere_clauses};
+ghost use Rattle.cnf_laws.specs.Guards.{no_guards, one_guard, two_guards, guarded_order};
+ghost use Rattle.cnf_laws.specs.LawClauses.{ordered_clauses, apart_rows_clauses, west_clauses, anywhere_clauses};
 ghost use Rattle.cnf_laws.specs.LawClauses.{apart_clauses};
 ghost use Rattle.cnf_laws.specs.LawClauses.{apart_size};
 
+use crate::guards::{Guards, add_guarded, same};
 use cnf_core::{CnfFault, Formula, Lit, LitOrTruth, Var};
 use edge_shape::NodeVars;
 use order_int::OrderInt;
 use std::cmp::Ordering;
+
+const NO: LitOrTruth = LitOrTruth::False;
 
 /// A variable, made true.
 pub fn yes_var(x: u32) -> LitOrTruth
@@ -25,61 +30,22 @@ pub fn yes_var(x: u32) -> LitOrTruth
     LitOrTruth::Lit(Lit::new(Var(x), true))
 }
 
-/// The same literal or truth value.
-pub fn same(t: &LitOrTruth) -> LitOrTruth
-    ensures { result ≡ t.now }
-{
-    *t
-}
-
-/// One of unless is true, or where all premises are, a is less than k or b at least k + plus.
-fn add_order_clause(
-    f: &mut Formula,
-    a: &OrderInt,
-    b: &OrderInt,
-    plus: u32,
-    premises: &[LitOrTruth],
-    unless: &[Lit],
-    k: u32,
-) -> Result<(), CnfFault>
+/// One of unless is true, or a is at most b.
+fn add_below(f: &mut Formula, a: &OrderInt, b: &OrderInt, unless: &[Lit]) -> Result<(), CnfFault>
     requires a { IntIsThere f.old.vars a.now }
     requires b { IntIsThere f.old.vars b.now }
-    requires premises { AreWithin f.old.vars premises.now }
     requires unless { AreThere f.old.vars unless.now }
-    requires plus { plus ≤ 65535 }
-    requires k { k ≤ 65536 }
-    ensures { AddsClauses result f.old f.new (order_clause a.now b.now plus premises.now unless.now k)
-        (length unless.now + (length premises.now + 2)) }
+    ensures { AddsClauses result f.old f.new (guarded_order a.now b.now 0 no_guards unless.now)
+        (length unless.now + 7) }
 {
-    f.add_rule(
-        unless,
-        premises,
-        &[a.at_least(k).negated(), b.at_least(k + plus)],
-    )
-}
-
-/// One of unless is true, or where all premises are, a + plus is at most b.
-pub(crate) fn add_order(
-    f: &mut Formula,
-    a: &OrderInt,
-    b: &OrderInt,
-    plus: u32,
-    premises: &[LitOrTruth],
-    unless: &[Lit],
-) -> Result<(), CnfFault>
-    requires a { IntIsThere f.old.vars a.now }
-    requires b { IntIsThere f.old.vars b.now }
-    requires premises { AreWithin f.old.vars premises.now }
-    requires unless { AreThere f.old.vars unless.now }
-    requires plus { plus ≤ 65535 }
-    ensures { AddsClauses result f.old f.new (order_clauses a.now b.now plus premises.now unless.now)
-        (length unless.now + (length premises.now + 2)) }
-{
-    let end = a.low + (a.high - a.low + 1);
-    for k in a.low..end {
-        add_order_clause(f, a, b, plus, premises, unless, k)?;
-    }
-    Ok(())
+    let g = Guards {
+        first: NO,
+        second: NO,
+        third: NO,
+        fourth: NO,
+        fifth: NO,
+    };
+    add_guarded(f, a, b, 0, &g, unless)
 }
 
 /// Both, so a is b.
@@ -88,15 +54,14 @@ fn add_equal(f: &mut Formula, a: &OrderInt, b: &OrderInt, unless: &[Lit]) -> Res
     requires b { IntIsThere f.old.vars b.now }
     requires unless { AreThere f.old.vars unless.now }
     ensures { AddsClauses result f.old f.new
-        (order_clauses a.now b.now 0 [] unless.now ++ order_clauses b.now a.now 0 [] unless.now)
-        (length unless.now + 2) }
+        (guarded_order a.now b.now 0 no_guards unless.now ++ guarded_order b.now a.now 0 no_guards unless.now)
+        (length unless.now + 7) }
 {
-    add_order(f, a, b, 0, &[], unless)?;
-    add_order(f, b, a, 0, &[], unless)
+    add_below(f, a, b, unless)?;
+    add_below(f, b, a, unless)
 }
 
 /// Law 2 for two nodes, by how their mileages compare.
-#[tactic(auto, using(cnf_core::proofs::StepLemmas::adds_longer))]
 pub(crate) fn add_ordered(
     f: &mut Formula,
     order: Ordering,
@@ -110,31 +75,59 @@ pub(crate) fn add_ordered(
     ensures { AddsClauses result f.old f.new (ordered_clauses order u.now v.now unless.now) (length unless.now + 7) }
 {
     match order {
-        Ordering::Less => add_order(f, u, v, 0, &[], unless),
+        Ordering::Less => add_below(f, u, v, unless),
         Ordering::Equal => add_equal(f, u, v, unless),
-        Ordering::Greater => add_order(f, v, u, 0, &[], unless),
+        Ordering::Greater => add_below(f, v, u, unless),
     }
 }
 
-/// Where all of `less` are true, a is less than b, and where all of `more` are, b is less than a.
-fn add_differ(
+/// Where neither of the two guards is true, a is below b.
+fn add_lower(
     f: &mut Formula,
-    less: &[LitOrTruth],
-    more: &[LitOrTruth],
+    a: &OrderInt,
+    b: &OrderInt,
+    first: LitOrTruth,
+    second: LitOrTruth,
+    unless: &[Lit],
+) -> Result<(), CnfFault>
+    requires a { IntIsThere f.old.vars a.now }
+    requires b { IntIsThere f.old.vars b.now }
+    requires first { IsWithin f.old.vars first }
+    requires second { IsWithin f.old.vars second }
+    requires unless { AreThere f.old.vars unless.now }
+    ensures { AddsClauses result f.old f.new (guarded_order a.now b.now 1 (two_guards first second) unless.now)
+        (length unless.now + 7) }
+{
+    let g = Guards {
+        first,
+        second,
+        third: NO,
+        fourth: NO,
+        fifth: NO,
+    };
+    add_guarded(f, a, b, 1, &g, unless)
+}
+
+/// Where the guard isn't true, a and b differ: `below` says which is the lower.
+fn add_rows(
+    f: &mut Formula,
+    below: u32,
+    guard: &LitOrTruth,
     a: &OrderInt,
     b: &OrderInt,
     unless: &[Lit],
 ) -> Result<(), CnfFault>
-    requires less { AreWithin f.old.vars less.now }
-    requires more { AreWithin f.old.vars more.now }
+    requires limit { f.old.vars ≤ VARS }
+    requires below { IsThere f.old.vars (positive_of below) }
+    requires guard { IsWithin f.old.vars guard.now }
     requires a { IntIsThere f.old.vars a.now }
     requires b { IntIsThere f.old.vars b.now }
     requires unless { AreThere f.old.vars unless.now }
-    ensures { AddsClauses result f.old f.new (differ_clauses less.now more.now a.now b.now unless.now)
-        (length unless.now + (length less.now + length more.now + 2)) }
+    ensures { AddsClauses result f.old f.new (apart_rows_clauses below guard.now a.now b.now unless.now)
+        (length unless.now + 7) }
 {
-    add_order(f, a, b, 1, less, unless)?;
-    add_order(f, b, a, 1, more, unless)
+    add_lower(f, a, b, same(guard), yes_var(below).negated(), unless)?;
+    add_lower(f, b, a, same(guard), yes_var(below), unless)
 }
 
 /// Where the first isn't west of the second, which `first` says, one is lower than the other.
@@ -157,16 +150,8 @@ fn add_west(
         (west_clauses first (node_ints a.now.x a.now.y) (node_ints b.now.x b.now.y) unless.now)
         (length unless.now + 7) }
 {
-    let (east, below) = (yes_var(first), yes_var(first + 1));
-    add_order(f, &a.x, &b.x, 1, &[east.negated()], unless)?;
-    add_differ(
-        f,
-        &[east, below],
-        &[east, below.negated()],
-        &a.y,
-        &b.y,
-        unless,
-    )
+    add_lower(f, &a.x, &b.x, yes_var(first), NO, unless)?;
+    add_rows(f, first + 1, &yes_var(first).negated(), &a.y, &b.y, unless)
 }
 
 /// Law 5 for two nodes of different mileages, the one of smaller mileage first.
@@ -210,23 +195,8 @@ fn add_either_way(
         (anywhere_clauses equal (node_ints a.now.x a.now.y) (node_ints b.now.x b.now.y) unless.now)
         (length unless.now + 7) }
 {
-    let (alike, less) = (yes_var(equal), yes_var(equal + 1));
-    add_differ(
-        f,
-        &[alike.negated(), less],
-        &[alike.negated(), less.negated()],
-        &a.x,
-        &b.x,
-        unless,
-    )?;
-    add_differ(
-        f,
-        &[alike, less],
-        &[alike, less.negated()],
-        &a.y,
-        &b.y,
-        unless,
-    )
+    add_rows(f, equal + 1, &yes_var(equal), &a.x, &b.x, unless)?;
+    add_rows(f, equal + 1, &yes_var(equal).negated(), &a.y, &b.y, unless)
 }
 
 /// Law 5 for two nodes that may lie in any order.
@@ -261,13 +231,11 @@ fn add_apart_rows(
     requires a { IntIsThere f.old.vars a.now }
     requires b { IntIsThere f.old.vars b.now }
     requires unless { AreThere f.old.vars unless.now }
-    ensures { AddsBlock result f.old f.new 1
-        (differ_clauses (yes (f.old.vars + 1) ∷ []) (flip (yes (f.old.vars + 1)) ∷ []) a.now b.now unless.now)
+    ensures { AddsBlock result f.old f.new 1 (apart_rows_clauses (f.old.vars + 1) False a.now b.now unless.now)
         (length unless.now + 7) }
 {
     let first = f.new_vars(1)?;
-    let less = yes_var(first.0);
-    add_differ(f, &[less], &[less.negated()], a, b, unless)
+    add_rows(f, first.0, &NO, a, b, unless)
 }
 
 /// Law 5 for two nodes, by how their mileages compare.

@@ -2,6 +2,7 @@
 ghost use Rattle.std.specs.Prelude.{◌≡◌, ◌≤◌, ◌+◌, length};
 ghost use Rattle.plan_core.specs.declared.limits.TheConstants.{MAX_WIDTH};
 ghost use Rattle.cnf_core.specs.declared.limits.TheConstants.{VARS};
+ghost use Rattle.cnf_core.specs.declared.literal.LitOrTruth.TheVariants.{False};
 ghost use Rattle.cnf_core.specs.Clause.{AreThere, IsThere};
 ghost use Rattle.cnf_core.specs.Lit.{positive_of};
 ghost use Rattle.cnf_core.specs.LitOrTruth.{IsWithin};
@@ -9,35 +10,34 @@ ghost use Rattle.cnf_core.specs.Added.{AddsClauses, AddsBlock};
 ghost use Rattle.order_int.specs.IntVars.{IntIsThere};
 ghost use Rattle.order_int.specs.OrderInt.{int_at_least};
 ghost use Rattle.edge_shape.specs.EdgeVars.{edge_size, lits_of};
-ghost use Rattle.cnf_laws.specs.LawClauses.{off_west as off_west_of, off_east as off_east_of, higher_column};
+ghost use Rattle.cnf_laws.specs.LawClauses.{at_west as at_west_of, at_east as at_east_of, higher_column};
 ghost use Rattle.cnf_laws.specs.LawClauses.{higher_clauses, either_clauses};
 ghost use Rattle.cnf_laws.specs.Parties.{sharing_of};
 
-use crate::order::{add_order, yes_var};
+use crate::guards::{Guards, add_guarded, same};
+use crate::order::yes_var;
 use cnf_core::{CnfFault, Formula, Lit, LitOrTruth};
 use edge_shape::EdgeVars;
 use order_int::OrderInt;
 
-/// In a column of the line: it isn't that of the west node, if the other edge has this node.
-fn off_west(shares: bool, x: &OrderInt, c: u32) -> LitOrTruth
-    ensures { result ≡ off_west_of shares x.now c }
+const NO: LitOrTruth = LitOrTruth::False;
+
+/// In a column of the line: it is that of the west node, if the other edge has this node.
+fn at_west(shares: bool, x: &OrderInt, c: u32) -> LitOrTruth
+    ensures { result ≡ at_west_of shares x.now c }
 {
-    if shares {
-        x.at_least(c).negated()
-    } else {
-        LitOrTruth::True
-    }
+    if shares { x.at_least(c) } else { NO }
 }
 
-/// In a column of the line: it isn't that of the east node, if the other edge has this node.
-fn off_east(shares: bool, x: &OrderInt, c: u32) -> LitOrTruth
+/// In a column of the line: it is that of the east node, if the other edge has this node.
+fn at_east(shares: bool, x: &OrderInt, c: u32) -> LitOrTruth
     requires { c ≤ 65535 }
-    ensures { result ≡ off_east_of shares x.now c }
+    ensures { result ≡ at_east_of shares x.now c }
 {
     if shares {
-        x.at_least(c + 1)
+        x.at_least(c + 1).negated()
     } else {
-        LitOrTruth::True
+        NO
     }
 }
 
@@ -51,8 +51,7 @@ pub(crate) struct SharingEdge<'a> {
     pub shares_east: bool,
 }
 
-/// The first line is over the second at the column, where both have it, unless it is that of a node which both edges
-/// have, or the guard is true.
+/// Where no guard is true, the first line is over the second at the column.
 fn add_over_column(
     f: &mut Formula,
     e: &SharingEdge,
@@ -72,20 +71,16 @@ fn add_over_column(
     ensures { AddsClauses result f.old f.new
         (higher_column (sharing_of e.now) (lits_of g.now) guard.now unless.now c) (length unless.now + 7) }
 {
-    add_order(
-        f,
-        &g.height(c),
-        &e.edge.height(c),
-        1,
-        &[
-            e.edge.in_range(c),
-            g.in_range(c),
-            off_west(e.shares_west, e.west, u32::from(c)),
-            off_east(e.shares_east, e.east, u32::from(c)),
-            guard.negated(),
-        ],
-        unless,
-    )
+    let guards = Guards {
+        first: e.edge.in_range(c).negated(),
+        second: g.in_range(c).negated(),
+        third: at_west(e.shares_west, e.west, u32::from(c)),
+        fourth: at_east(e.shares_east, e.east, u32::from(c)),
+        fifth: same(guard),
+    };
+    let low = g.height(c);
+    let high = e.edge.height(c);
+    add_guarded(f, &low, &high, 1, &guards, unless)
 }
 
 /// Law 6: the first line is over the second, unless the guard is true.

@@ -1,6 +1,6 @@
 -- Bounds by sums: a variable is as a literal, the sum's variables tell a value, and the edges from west to east are all edges.
-use Rattle.std.proofs.Common.{◌≡◌, ◌⊎◌, ℕ, zero, suc, ◌+◌, ◌-◌, ◌≤◌, ◌<◌, Bool, true, false, not, List, [], ◌∷◌, ◌++◌, length, get_or, inl, inr, refl, sym, ◌∙◌}
-use Rattle.std.proofs.Common.{ap, arith}
+use Rattle.std.proofs.Common.{◌≡◌, ◌⊎◌, ℕ, zero, suc, ◌+◌, ◌-◌, ◌≤◌, ◌<◌, Bool, true, false, not, List, [], ◌∷◌, length, get_or, inl, inr, refl, sym, ◌∙◌, ap}
+use Rattle.std.proofs.Common.{arith}
 use Rattle.std.specs.Prelude.{nat_le, All}
 use Rattle.std.specs.List.{sum_by, range_with_len, insert}
 use Rattle.std.proofs.lemmas.List.Sums.{sum_by-cons}
@@ -22,20 +22,7 @@ use Rattle.unary_sum.proofs.JoinLemmas.{at_within}
 use Rattle.unary_sum.proofs.SumLemmas.{sum_means, sum_extends, sum_there, top_there, tree_there}
 use Rattle.edge_shape.proofs.RunLemmas.{one_if}
 use Rattle.drawing_cnf.specs.Bounds.{IsExact, same_as, sum_bound, not_east, first_edges, west_first}
-use Rattle.cnf_laws.proofs.OrderLemmas.{Is}
-
--- one of two lists
-pub some_from : (v : Assignment) (ts us : List LitOrTruth) → SomeTrue v (ts ++ us) → SomeTrue v ts ⊎ SomeTrue v us
-some_from v [] us h = inr h
-some_from v (t ∷ ts) us (inl h) = inl (inl h)
-some_from v (t ∷ ts) us (inr h) = elim (some_from v ts us h) [ inl a ↦ inl (inr a) | inr a ↦ inr a ]
-
-pub some_to : (v : Assignment) (ts us : List LitOrTruth) → SomeTrue v ts ⊎ SomeTrue v us → SomeTrue v (ts ++ us)
-some_to v [] us (inl h) = absurd h
-some_to v [] us (inr h) = h
-some_to v (t ∷ ts) us (inl (inl h)) = inl h
-some_to v (t ∷ ts) us (inl (inr h)) = inr (some_to v ts us (inl h))
-some_to v (t ∷ ts) us (inr h) = inr (some_to v ts us (inr h))
+use Rattle.cnf_laws.proofs.GuardLemmas.{Is}
 
 -- a variable that is as a literal
 same_case : (b t : Bool) → (not b ≡ true) ⊎ (t ≡ true) → (not t ≡ true) ⊎ (b ≡ true) → b ≡ t

@@ -31,10 +31,11 @@ use Rattle.edge_shape.specs.EdgeVars.{EdgeLits}
 use Rattle.cnf_laws.specs.Stands.{DrawingVars, IsJoinedOnGrid}
 use Rattle.drawing_cnf.specs.Bounds.{IsExact, step_lits, steps_sum, gives_output, steps_beside, edge_steps, edges_steps, edges_outputs, edges_count, edge_most}
 use Rattle.drawing_cnf.specs.Bounds.{sum_bound, diagonal_sum, diagonal_bound, diagonal_bound_size}
+use Rattle.cnf_laws.proofs.GuardLemmas.{some_to}
 use Rattle.cnf_laws.proofs.OverLemmas.{Read}
 use Rattle.cnf_laws.proofs.ThereLemmas.{AreVars, EdgeThere, vars_more}
 use Rattle.cnf_laws.proofs.InstanceLemmas.{read_stays}
-use Rattle.drawing_cnf.proofs.BoundLemmas.{some_to, set_bound, sum_bound_means, sum_bound_extends, sum_bound_there, output_within, AreEdges, sum_over_lines}
+use Rattle.drawing_cnf.proofs.BoundLemmas.{set_bound, sum_bound_means, sum_bound_extends, sum_bound_there, output_within, AreEdges, sum_over_lines}
 use Rattle.drawing_cnf.proofs.BendsBound.{line_bends}
 use Rattle.drawing_cnf.proofs.DiagonalLines.{west_diagonal, east_diagonal, bent_diagonal, low_diagonal, count_steps}
 

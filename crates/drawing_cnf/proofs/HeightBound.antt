@@ -39,11 +39,11 @@ use Rattle.edge_shape.proofs.LineHeights.{height_behind}
 use Rattle.cnf_laws.specs.Stands.{DrawingVars, IsJoinedOnGrid}
 use Rattle.drawing_cnf.specs.Bounds.{IsExact, column_heights, all_heights, some_height_clause, height_gives, height_beside, edge_height_gives, height_at}
 use Rattle.drawing_cnf.specs.Bounds.{height_bound}
-use Rattle.cnf_laws.proofs.OrderLemmas.{Is}
+use Rattle.cnf_laws.proofs.GuardLemmas.{Is, some_from, some_to}
 use Rattle.cnf_laws.proofs.OverLemmas.{Read}
 use Rattle.cnf_laws.proofs.ThereLemmas.{AreVars, EdgeThere, vars_more}
 use Rattle.cnf_laws.proofs.InstanceLemmas.{drawing_stays}
-use Rattle.drawing_cnf.proofs.BoundLemmas.{some_from, some_to, either_of, set_bound}
+use Rattle.drawing_cnf.proofs.BoundLemmas.{either_of, set_bound}
 
 abbrev pub height_of : Drawing → ℕ
 height_of d = maximum (map (λ (p : Point). p.y) (all_points d))

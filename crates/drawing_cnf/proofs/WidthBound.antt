@@ -26,11 +26,11 @@ use Rattle.order_int.proofs.IntLemmas.{at_least_within}
 use Rattle.edge_shape.proofs.GridLemmas.{heights_on_grid}
 use Rattle.cnf_laws.specs.Stands.{DrawingVars, IsJoinedOnGrid}
 use Rattle.drawing_cnf.specs.Bounds.{IsExact, node_columns, some_column_clause, column_gives, width_at, width_bound}
-use Rattle.cnf_laws.proofs.OrderLemmas.{Is}
+use Rattle.cnf_laws.proofs.GuardLemmas.{Is, some_to}
 use Rattle.cnf_laws.proofs.OverLemmas.{Read}
 use Rattle.cnf_laws.proofs.ThereLemmas.{AreVars, vars_more}
 use Rattle.cnf_laws.proofs.InstanceLemmas.{read_stays}
-use Rattle.drawing_cnf.proofs.BoundLemmas.{some_to, either_of, set_bound}
+use Rattle.drawing_cnf.proofs.BoundLemmas.{either_of, set_bound}
 use Rattle.drawing_cnf.proofs.HeightBound.{off_or, both_within}
 
 abbrev pub width_of : Drawing → ℕ

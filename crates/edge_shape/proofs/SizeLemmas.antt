@@ -1,9 +1,8 @@
 -- Where the variables of the clauses lie, and how many words the clauses have.
 use Rattle.std.proofs.Common.{ℕ, ◌+◌, ◌-◌, ◌*◌, ◌≤◌, ◌<◌, List, [], ◌∷◌, ◌++◌, length, arith}
 use Rattle.std.specs.Prelude.{map}
-use Rattle.std.proofs.Math.Nat.{mul-le-mul_left}
 use Rattle.cnf_core.specs.Lit.{Literal}
-use Rattle.cnf_core.specs.Clause.{IsThere, AreThere, AllThere, words_of}
+use Rattle.cnf_core.specs.Clause.{IsThere, AllThere, words_of}
 use Rattle.cnf_core.specs.Formula.{each}
 use Rattle.cnf_core.specs.LitOrTruth.{flip}
 use Rattle.cnf_core.proofs.ClauseLemmas.{all_there_append, all_there_each, words_append}
@@ -12,44 +11,30 @@ use Rattle.order_int.specs.IntVars.{IntVars, IntIsThere}
 use Rattle.order_int.specs.OrderInt.{int_at_least, int_clauses, le_clauses, equal_clauses}
 use Rattle.order_int.proofs.IntLemmas.{int_there}
 use Rattle.order_int.proofs.OrderLemmas.{le_there, equal_there}
-use Rattle.edge_shape.specs.Rules.{Rule, AllWithin, rule_clause, unless_rules, rule_clauses, longest_rule}
+use Rattle.edge_shape.specs.Rules.{Rule, AllWithin, rule_clause, rule_clauses}
 use Rattle.edge_shape.specs.EdgeVars.{NodeInts, edge_lits, edge_size, IsSpot}
 use Rattle.edge_shape.specs.Edge.{near_clause, near_clauses, level_clauses, diagonal_clauses, rows_clauses, rise_clauses, step_rules, seen_rules, shape_rules}
 use Rattle.edge_shape.specs.Edge.{height_clauses, step_clauses, range_rules, end_rules, slope_rules, bend_rules, inner_rules, end_piece_rules, level_rules}
 use Rattle.edge_shape.specs.Edge.{beside_end_rules, end_clauses, column_clauses, whole_clauses, further_clauses, edge_clauses}
-use Rattle.edge_shape.proofs.RuleLemmas.{within_few}
 use Rattle.edge_shape.proofs.PlaceLemmas.{StepWithin, near_within, height_there, inside_there, column_there, step_literals, whole_literals, step_within}
 use Rattle.edge_shape.proofs.PlaceLemmas.{seen_within, shape_within, range_within, inner_within, through_within, end_within, slope_within, bend_within}
 use Rattle.edge_shape.proofs.PlaceLemmas.{level_within, edge_within}
 
-pub unless_rules_there : (vars : ℕ) (unless : List Literal) (rs : List Rule) → AreThere vars unless → AllWithin vars rs →
-    AllThere vars (unless_rules unless rs)
-unless_rules_there vars unless [] u h = tt
-unless_rules_there vars unless (r ∷ rs) u h = all_there_append vars (rule_clause unless r) (unless_rules unless rs)
-    (clause_there vars unless (map flip r.premises ++ r.conclusions) u (flips_within vars r.premises r.conclusions h.0.premises h.0.conclusions))
-    (unless_rules_there vars unless rs u h.1)
-
 pub rules_there : (vars : ℕ) (rs : List Rule) → AllWithin vars rs → AllThere vars (rule_clauses rs)
-rules_there vars rs h = unless_rules_there vars [] rs tt h
-
-pub unless_rules_words : (unless : List Literal) (rs : List Rule) → words_of (unless_rules unless rs) ≤ length rs * (length unless + longest_rule rs + 3)
-unless_rules_words unless [] = omega arith
-unless_rules_words unless (r ∷ rs) =
-    let one = clause_words unless (map flip r.premises ++ r.conclusions) in
-    let here = flips_length r.premises r.conclusions in
-    let both = words_append (rule_clause unless r) (unless_rules unless rs) in
-    let rest = unless_rules_words unless rs in
-    let more : length rs * (length unless + longest_rule rs + 3) ≤ length rs * (length unless + longest_rule (r ∷ rs) + 3) = mul-le-mul_left (length rs)
-    (omega arith) in
-    omega arith
+rules_there vars [] h = tt
+rules_there vars (r ∷ rs) h = all_there_append vars (rule_clause r) (rule_clauses rs) (clause_there vars [] (map flip r.premises ++ r.conclusions) tt
+    (flips_within vars r.premises r.conclusions h.0.premises h.0.conclusions)) (rules_there vars rs h.1)
 
 -- a clause of five literals has eight words
 pub rules_words : (vars : ℕ) (rs : List Rule) → AllWithin vars rs → words_of (rule_clauses rs) ≤ 8 * length rs
-rules_words vars rs h =
-    let few = within_few vars rs h in
-    let all = unless_rules_words [] rs in
-    let most : length rs * (longest_rule rs + 3) ≤ length rs * 8 = mul-le-mul_left (length rs) (omega arith) in
-    omega arith
+rules_words vars [] h = omega arith
+rules_words vars (r ∷ rs) h = let few = h.0.few in omega (
+  arith,
+  clause_words [] (map flip r.premises ++ r.conclusions),
+  flips_length r.premises r.conclusions,
+  words_append (rule_clause r) (rule_clauses rs),
+  rules_words vars rs h.1,
+)
 
 near_there : (vars high : ℕ) (a b : IntVars) → IntIsThere vars a → IntIsThere vars b → AllThere vars (near_clauses a b high)
 near_there vars high a b ta tb = all_there_each vars (near_clause a b) 1 (high - 1)

@@ -2,6 +2,5 @@
 use Rattle.edge_shape.specs.declared.rules.OneRule.{OneRule}
 use Rattle.edge_shape.specs.Rules.{Rule, rule}
 
--- the rule that a rule of the code stands for
 abbrev pub written : OneRule → Rule
 written r = rule r.premises.now r.conclusions.now

@@ -37,5 +37,4 @@ pub use line_laws::{
     a_line_is_a_track, a_track_is_a_line, bends_by_end_slopes, diagonal_by_steps,
     heights_determine_a_line, points_and_heights_on_the_grid,
 };
-pub use rules::{OneRule, add_rules_unless, rule};
 pub use tracing::trace;

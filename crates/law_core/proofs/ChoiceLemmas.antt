@@ -16,10 +16,10 @@ use Rattle.cnf_core.specs.Assignment.{Assignment, Satisfies, SatisfiesAll, Exten
 use Rattle.cnf_core.proofs.ClauseLemmas.{satisfies_left, satisfies_right, all_there_append}
 use Rattle.cnf_core.proofs.SettingLemmas.{patch, patch_same, patch_at, same_none, extends_both, extends_weaker, satisfies_before}
 use Rattle.drawing_cnf.specs.Stands.{DrawingVars, ReadsDrawing, IsJoinedOnGrid}
-use Rattle.drawing_cnf.specs.LawClauses.{differ_clauses, over_clauses}
+use Rattle.drawing_cnf.specs.LawClauses.{apart_rows_clauses, over_clauses}
 use Rattle.drawing_cnf.specs.Expected.{drawing_vars, laws_first}
 use Rattle.drawing_cnf.specs.OneLaw.{SaysLaw, AllowsLaw}
-use Rattle.drawing_cnf.proofs.ThereLemmas.{AreVars, vars_more, ordered_there, aligned_there, differ_there, over_there}
+use Rattle.drawing_cnf.proofs.ThereLemmas.{AreVars, vars_more, ordered_there, aligned_there, rows_there, over_there}
 use Rattle.drawing_cnf.proofs.InstanceLemmas.{drawing_stays}
 use Rattle.drawing_cnf.proofs.BaseLemmas.{base_last, base_vars}
 use Rattle.drawing_cnf.proofs.OneLaw.{ordered_says, ordered_allows, aligned_says, aligned_allows, anywhere_says, anywhere_allows, over_says, over_allows}
@@ -74,15 +74,12 @@ law_there vars g above x width (Apart p q) first unless is a at from to u =
     let rising = at.rising in
     let within = at.within in
     let lp : p < length g.nodes = omega arith in
-    let one : (1 ≤ first) × (first ≤ vars) = (from, omega arith) in
-    let two : (1 ≤ first + 1) × (first + 1 ≤ vars) = (omega arith, omega arith) in
-    let less = flip (yes first) ∷ yes (first + 1) ∷ [] in
-    let more = flip (yes first) ∷ flip (yes (first + 1)) ∷ [] in
-    let low = yes first ∷ yes (first + 1) ∷ [] in
-    let high = yes first ∷ flip (yes (first + 1)) ∷ [] in
-    all_there_append vars (differ_clauses less more (x.node p).x (x.node q).x unless) (differ_clauses low high (x.node p).y (x.node q).y unless)
-    (differ_there vars less more (x.node p).x (x.node q).x unless (one, (two, tt)) (one, (two, tt)) (a.node_x p lp) (a.node_x q within) u)
-    (differ_there vars low high (x.node p).y (x.node q).y unless (one, (two, tt)) (one, (two, tt)) (a.node_y p lp) (a.node_y q within) u)
+    all_there_append vars (apart_rows_clauses (first + 1) (yes first) (x.node p).x (x.node q).x unless)
+    (apart_rows_clauses (first + 1) (flip (yes first)) (x.node p).y (x.node q).y unless)
+    (rows_there vars (first + 1) (yes first) (x.node p).x (x.node q).x unless (a.node_x p lp) (a.node_x q within) (omega arith, omega arith) (from, omega arith)
+    u)
+    (rows_there vars (first + 1) (flip (yes first)) (x.node p).y (x.node q).y unless (a.node_y p lp) (a.node_y q within) (omega arith, omega arith)
+    (from, omega arith) u)
 law_there vars g above x width (Over e f) first unless is a at from to u = over_there vars g x width e f False unless is a at.first at.second tt u
 law_there vars g above x width (Parted e f) first unless is a at from to u =
     let rising = at.pair.rising in

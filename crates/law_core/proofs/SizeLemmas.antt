@@ -15,10 +15,10 @@ use Rattle.cnf_core.proofs.ClauseLemmas.{words_append}
 use Rattle.edge_shape.specs.EdgeVars.{edge_size}
 use Rattle.edge_shape.proofs.WordLemmas.{edge_vars_few}
 use Rattle.drawing_cnf.specs.Stands.{slope_vars}
-use Rattle.drawing_cnf.specs.LawClauses.{differ_clauses, over_clauses}
+use Rattle.drawing_cnf.specs.LawClauses.{apart_rows_clauses, over_clauses}
 use Rattle.drawing_cnf.specs.Expected.{drawing_vars, laws_first, base_clauses, instances_from, pairs_from, instance_pairs, edge_pair, instances, area}
 use Rattle.drawing_cnf.specs.Expected.{most_words, most_variables}
-use Rattle.drawing_cnf.proofs.LawWords.{ordered_words, differ_words}
+use Rattle.drawing_cnf.proofs.LawWords.{ordered_words, rows_words}
 use Rattle.drawing_cnf.proofs.FormulaWords.{ports_words, over_few, base_few, added}
 use Rattle.law_core.specs.Choices.{law_clauses, choice_size, choice_clauses, choices_size, choices_clauses, why_clauses, why_size}
 
@@ -50,13 +50,10 @@ law_few g grid (Aligned n) first s =
     omega (arith, ports_words (s ∷ []) (slope_vars g x n) (node g n).ports (omega arith))
 law_few g grid (Apart u v) first s =
     let x = drawing_vars g grid in
-    let less = flip (yes first) ∷ yes (first + 1) ∷ [] in
-    let more = flip (yes first) ∷ flip (yes (first + 1)) ∷ [] in
-    let low = yes first ∷ yes (first + 1) ∷ [] in
-    let high = yes first ∷ flip (yes (first + 1)) ∷ [] in
-    let columns = differ_words less more (x.node u).x (x.node v).x (s ∷ []) grid.width (omega arith) (omega arith) (omega arith) (omega arith) (omega arith) in
-    let rows = differ_words low high (x.node u).y (x.node v).y (s ∷ []) grid.height (omega arith) (omega arith) (omega arith) (omega arith) (omega arith) in
-    let both = words_append (differ_clauses less more (x.node u).x (x.node v).x (s ∷ [])) (differ_clauses low high (x.node u).y (x.node v).y (s ∷ [])) in
+    let columns = rows_words (first + 1) (yes first) (x.node u).x (x.node v).x (s ∷ []) grid.width (omega arith) (omega arith) (omega arith) in
+    let rows = rows_words (first + 1) (flip (yes first)) (x.node u).y (x.node v).y (s ∷ []) grid.height (omega arith) (omega arith) (omega arith) in
+    let both = words_append (apart_rows_clauses (first + 1) (yes first) (x.node u).x (x.node v).x (s ∷ []))
+    (apart_rows_clauses (first + 1) (flip (yes first)) (x.node u).y (x.node v).y (s ∷ [])) in
     omega arith
 law_few g grid (Over e f) first s = let few = over_few g grid e f False (s ∷ []) (omega arith) in omega arith
 law_few g grid (Parted e f) first s =

@@ -91,8 +91,7 @@ pub record IsOld (kept : CheckedFacts) (line : LogLine) : Type 0 where
   pub implied : IsImplied kept.facts.clauses line
   pub known : IsKnown kept.facts.clauses line
 
--- which answer a line gets, and what is kept after it; after want of memory no more is said than that the Refuted
--- lines are as before
+-- the one answer that is due, and what it leaves; after want of memory that is the Refuted lines
 abbrev pub IsAnswer : CheckedFacts → CheckedFacts → LogLine → Result Unit LineFault → Type 0
 IsAnswer old new line (Ok u) = Accepts old new line
 IsAnswer old new line (Err NewVar) = NamesNew old.facts line × (new ≡ old)

@@ -1,5 +1,4 @@
--- What trim answers, and with which bytes it may leave a file. Where check would end with other than 0 it answers as
--- check; else it writes hinted lines and counts them, or says that the log is too large to find hints in.
+-- What trim answers and leaves: what check answers, or hinted lines where that ends with 0.
 use Rattle.std.specs.Prelude.{◌≡◌, ◌≢◌, ◌⊎◌, ℕ, List, ◌++◌, Some}
 use Rattle.outside_io.specs.Contents.{WhereTold}
 use Rattle.plan_core.specs.Graph.{Graph}

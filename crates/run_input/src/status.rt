@@ -14,7 +14,7 @@ pub enum Status {
     /// No drawing is lawful.
     NoDrawing,
     /// The search for a drawing, or the check of a log or of hinted lines, stopped before its end: the budget is spent,
-    /// or there is no room. Or a log has more variables or words than hints are found in: `trim` prints `trim Room`.
+    /// or there is no room.
     Unfinished,
     /// A file couldn't be read.
     Unread,

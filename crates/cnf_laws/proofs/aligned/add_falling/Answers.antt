@@ -1,10 +1,10 @@
 use Rattle.std.proofs.Common.{rules, sym, ◌++◌}
 use Rattle.cnf_core.proofs.StepLemmas.{adds_refused, adds_after}
 use Rattle.edge_shape.specs.EdgeVars.{lits_of}
-use Rattle.edge_shape.specs.Rules.{unless_rules}
+use Rattle.cnf_laws.specs.Guards.{unless_rules}
 use Rattle.cnf_laws.specs.Stands.{end_slope}
 use Rattle.cnf_laws.specs.LawClauses.{same_rules, greater_rules}
-use Rattle.edge_shape.proofs.RuleLemmas.{rules_append}
+use Rattle.cnf_laws.proofs.PairCode.{rules_append}
 use Rattle.cnf_laws.proofs.CodeLemmas.{adds_same_clauses}
 use Rattle.cnf_laws.proofs.aligned.add_falling.Goals as goal
 

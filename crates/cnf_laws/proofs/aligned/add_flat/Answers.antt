@@ -1,22 +1,26 @@
-use Rattle.std.proofs.Common.{rules, arith, [], ◌∷◌}
+use Rattle.std.proofs.Common.{rules, ◌≡◌, List, [], ◌∷◌, subst}
 use Rattle.std.specs.Prelude.{map}
-use Rattle.edge_shape.specs.Written.{written}
-use Rattle.edge_shape.proofs.RuleCode.{adds_rules_as, within_as}
+use Rattle.cnf_core.specs.declared.literal.LitOrTruth.{LitOrTruth}
+use Rattle.cnf_core.specs.declared.literal.LitOrTruth.TheVariants.{False}
+use Rattle.edge_shape.specs.EdgeVars.{lits_of}
+use Rattle.cnf_laws.specs.Guards.{pair_literals, PairsWithin}
+use Rattle.cnf_laws.specs.Stands.{end_slope}
 use Rattle.cnf_laws.specs.LawClauses.{flat_rules}
-use Rattle.cnf_laws.specs.Parties.{slope_of}
-use Rattle.cnf_laws.proofs.ThereLemmas.{flat_within}
-use Rattle.cnf_laws.proofs.BaseLemmas.{slope_there_at}
+use Rattle.cnf_laws.proofs.ThereLemmas.{end_there, flat_within}
+use Rattle.cnf_laws.proofs.BaseLemmas.{edge_whole}
+use Rattle.cnf_laws.proofs.PairCode.{adds_pairs}
 use Rattle.cnf_laws.proofs.aligned.add_flat.Goals as goal
 
-pub add_rules_unless-requires-clause-within : goal.add_rules_unless-requires-clause-within
-add_rules_unless-requires-clause-within c =
+pub add_pairs-requires-clause-within : goal.add_pairs-requires-clause-within
+add_pairs-requires-clause-within c =
     let vars = c.args.f.now.vars in
-    let a = slope_of c.args.a.now in
-    within_as vars (flat_rules a) (map written (c.rule.result ∷ c.rule-2.result ∷ [])) (search rules)
-    (flat_within vars a (slope_there_at vars c.args.a.now c.rises.ensures.placed c.requires.a_there))
+    let a = end_slope c.args.a.now.west (lits_of c.args.a.now.edge.now) in
+    let e : map pair_literals (flat_rules a) ≡ (c.negated.result ∷ False ∷ []) ∷ (c.negated-2.result ∷ False ∷ []) ∷ [] = search rules in
+    subst (λ (l : List (List LitOrTruth)). PairsWithin vars l) e (flat_within vars a
+    (end_there vars (lits_of c.args.a.now.edge.now) c.args.a.now.west (edge_whole c.args.a.now.edge.now vars c.rises.ensures.placed c.requires.a_there)))
 
 pub returns : goal.returns
 returns c =
-    let a = slope_of c.args.a.now in
-    adds_rules_as c.add_rules_unless.result _ _ c.args.unless.now (flat_rules a)
-    (map written (c.rule.result ∷ c.rule-2.result ∷ [])) 2 (search rules) (omega arith) c.add_rules_unless.ensures
+    let a = end_slope c.args.a.now.west (lits_of c.args.a.now.edge.now) in
+    let e : map pair_literals (flat_rules a) ≡ (c.negated.result ∷ False ∷ []) ∷ (c.negated-2.result ∷ False ∷ []) ∷ [] = search rules in
+    adds_pairs c.add_pairs.result _ _ c.args.unless.now _ _ _ e c.add_pairs.ensures

@@ -1,7 +1,7 @@
 use Rattle.std.proofs.Common.{rules, ◌≡◌, ◌+◌, length, subst}
 use Rattle.plan_core.specs.Graph.{Ports, Crossing, node}
 use Rattle.cnf_core.specs.Added.{AddsClauses}
-use Rattle.edge_shape.specs.Rules.{unless_rules}
+use Rattle.cnf_laws.specs.Guards.{unless_rules}
 use Rattle.cnf_laws.specs.Stands.{slope_vars}
 use Rattle.cnf_laws.specs.LawClauses.{ports_rules}
 use Rattle.cnf_laws.specs.Expected.{drawing_vars}
