@@ -1,7 +1,7 @@
 #!/usr/bin/env python3
 """Draws thirty stations with their logs, on a grid of 64 by 12: by the native program, by the same as WebAssembly under node, and by a desk
-in Debian's chromium and firefox. Sheets and logs are to be the same bytes. A row has of each the seconds of the run by the clock, and of the
-native one and node's the memory in MB; a browser that isn't there is left out. In the desk the log is read as it is written.
+in Debian's chromium and firefox. Sheets and logs are to be the same bytes. A row has of each the seconds of the run by the clock, and of
+node's the memory in MB; a browser that isn't there is left out. In the desk the log is read as it is written.
 
 The module is the one of the desk, so the desk is to be made of the program that is measured."""
 from __future__ import annotations
@@ -29,7 +29,7 @@ from made_stations import EVERYDAY, LARGER, named  # noqa: E402
 from measuring import TOP, Table, read_words, reader_of_words  # noqa: E402
 
 GRID = {"--width": "64", "--height": "12"}
-HEAD = ["station", "native", "MB", "node", "MB", "chromium", "firefox", "same bytes"]
+HEAD = ["station", "native", "node", "MB", "chromium", "firefox", "same bytes"]
 
 
 def timed(command: list[str | Path], environment: dict[str, str] | None = None) -> tuple[bytes, float, float]:
@@ -86,16 +86,16 @@ def measure(words: argparse.Namespace, folder: Path) -> int:
         for name, made in named(EVERYDAY + LARGER, words.only):
             station = folder / "station.xml"
             station.write_text(made.text(), encoding="utf-8")
-            wanted, native, memory = by_program([words.program], station, folder)
-            got, node, node_memory = by_program(["node", TOP / "shell/engine/program.js"], station, folder, wasm)
+            wanted, native, _ = by_program([words.program], station, folder)
+            got, node, memory = by_program(["node", TOP / "shell/engine/program.js"], station, folder, wasm)
             browsers = {browser: by_desk(desk, made.text()) for browser, desk in desks.items()}
             is_same = all(it == wanted for it in (got, *(found for found, _ in browsers.values())))
             seconds = {"native": native, "node": node, **{browser: taken for browser, (_, taken) in browsers.items()}}
             total = {key: total[key] + seconds.get(key, 0.0) for key in total}
             failed += not is_same
-            table.add(name, native, round(memory), node, round(node_memory), *(seconds.get(it, "-") for it in ("chromium", "firefox")),
+            table.add(name, native, node, round(memory), *(seconds.get(it, "-") for it in ("chromium", "firefox")),
                       "yes" if is_same else "NO")
-    table.add("all", total["native"], "", total["node"], "", total["chromium"], total["firefox"], "yes" if not failed else "NO")
+    table.add("all", total["native"], total["node"], "", total["chromium"], total["firefox"], "yes" if not failed else "NO")
     table.end(words.write)
     return int(failed > 0)
 
